@@ -1,0 +1,33 @@
+use mathlib.Core.Path.{_∙_, sym}
+use lib.Ieee.{lt}
+use borrow.Author.Needs.{needs}
+use Rattle.edge.proofs.Curve.is_span.Statement.{statement}
+use Rattle.edge.proofs.Laws.{all-three, not-first, not-second}
+use Rattle.edge.specs.Edges.{inRange, isSpan}
+use Rattle.edge.proofs.Curve.is_span.Tie as tie
+
+in-range-requires : tie.Need-in-range-requires
+in-range-requires c κs = search needs
+
+in-range-requires-2 : tie.Need-in-range-requires-2
+in-range-requires-2 c κs = search needs
+
+returns : tie.Need-returns
+unfolding isSpan
+returns c = all-three _ _ _ (sym (c .before .before .before .before .in-range .ensures) ∙ c .before .before .before .if1 .taken) (sym (c .before .before .in-range2 .ensures) ∙ c .before .if2 .taken)
+
+returns-2 : tie.Need-returns-2
+unfolding isSpan
+returns-2 c =
+    let k = c .before .before .before .before .args .self in
+    not-second (inRange (k .t0)) (inRange (k .t1)) (lt (k .t0) (k .t1)) (sym (c .before .in-range2 .ensures) ∙ c .if2 .left)
+
+returns-3 : tie.Need-returns-3
+unfolding isSpan
+returns-3 c =
+    let k = c .before .before .args .self in
+    not-first (inRange (k .t0)) (inRange (k .t1)) (lt (k .t0) (k .t1)) (sym (c .before .in-range .ensures) ∙ c .if1 .left)
+
+pub is-span-spec : {M : Type 1} → statement M
+is-span-spec =
+    tie.close (tie.spec in-range-requires in-range-requires-2 returns returns-2 returns-3)

@@ -1,0 +1,69 @@
+-- The wires one by one, then with a new stamp against each other.
+use Prim.Native.Nat.{_+_}
+use mathlib.Core.List.{List, []}
+use mathlib.Core.Path.{_∙_, sym}
+use native.Mathlib.Omega.{arith}
+use lib.ListN.{length}
+use borrow.Author.Needs.{needs}
+use Rattle.errors.proofs.Laws.{accepted-none, passed-first, refused-first}
+use Rattle.errors.specs.Faults.{each}
+use Rattle.errors.specs.declared.Refusal.{Refusal}
+use Rattle.face.proofs.check_face.Statement.{statement}
+use Rattle.face.specs.Faces.{outlineFaults, sharedFaults}
+use Rattle.lists.proofs.Marks.{below-later}
+use Rattle.lists.specs.Lists.{split}
+use Rattle.face.proofs.check_face.Tie as tie
+
+-- the faults of the first check and of the second
+abbrev alone : tie.Start → List Refusal
+alone s = each (outlineFaults (s .args .fronts .now) (s .args .backs .now)) (s .args .first) (split (s .args .lengths .now) (s .args .uses .now))
+
+abbrev shared : tie.Start → List Refusal
+shared s = sharedFaults (s .args .fronts .now) (s .args .backs .now) [] (s .args .first) (split (s .args .lengths .now) (s .args .uses .now))
+
+check-wires-requires : tie.Need-check-wires-requires
+check-wires-requires c κs = search needs
+
+enum-known-alone : tie.Need-enum-known-alone
+enum-known-alone c = search needs
+
+enum-told : tie.Need-enum-told
+enum-told c = search needs
+
+add-next : tie.Need-add-next
+add-next c = search needs
+
+disjoint-wires-requires : tie.Need-disjoint-wires-requires
+disjoint-wires-requires c κs =
+    (c .before .before .before .before .before .before .before .before .before .before .before .before .pre .0, (search needs, (search needs, (c .before .before .before .before .before .check-wires .ensures .1, accepted-none (alone (c .before .before .before .before .before .before .before .before .before .before .before .before)) (sym (c .before .before .before .before .before .check-wires .ensures .0) ∙ c .before .enum-told .given .1)))))
+
+same-length : tie.Need-same-length
+same-length c = search needs
+
+returns : tie.Need-returns
+returns c =
+    let a = c .before .before .before .before .before .before .before .before .before .before .before .before .args in (
+      sym (refused-first (alone (c .before .before .before .before .before .before .before .before .before .before .before .before)) (shared (c .before .before .before .before .before .before .before .before .before .before .before .before)) _ (sym (c .before .before .before .before .before .check-wires .ensures .0) ∙ c .before .alone .given .1)),
+      below-later (a .stamp + length (a .lengths .now)) (a .stamp + length (a .lengths .now) + 1) (c .before .before .before .before .before .check-wires .last .1 .1 .1 .1 .0) (c .before .before .before .before .before .check-wires .ensures .1) (omega arith),
+    )
+
+same-length-2 : tie.Need-same-length-2
+same-length-2 c = search needs
+
+returns-2 : tie.Need-returns-2
+returns-2 c =
+    (c .before .before .disjoint-wires .ensures .0 ∙ sym (passed-first (alone (c .before .before .before .before .before .before .before .before .before .before .before .before .before .before .before)) (shared (c .before .before .before .before .before .before .before .before .before .before .before .before .before .before .before)) (sym (c .before .before .before .before .before .before .before .before .check-wires .ensures .0) ∙ c .before .before .before .before .enum-told .given .1)), c .before .before .disjoint-wires .ensures .1)
+
+pub check-face-spec : {M : Type 1} → statement M
+check-face-spec =
+    tie.close
+    (tie.spec
+    check-wires-requires
+    enum-known-alone
+    enum-told
+    add-next
+    disjoint-wires-requires
+    same-length
+    returns
+    same-length-2
+    returns-2)

@@ -1,0 +1,192 @@
+-- The loop has passed k faces; the next one's first wire is `first`, and its uses begin at `at`.
+use Prim.Native.Nat.{_+_, _-_, _<_, _≤_}
+use mathlib.Core.Path.{_∙_, _≡_, ap, refl, sym}
+use native.Mathlib.Omega.{arith}
+use lib.ListN.{drop, getD, length, length-drop, length-take, take}
+use lib.Seq.{getD-take, length-take-le}
+use borrow.Author.Needs.{needs}
+use Rattle.errors.specs.Faults.{first}
+use Rattle.face.proofs.Laws.{FaceAt, Ruled, part-long, part-sum, ruled-all, ruled-next, ruled-start, ruled-stop, uses-fit, uses-long, uses-next, wires-fit}
+use Rattle.face.proofs.check_faces.Statement.{statement}
+use Rattle.lists.proofs.Laws.{length-split}
+use Rattle.lists.proofs.Marks.{below-later, below-zeros}
+use Rattle.lists.proofs.Split.{Walk, walk-fits, walk-next, walk-start}
+use Rattle.lists.specs.Lists.{split, sum}
+use Rattle.lists.specs.Marks.{Below}
+use Rattle.wire.proofs.Laws.{named-part}
+use Rattle.face.proofs.check_faces.Tie as tie
+
+abbrev Inv-loop : tie.InvT-loop
+Inv-loop uses lengths counts n fronts backs marks₀ at₀ first₀ k₀ marks at first k = Walk (take n counts) k first × (at ≡ sum (take first lengths)) × Ruled fronts backs (split (take n counts) (split lengths uses)) k first × (length marks ≡ 2048) × Below (first + k + 1) marks
+
+abbrev μ-loop : tie.MeasureT-loop
+μ-loop uses lengths counts n fronts backs marks₀ at₀ first₀ k₀ marks at first k = n - k
+
+-- face k is one of the first n, and its wires end inside the list
+inside : (c : tie.After-index Inv-loop μ-loop) → c .before .before .before .loop .k < length (take (c .before .before .before .before .before .before .before .before .before .args .n) (c .before .before .before .before .before .before .before .before .before .args .counts .now))
+inside c = omega (arith, length-take-le (c .before .before .before .before .before .before .before .before .before .args .n) (c .before .before .before .before .before .before .before .before .before .args .counts .now) (c .before .before .before .before .before .before .before .before .before .pre .1 .0 .0))
+
+counted : (c : tie.After-index Inv-loop μ-loop) → c .index .result ≡ getD (take (c .before .before .before .before .before .before .before .before .before .args .n) (c .before .before .before .before .before .before .before .before .before .args .counts .now)) (c .before .before .before .loop .k) 0
+counted c = c .index .ensures .0 ∙ sym (getD-take (c .before .before .before .before .before .before .before .before .before .args .n) (c .before .before .before .before .before .before .before .before .before .args .counts .now) (c .before .before .before .loop .k) 0 (c .before .before .loop-test .taken))
+
+fits : (c : tie.After-index Inv-loop μ-loop) → c .before .before .before .loop .first + c .index .result ≤ length (c .before .before .before .before .before .before .before .before .before .args .lengths .now)
+fits c = omega (arith, walk-fits (take (c .before .before .before .before .before .before .before .before .before .args .n) (c .before .before .before .before .before .before .before .before .before .args .counts .now)) (c .before .before .before .loop .k) (c .before .before .before .loop .first) (c .index .result) (c .before .before .before .loop .inv .0) (inside c) (counted c), c .before .before .before .before .before .before .before .before .before .pre .1 .1 .0)
+
+-- the face that the loop is at
+face : (c : tie.After-sum-of Inv-loop μ-loop)
+    → FaceAt (take (c .before .before .before .before .before .before .before .before .before .before .before .args .n) (c .before .before .before .before .before .before .before .before .before .before .before .args .counts .now)) (c .before .before .before .before .before .before .before .before .before .before .before .args .lengths .now) (c .before .before .before .before .before .before .before .before .before .before .before .args .uses .now) (c .before .before .before .before .before .loop .k) (c .before .before .before .before .before .loop .first) (c .before .before .before .before .before .loop .at) (c .before .before .index .result) (c .sum-of .result)
+face c = record {
+  walk = c .before .before .before .before .before .loop .inv .0;
+  here = c .before .before .before .before .before .loop .inv .1;
+  inside = inside (c .before .before);
+  is = counted (c .before .before);
+  all-wires = c .before .before .before .before .before .before .before .before .before .before .before .pre .1 .1 .0;
+  all-uses = c .before .before .before .before .before .before .before .before .before .before .before .pre .1 .1 .1;
+  its-uses = c .sum-of .ensures;
+}
+
+loop-holds : tie.Need-loop-holds Inv-loop μ-loop
+unfolding sum
+loop-holds c =
+    let a = c .before .before .before .before .before .args in
+    (walk-start (take (a .n) (a .counts .now)), refl, ruled-start (a .fronts .now) (a .backs .now) _, refl, below-zeros 2048)
+
+mul-index : tie.Need-mul-index Inv-loop μ-loop
+mul-index c = search needs
+
+shared-slice-read-index : tie.Need-shared-slice-read-index Inv-loop μ-loop
+shared-slice-read-index c = search needs
+
+index-requires : tie.Need-index-requires Inv-loop μ-loop
+index-requires c κs = search needs
+
+add-part : tie.Need-add-part Inv-loop μ-loop
+add-part c = omega (arith, fits c)
+
+mul-part : tie.Need-mul-part Inv-loop μ-loop
+mul-part c = omega (arith, fits c)
+
+sub-part : tie.Need-sub-part Inv-loop μ-loop
+sub-part c = search needs
+
+part-part-start : tie.Need-part-part-start Inv-loop μ-loop
+part-part-start c = search needs
+
+part-part-end : tie.Need-part-part-end Inv-loop μ-loop
+part-part-end c = omega (arith, fits c)
+
+sum-of-requires : tie.Need-sum-of-requires Inv-loop μ-loop
+sum-of-requires c κs =
+    let l = c .before .before .before .before .loop in
+    let n = c .before .index .result in
+    (omega (arith, fits (c .before), length-take (l .first + n - l .first) (drop (l .first) (c .before .before .before .before .before .before .before .before .before .before .args .lengths .now)), length-drop (l .first) (c .before .before .before .before .before .before .before .before .before .before .args .lengths .now)), omega (arith, fits (c .before)))
+
+add-check-face : tie.Need-add-check-face Inv-loop μ-loop
+add-check-face c = omega (arith, uses-fit (face c))
+
+mul-check-face : tie.Need-mul-check-face Inv-loop μ-loop
+mul-check-face c = omega (arith, uses-fit (face c))
+
+sub-check-face : tie.Need-sub-check-face Inv-loop μ-loop
+sub-check-face c = search needs
+
+part-check-face-start : tie.Need-part-check-face-start Inv-loop μ-loop
+part-check-face-start c = search needs
+
+part-check-face-end : tie.Need-part-check-face-end Inv-loop μ-loop
+part-check-face-end c = omega (arith, uses-fit (face c))
+
+slice-aggregate-check-face : tie.Need-slice-aggregate-check-face Inv-loop μ-loop
+slice-aggregate-check-face c = search needs
+
+add-check-face-2 : tie.Need-add-check-face-2 Inv-loop μ-loop
+add-check-face-2 c = omega (arith, wires-fit (face (c .before .before)))
+
+add-check-face-3 : tie.Need-add-check-face-3 Inv-loop μ-loop
+add-check-face-3 c = omega (arith, wires-fit (face (c .before .before)))
+
+check-face-requires : tie.Need-check-face-requires Inv-loop μ-loop
+check-face-requires c κs =
+    let a = c .before .before .before .before .before .before .before .before .before .before .before .before .before .args in
+    let l = c .before .before .before .before .before .before .before .loop in
+    let f = face (c .before .before) in (
+      named-part (a .fronts .now) (a .backs .now) (a .uses .now) (c .before .before .before .before .before .before .before .before .before .before .before .before .before .pre .0) (l .at) (l .at + c .before .before .sum-of .result - l .at),
+      ((omega (arith, part-sum f, uses-long f), omega (arith, part-long f, wires-fit f), omega (arith, part-long f, wires-fit f)), (l .inv .3, l .inv .4)),
+    )
+
+enum-known-answer : tie.Need-enum-known-answer Inv-loop μ-loop
+enum-known-answer c = search needs
+
+returns : tie.Need-returns Inv-loop μ-loop
+returns c =
+    let a = c .before .before .before .before .before .before .before .before .before .before .before .before .before .before .before .before .before .before .args in
+    sym (ruled-stop (a .fronts .now) (a .backs .now) (face (c .before .before .before .before .before .before .before)) (c .before .before .before .before .before .before .before .before .before .before .before .before .loop .inv .2) _ (sym (c .before .before .before .before .check-face .ensures .0) ∙ c .before .answer .given .1))
+
+enum-told : tie.Need-enum-told Inv-loop μ-loop
+enum-told c = search needs
+
+add-at : tie.Need-add-at Inv-loop μ-loop
+add-at c = omega (arith, uses-fit (face (c .before .before .before .before .before .before)))
+
+add-first : tie.Need-add-first Inv-loop μ-loop
+add-first c = omega (arith, wires-fit (face (c .before .before .before .before .before .before)))
+
+add-k : tie.Need-add-k Inv-loop μ-loop
+add-k c = search needs
+
+loop-less : tie.Need-loop-less Inv-loop μ-loop
+loop-less c = search needs
+
+loop-again : tie.Need-loop-again Inv-loop μ-loop
+loop-again c =
+    let a = c .before .before .before .before .before .before .before .before .before .before .before .before .before .before .before .before .before .args in
+    let l = c .before .before .before .before .before .before .before .before .before .before .before .loop in
+    let f = face (c .before .before .before .before .before .before) in (
+      walk-next (take (a .n) (a .counts .now)) (l .k) (l .first) (c .before .before .before .before .before .before .before .before .index .result) (f .walk) (f .inside) (f .is),
+      uses-next f,
+      ruled-next (a .fronts .now) (a .backs .now) f (l .inv .2) (sym (c .before .before .before .check-face .ensures .0) ∙ c .enum-told .given .1),
+      search needs,
+      below-later _ _ (c .before .before .before .check-face .last .1 .1 .1 .1 .0) (c .before .before .before .check-face .ensures .1) (omega (arith, part-long f)),
+    )
+
+returns-2 : tie.Need-returns-2 Inv-loop μ-loop
+returns-2 c =
+    let a = c .before .before .before .before .before .before .before .args in
+    let l = c .before .loop in
+    ap first (sym (ruled-all (a .fronts .now) (a .backs .now) (split (take (a .n) (a .counts .now)) (split (a .lengths .now) (a .uses .now))) (l .k) (l .first) (l .inv .2)
+    (rw (length-split (take (a .n) (a .counts .now)) (split (a .lengths .now) (a .uses .now)), length-take-le (a .n) (a .counts .now) (c .before .before .before .before .before .before .before .pre .1 .0 .0)) (omega arith))))
+
+pub check-faces-spec : {M : Type 1} → statement M
+check-faces-spec =
+    tie.close
+    (tie.spec
+    Inv-loop
+    μ-loop
+    loop-holds
+    mul-index
+    shared-slice-read-index
+    index-requires
+    add-part
+    mul-part
+    sub-part
+    part-part-start
+    part-part-end
+    sum-of-requires
+    add-check-face
+    mul-check-face
+    sub-check-face
+    part-check-face-start
+    part-check-face-end
+    slice-aggregate-check-face
+    add-check-face-2
+    add-check-face-3
+    check-face-requires
+    enum-known-answer
+    returns
+    enum-told
+    add-at
+    add-first
+    add-k
+    loop-less
+    loop-again
+    returns-2)

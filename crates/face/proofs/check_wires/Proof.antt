@@ -1,0 +1,155 @@
+-- The loop has passed k wires; the next one begins at `at`.
+use Prim.Native.Nat.{_+_, _-_, _≤_}
+use mathlib.Core.List.{[]}
+use mathlib.Core.Path.{_∙_, _≡_, ap, sym}
+use native.Mathlib.Omega.{arith}
+use lib.ListN.{length}
+use borrow.Author.Needs.{needs}
+use Rattle.errors.proofs.Laws.{Passed, passed-all, passed-start}
+use Rattle.errors.specs.Faults.{first}
+use Rattle.face.proofs.Laws.{outline-next, outline-stop}
+use Rattle.face.proofs.check_wires.Statement.{statement}
+use Rattle.face.specs.Faces.{outlineFaults}
+use Rattle.lists.proofs.Laws.{length-split}
+use Rattle.lists.proofs.Marks.{below-later}
+use Rattle.lists.proofs.Split.{Walk, walk-fits, walk-next, walk-start}
+use Rattle.lists.specs.Lists.{split}
+use Rattle.lists.specs.Marks.{Below}
+use Rattle.wire.proofs.Laws.{named-part}
+use Rattle.face.proofs.check_wires.Tie as tie
+
+abbrev Inv-loop : tie.InvT-loop
+Inv-loop uses lengths fronts backs marks₀ first stamp at₀ k₀ marks at k = Walk lengths k at × Passed (outlineFaults fronts backs) [] (split lengths uses) first k × (length marks ≡ 2048) × Below (stamp + k) marks
+
+abbrev μ-loop : tie.MeasureT-loop
+μ-loop uses lengths fronts backs marks₀ first stamp at₀ k₀ marks at k = length lengths - k
+
+-- the uses of wire k end inside the list
+fits : (c : tie.After-index Inv-loop μ-loop) → c .before .before .before .loop .at + c .index .result ≤ length (c .before .before .before .before .before .before .before .before .before .args .uses .now)
+fits c =
+    let l = c .before .before .before .loop in
+    omega (arith, walk-fits (c .before .before .before .before .before .before .before .before .before .args .lengths .now) (l .k) (l .at) (c .index .result) (l .inv .0) (c .before .before .loop-test .taken) (c .index .ensures .0))
+
+loop-holds : tie.Need-loop-holds Inv-loop μ-loop
+loop-holds c =
+    let a = c .before .before .before .before .before .args in
+    let z : a .stamp + 0 ≡ a .stamp = omega arith in
+    (walk-start (a .lengths .now), passed-start (outlineFaults (a .fronts .now) (a .backs .now)) [] _ (a .first), c .before .before .before .before .before .pre .1 .1 .0, rw z (c .before .before .before .before .before .pre .1 .1 .1))
+
+mul-index : tie.Need-mul-index Inv-loop μ-loop
+mul-index c = search needs
+
+shared-slice-read-index : tie.Need-shared-slice-read-index Inv-loop μ-loop
+shared-slice-read-index c = search needs
+
+index-requires : tie.Need-index-requires Inv-loop μ-loop
+index-requires c κs = search needs
+
+add-check-wire : tie.Need-add-check-wire Inv-loop μ-loop
+add-check-wire c = omega (arith, fits c)
+
+mul-check-wire : tie.Need-mul-check-wire Inv-loop μ-loop
+mul-check-wire c = omega (arith, fits c)
+
+sub-check-wire : tie.Need-sub-check-wire Inv-loop μ-loop
+sub-check-wire c = search needs
+
+part-check-wire-start : tie.Need-part-check-wire-start Inv-loop μ-loop
+part-check-wire-start c = search needs
+
+part-check-wire-end : tie.Need-part-check-wire-end Inv-loop μ-loop
+part-check-wire-end c = omega (arith, fits c)
+
+add-check-wire-2 : tie.Need-add-check-wire-2 Inv-loop μ-loop
+add-check-wire-2 c = search needs
+
+cast-check-wire : tie.Need-cast-check-wire Inv-loop μ-loop
+cast-check-wire c = search needs
+
+check-wire-requires : tie.Need-check-wire-requires Inv-loop μ-loop
+check-wire-requires c κs =
+    let a = c .before .before .before .before .before .before .before .before .before .before .before .args in
+    let v = c .before .before .before .before .before .loop .inv in
+    (named-part (a .fronts .now) (a .backs .now) (a .uses .now) (c .before .before .before .before .before .before .before .before .before .before .before .pre .0) (c .before .before .before .before .before .loop .at) (c .before .before .before .before .before .loop .at + c .before .before .index .result - c .before .before .before .before .before .loop .at), (v .2, v .3))
+
+enum-known-answer : tie.Need-enum-known-answer Inv-loop μ-loop
+enum-known-answer c = search needs
+
+add-t25 : tie.Need-add-t25 Inv-loop μ-loop
+add-t25 c = search needs
+
+same-length : tie.Need-same-length Inv-loop μ-loop
+same-length c = search needs
+
+returns : tie.Need-returns Inv-loop μ-loop
+returns c =
+    let a = c .before .before .before .before .before .before .before .before .before .before .before .before .before .before .before .before .before .args in
+    let l = c .before .before .before .before .before .before .before .before .before .before .before .loop in (
+      sym (outline-stop (a .fronts .now) (a .backs .now) (a .lengths .now) (a .uses .now) (a .first) (l .k) (l .at) (c .before .before .before .before .before .before .before .before .index .result) (l .inv .1) (l .inv .0)
+          (c .before .before .before .before .before .before .before .before .before .before .loop-test .taken) (c .before .before .before .before .before .before .before .before .index .ensures .0) _ (sym (c .before .before .before .before .before .check-wire .ensures .0) ∙ c .before .answer .given .1)),
+      below-later (a .stamp + l .k + 1) _ (c .before .before .before .before .before .check-wire .last .1 .1 .1 .0) (c .before .before .before .before .before .check-wire .ensures .1) (omega arith),
+    )
+
+enum-told : tie.Need-enum-told Inv-loop μ-loop
+enum-told c = search needs
+
+add-at : tie.Need-add-at Inv-loop μ-loop
+add-at c = omega (arith, fits (c .before .before .before .before .before .before .before))
+
+add-k : tie.Need-add-k Inv-loop μ-loop
+add-k c = search needs
+
+loop-less : tie.Need-loop-less Inv-loop μ-loop
+loop-less c = search needs
+
+loop-again : tie.Need-loop-again Inv-loop μ-loop
+loop-again c =
+    let a = c .before .before .before .before .before .before .before .before .before .before .before .before .before .before .before .before .args in
+    let l = c .before .before .before .before .before .before .before .before .before .before .loop in (
+      walk-next (a .lengths .now) (l .k) (l .at) (c .before .before .before .before .before .before .before .index .result) (l .inv .0) (c .before .before .before .before .before .before .before .before .before .loop-test .taken) (c .before .before .before .before .before .before .before .index .ensures .0),
+      outline-next (a .fronts .now) (a .backs .now) (a .lengths .now) (a .uses .now) (a .first) (l .k) (l .at) (c .before .before .before .before .before .before .before .index .result) (l .inv .1) (l .inv .0)
+          (c .before .before .before .before .before .before .before .before .before .loop-test .taken) (c .before .before .before .before .before .before .before .index .ensures .0) (sym (c .before .before .before .before .check-wire .ensures .0) ∙ c .enum-told .given .1),
+      search needs,
+      below-later (a .stamp + l .k + 1) _ (c .before .before .before .before .check-wire .last .1 .1 .1 .0) (c .before .before .before .before .check-wire .ensures .1) (omega arith),
+    )
+
+same-length-2 : tie.Need-same-length-2 Inv-loop μ-loop
+same-length-2 c = search needs
+
+returns-2 : tie.Need-returns-2 Inv-loop μ-loop
+returns-2 c =
+    let a = c .before .before .before .before .before .before .before .args in
+    let l = c .before .loop in (
+      ap first (sym (passed-all (outlineFaults (a .fronts .now) (a .backs .now)) [] (split (a .lengths .now) (a .uses .now)) (a .first) (l .k) (l .inv .1) (rw (length-split (a .lengths .now) (a .uses .now)) (omega arith)))),
+      below-later (a .stamp + l .k) _ (l .marks) (l .inv .3) (omega (arith, l .inv .0 .low)),
+    )
+
+pub check-wires-spec : {M : Type 1} → statement M
+check-wires-spec =
+    tie.close
+    (tie.spec
+    Inv-loop
+    μ-loop
+    loop-holds
+    mul-index
+    shared-slice-read-index
+    index-requires
+    add-check-wire
+    mul-check-wire
+    sub-check-wire
+    part-check-wire-start
+    part-check-wire-end
+    add-check-wire-2
+    cast-check-wire
+    check-wire-requires
+    enum-known-answer
+    add-t25
+    same-length
+    returns
+    enum-told
+    add-at
+    add-k
+    loop-less
+    loop-again
+    same-length-2
+    returns-2)

@@ -1,0 +1,7 @@
+pub mod Laws
+pub mod Flat
+pub mod Marks
+pub mod Sets
+pub mod Split
+pub mod Count
+pub mod Alike

@@ -1,0 +1,1 @@
+// Definitions on lists and their laws; no code.

@@ -1,0 +1,71 @@
+-- The loop stores the text byte by byte.
+use Prim.Native.Nat.{_-_, _≤_}
+use mathlib.Core.Path.{_≡_}
+use native.Mathlib.Omega.{arith}
+use lib.ListN.{length, length-set, take}
+use lib.Seq.{sets, take-all}
+use borrow.Author.Needs.{needs}
+use Rattle.lists.proofs.Sets.{sets-next}
+use Rattle.output.proofs.put_text.Statement.{statement}
+use Rattle.output.proofs.put_text.Tie as tie
+
+abbrev Inv-loop : tie.InvT-loop
+Inv-loop out₀ at text i₀ out i = (i ≤ length text) × (length out ≡ length out₀) × (out ≡ sets out₀ at (take i text))
+
+abbrev μ-loop : tie.MeasureT-loop
+μ-loop out₀ at text i₀ out i = length text - i
+
+loop-holds : tie.Need-loop-holds Inv-loop μ-loop
+loop-holds c = search needs
+
+shared-slice-read-out : tie.Need-shared-slice-read-out Inv-loop μ-loop
+shared-slice-read-out c = search needs
+
+add-out : tie.Need-add-out Inv-loop μ-loop
+add-out c = search needs
+
+slice-write-out : tie.Need-slice-write-out Inv-loop μ-loop
+slice-write-out c = search needs
+
+add-i : tie.Need-add-i Inv-loop μ-loop
+add-i c = search needs
+
+loop-less : tie.Need-loop-less Inv-loop μ-loop
+loop-less c = search needs
+
+loop-again : tie.Need-loop-again Inv-loop μ-loop
+loop-again c =
+    let v = c .before .before .loop .inv in
+    let t = c .before .before .before .args .text .now in (
+      omega arith,
+      simp length-set (v .1),
+      rw (v .2) (sets-next (c .before .before .before .args .out .now) (c .before .before .before .args .at) t (c .before .before .loop .i) 0 (c .before .loop-test .taken)),
+    )
+
+add-result : tie.Need-add-result Inv-loop μ-loop
+add-result c = search needs
+
+same-length : tie.Need-same-length Inv-loop μ-loop
+same-length c = c .before .loop .inv .1
+
+returns : tie.Need-returns Inv-loop μ-loop
+returns c =
+    let e : c .before .loop .i ≡ length (c .before .before .args .text .now) = omega arith in
+    (rw (take-all (c .before .loop .i) (c .before .before .args .text .now) (omega arith)) at (c .before .loop .inv .2), omega arith)
+
+pub put-text-spec : {M : Type 1} → statement M
+put-text-spec =
+    tie.close
+    (tie.spec
+    Inv-loop
+    μ-loop
+    loop-holds
+    shared-slice-read-out
+    add-out
+    slice-write-out
+    add-i
+    loop-less
+    loop-again
+    add-result
+    same-length
+    returns)

@@ -1,0 +1,4 @@
+pub mod Laws
+pub mod Counts
+pub mod Named
+pub mod Outlines

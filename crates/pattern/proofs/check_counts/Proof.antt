@@ -1,0 +1,81 @@
+-- The loop has passed b counts.
+use Prim.Native.Nat.{_-_}
+use mathlib.Core.Path.{_≡_, ap, refl, sym}
+use native.Mathlib.Omega.{arith}
+use lib.ListN.{getD, length}
+use borrow.Author.Needs.{needs}
+use Rattle.errors.proofs.Laws.{Passed, passed-all, passed-next, passed-start, passed-stop}
+use Rattle.errors.specs.Faults.{first}
+use Rattle.errors.specs.declared.Refusal.the-variants.{Limit}
+use Rattle.pattern.proofs.Laws.{over-limit, within-limit}
+use Rattle.pattern.proofs.check_counts.Statement.{statement}
+use Rattle.pattern.specs.Checks.{limitFaults}
+use Rattle.pattern.specs.Contents.{layout}
+use Rattle.pattern.proofs.check_counts.Tie as tie
+
+abbrev Inv-loop : tie.InvT-loop
+Inv-loop counts lay b₀ b = (length counts ≡ 7) × ((lay ≡ layout) × Passed limitFaults 0 counts 0 b)
+
+abbrev μ-loop : tie.MeasureT-loop
+μ-loop counts lay b₀ b = 7 - b
+
+file-layout-requires : tie.Need-file-layout-requires Inv-loop μ-loop
+file-layout-requires c κs = search needs
+
+loop-holds : tie.Need-loop-holds Inv-loop μ-loop
+loop-holds c = (search needs, (c .file-layout .ensures, passed-start limitFaults 0 _ 0))
+
+mul-if1 : tie.Need-mul-if1 Inv-loop μ-loop
+mul-if1 c = search needs
+
+array-read-if1 : tie.Need-array-read-if1 Inv-loop μ-loop
+array-read-if1 c = search needs
+
+mul-if1-2 : tie.Need-mul-if1-2 Inv-loop μ-loop
+mul-if1-2 c = search needs
+
+element-copy-out-if1 : tie.Need-element-copy-out-if1 Inv-loop μ-loop
+element-copy-out-if1 c = search needs
+
+returns : tie.Need-returns Inv-loop μ-loop
+returns c =
+    let v = c .before .before .before .loop .inv in
+    let b = c .before .before .before .loop .b in
+    let n = getD (c .before .before .before .before .before .args .t1) b 0 in
+    sym (passed-stop limitFaults 0 (c .before .before .before .before .before .args .t1) 0 b b n (v .1 .1) (omega (arith, v .0)) refl (omega arith) (Limit b) (over-limit b n (rw (v .1 .0) at (c .if1 .taken))))
+
+add-b : tie.Need-add-b Inv-loop μ-loop
+add-b c = search needs
+
+loop-less : tie.Need-loop-less Inv-loop μ-loop
+loop-less c = search needs
+
+loop-again : tie.Need-loop-again Inv-loop μ-loop
+loop-again c =
+    let v = c .before .before .before .loop .inv in
+    let b = c .before .before .before .loop .b in
+    let n = getD (c .before .before .before .before .before .args .t1) b 0 in
+    (v .0, (v .1 .0, passed-next limitFaults 0 (c .before .before .before .before .before .args .t1) 0 b b n (v .1 .1) (omega (arith, v .0)) refl (omega arith) (within-limit b n (rw (v .1 .0) at (c .if1 .left)))))
+
+returns-2 : tie.Need-returns-2 Inv-loop μ-loop
+returns-2 c =
+    let v = c .before .loop .inv in
+    ap first (sym (passed-all limitFaults 0 (c .before .before .before .args .t1) 0 (c .before .loop .b) (v .1 .1) (omega (arith, v .0))))
+
+pub check-counts-spec : {M : Type 1} → statement M
+check-counts-spec =
+    tie.close
+    (tie.spec
+    Inv-loop
+    μ-loop
+    file-layout-requires
+    loop-holds
+    mul-if1
+    array-read-if1
+    mul-if1-2
+    element-copy-out-if1
+    returns
+    add-b
+    loop-less
+    loop-again
+    returns-2)

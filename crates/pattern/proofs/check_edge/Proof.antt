@@ -1,0 +1,49 @@
+use mathlib.Core.Path.{_∙_, _≡_, sym}
+use native.Mathlib.Omega.{arith}
+use borrow.Author.Needs.{needs}
+use borrow.Author.Tests.{not-false, not-true}
+use Rattle.edge.specs.Edges.{backNumber, frontNumber}
+use Rattle.pattern.proofs.Laws.{good-edge, no-back, no-front, no-span, same-vertex}
+use Rattle.pattern.proofs.check_edge.Statement.{statement}
+use Rattle.pattern.proofs.check_edge.Tie as tie
+
+index-requires : tie.Need-index-requires
+index-requires c κs = search needs
+
+index-requires-2 : tie.Need-index-requires-2
+index-requires-2 c κs = search needs
+
+is-span-requires : tie.Need-is-span-requires
+is-span-requires c κs = search needs
+
+returns : tie.Need-returns
+returns c = let a = c .before .before .before .before .before .args in no-front (a .points) (a .k) (a .e) (omega arith)
+
+returns-2 : tie.Need-returns-2
+returns-2 c = let a = c .before .before .before .before .before .before .args in no-back (a .points) (a .k) (a .e) (omega arith) (omega arith)
+
+returns-3 : tie.Need-returns-3
+returns-3 c = let a = c .before .before .before .before .before .before .before .args in same-vertex (a .points) (a .k) (a .e) (omega arith) (omega arith) (omega arith)
+
+returns-4 : tie.Need-returns-4
+returns-4 c =
+    let a = c .before .before .before .before .before .before .before .before .args in
+    no-span (a .points) (a .k) (a .e) (omega arith) (omega arith) (λ (h : frontNumber (a .e) ≡ backNumber (a .e)). c .before .if3 .left (omega arith)) (sym (c .before .before .before .before .is-span .ensures) ∙ not-true _ (c .if4 .taken))
+
+returns-5 : tie.Need-returns-5
+returns-5 c =
+    let a = c .before .before .before .before .before .before .before .before .args in
+    good-edge (a .points) (a .k) (a .e) (omega arith) (omega arith) (λ (h : frontNumber (a .e) ≡ backNumber (a .e)). c .before .if3 .left (omega arith)) (sym (c .before .before .before .before .is-span .ensures) ∙ not-false _ (c .if4 .left))
+
+pub check-edge-spec : {M : Type 1} → statement M
+check-edge-spec =
+    tie.close
+    (tie.spec
+    index-requires
+    index-requires-2
+    is-span-requires
+    returns
+    returns-2
+    returns-3
+    returns-4
+    returns-5)

@@ -1,0 +1,79 @@
+use Prim.Native.Nat.{_-_, ℕ}
+use mathlib.Core.Path.{_∙_, _≡_, sym}
+use native.Mathlib.Omega.{arith}
+use lib.Seq.{length-take-le}
+use borrow.Author.Needs.{needs}
+use Rattle.pattern.proofs.check_tables.Statement.{statement}
+use Rattle.pattern.proofs.check_tables.Tie as tie
+
+from-zero : (n : ℕ) → n - 0 ≡ n
+from-zero n = omega arith
+
+sub-check-faces : tie.Need-sub-check-faces
+sub-check-faces c = search needs
+
+part-check-faces-start : tie.Need-part-check-faces-start
+part-check-faces-start c = search needs
+
+part-check-faces-end : tie.Need-part-check-faces-end
+part-check-faces-end c = search needs
+
+sub-check-faces-2 : tie.Need-sub-check-faces-2
+sub-check-faces-2 c = search needs
+
+part-check-faces-start-2 : tie.Need-part-check-faces-start-2
+part-check-faces-start-2 c = search needs
+
+part-check-faces-end-2 : tie.Need-part-check-faces-end-2
+part-check-faces-end-2 c = search needs
+
+sub-check-faces-3 : tie.Need-sub-check-faces-3
+sub-check-faces-3 c = search needs
+
+part-check-faces-start-3 : tie.Need-part-check-faces-start-3
+part-check-faces-start-3 c = search needs
+
+part-check-faces-end-3 : tie.Need-part-check-faces-end-3
+part-check-faces-end-3 c = search needs
+
+sub-check-faces-4 : tie.Need-sub-check-faces-4
+sub-check-faces-4 c = search needs
+
+part-check-faces-start-4 : tie.Need-part-check-faces-start-4
+part-check-faces-start-4 c = search needs
+
+part-check-faces-end-4 : tie.Need-part-check-faces-end-4
+part-check-faces-end-4 c = search needs
+
+check-faces-requires : tie.Need-check-faces-requires
+check-faces-requires c κs =
+    let a = c .before .before .before .before .before .before .before .before .before .args in
+    let p = c .before .before .before .before .before .before .before .before .before .pre in
+    let lw = length-take-le (a .wcount) (a .wires .now) (p .0 .1) in
+    let lu = length-take-le (a .ucount) (a .uses .now) (p .0 .0) in
+    rw (from-zero (a .ecount), from-zero (a .wcount), from-zero (a .ucount))
+    (p .1 .0, ((p .0 .3, p .0 .4, omega (arith, lw, p .0 .2)), (p .1 .1 .0 ∙ sym lw, p .1 .1 .1 ∙ sym lu)))
+
+returns : tie.Need-returns
+returns c =
+    let a = c .before .before .before .before .before .before .before .before .before .before .args in
+    rw (from-zero (a .ecount), from-zero (a .wcount), from-zero (a .ucount)) at (c .check-faces .ensures)
+
+pub check-tables-spec : {M : Type 1} → statement M
+check-tables-spec =
+    tie.close
+    (tie.spec
+    sub-check-faces
+    part-check-faces-start
+    part-check-faces-end
+    sub-check-faces-2
+    part-check-faces-start-2
+    part-check-faces-end-2
+    sub-check-faces-3
+    part-check-faces-start-3
+    part-check-faces-end-3
+    sub-check-faces-4
+    part-check-faces-start-4
+    part-check-faces-end-4
+    check-faces-requires
+    returns)

@@ -1,0 +1,87 @@
+-- The checks first; then the place, which lies within the table of wires.
+use mathlib.Core.List.{[]}
+use mathlib.Core.Path.{_∙_, _≡_, sym}
+use native.Mathlib.Omega.{arith}
+use lib.Ieee.{fits}
+use lib.ListN.{length-map}
+use borrow.Author.Needs.{needs}
+use Rattle.errors.proofs.Laws.{accepted-none, none-left}
+use Rattle.pattern.proofs.Counts.{Full, Limited, limited}
+use Rattle.pattern.proofs.Outlines.{no-wire, place-refused, wire-there}
+use Rattle.pattern.proofs.wire_place.Statement.{statement}
+use Rattle.pattern.specs.Checks.{contentFaults, countFaults, patternFaults}
+use Rattle.pattern.specs.Contents.{content}
+use Rattle.wire.specs.Wires.{points}
+use Rattle.pattern.proofs.wire_place.Tie as tie
+
+full : (s : tie.Start) → Full (s .args .t1)
+full s =
+    let fields = s .good .0 .1 .1 in
+    record {
+      points = search needs;
+      edges = sym (length-map (s .args .t1 .edges) _) ∙ fields .1 .1 .0 .1 .0 .1;
+      uses = search needs;
+      wires = search needs;
+      faces = sym (length-map (s .args .t1 .faces) _) ∙ fields .1 .1 .1 .1 .1 .0 .1 .0 .1;
+      shells = search needs;
+      listings = search needs;
+    }
+
+passed : (c : tie.After-enum-told) → patternFaults (c .before .before .before .args .t1) ≡ []
+passed c = accepted-none (patternFaults (c .before .before .before .args .t1)) (sym (c .before .before .check .ensures) ∙ c .enum-told .given .1)
+
+limits : (c : tie.After-enum-told) → Limited (c .before .before .before .args .t1 .counts)
+limits c =
+    limited (c .before .before .before .args .t1 .counts) (search needs)
+    (none-left (countFaults (c .before .before .before .args .t1 .counts)) (contentFaults (content (c .before .before .before .args .t1))) (passed c))
+
+check-requires : tie.Need-check-requires
+check-requires c κs = search needs
+
+enum-known-answer : tie.Need-enum-known-answer
+enum-known-answer c = search needs
+
+returns : tie.Need-returns
+returns c = place-refused (patternFaults (c .before .before .before .before .args .t1)) (content (c .before .before .before .before .args .t1)) (c .before .before .before .before .args .w) _ (sym (c .before .before .before .check .ensures) ∙ c .before .answer .given .1)
+
+enum-told : tie.Need-enum-told
+enum-told c = search needs
+
+element-copy-out-wires : tie.Need-element-copy-out-wires
+element-copy-out-wires c = search needs
+
+returns-2 : tie.Need-returns-2
+returns-2 c = no-wire (c .before .before .before .before .before .args .t1) (passed (c .before .before)) (limits (c .before .before)) (full (c .before .before .before .before .before)) (c .before .before .before .before .before .args .w) (c .if1 .taken)
+
+sum-of-requires : tie.Need-sum-of-requires
+sum-of-requires c κs = omega (arith, limits (c .before .before .before .before .before) .wires, full (c .before .before .before .before .before .before .before .before) .wires)
+
+mul-index : tie.Need-mul-index
+mul-index c = record { fits = omega (arith, limits (c .before .before .before .before .before .before) .wires) }
+
+element-copy-out-index : tie.Need-element-copy-out-index
+element-copy-out-index c = omega (arith, limits (c .before .before .before .before .before .before) .wires)
+
+index-requires : tie.Need-index-requires
+index-requires c κs = search needs
+
+returns-3 : tie.Need-returns-3
+returns-3 c =
+    rw (c .before .before .sum-of .ensures, c .index .ensures .0)
+    (wire-there (c .before .before .before .before .before .before .before .before .before .before .before .args .t1) (passed (c .before .before .before .before .before .before .before .before)) (limits (c .before .before .before .before .before .before .before .before)) (full (c .before .before .before .before .before .before .before .before .before .before .before)) (c .before .before .before .before .before .before .before .before .before .before .before .args .w) (c .before .before .before .before .before .before .if1 .left))
+
+pub wire-place-spec : {M : Type 1} → statement M
+wire-place-spec =
+    tie.close
+    (tie.spec
+    check-requires
+    enum-known-answer
+    returns
+    enum-told
+    element-copy-out-wires
+    returns-2
+    sum-of-requires
+    mul-index
+    element-copy-out-index
+    index-requires
+    returns-3)

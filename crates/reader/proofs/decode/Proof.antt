@@ -1,0 +1,133 @@
+-- Each table is filled with the records of its body.
+use Prim.Native.Nat.{_*_, _+_, _<_, _≤_, ℕ}
+use native.Mathlib.Omega.{arith}
+use lib.ListN.{getD, length}
+use borrow.Author.Needs.{needs}
+use Rattle.pattern.specs.Contents.{layout}
+use Rattle.reader.proofs.Laws.{body-inside, decoded, table-counts, table-long}
+use Rattle.reader.proofs.decode.Statement.{statement}
+use Rattle.reader.proofs.decode.Tie as tie
+
+room : (t : tie.After-starts-of) (b : ℕ) → b < 7
+    → (getD (t .starts-of .result) b 0 + getD (layout .sizes) b 0 * getD (t .before .counts-of .result) b 0 ≤ length (t .before .before .before .args .s .now))
+    × (getD (t .before .counts-of .result) b 0 ≤ getD (layout .limits) b 0)
+room t b h = body-inside (t .before .before .before .args .s .now) (t .before .before .before .pre) (t .before .counts-of .result) (t .starts-of .result) (t .before .counts-of .ensures) (t .starts-of .ensures) b h
+
+counts-of-requires : tie.Need-counts-of-requires
+counts-of-requires c κs = table-long (c .before .args .s .now) (c .before .pre)
+
+starts-of-requires : tie.Need-starts-of-requires
+starts-of-requires c κs = rw (c .counts-of .ensures) (table-counts (c .before .before .args .s .now) (c .before .before .pre))
+
+array-read-read-points : tie.Need-array-read-read-points
+array-read-read-points c = search needs
+
+array-read-read-points-2 : tie.Need-array-read-read-points-2
+array-read-read-points-2 c = search needs
+
+read-points-requires : tie.Need-read-points-requires
+read-points-requires c κs = room c 0 (omega arith)
+
+array-read-read-edges : tie.Need-array-read-read-edges
+array-read-read-edges c = search needs
+
+array-read-read-edges-2 : tie.Need-array-read-read-edges-2
+array-read-read-edges-2 c = search needs
+
+read-edges-requires : tie.Need-read-edges-requires
+read-edges-requires c κs = room (c .before) 1 (omega arith)
+
+array-read-read-u16s : tie.Need-array-read-read-u16s
+array-read-read-u16s c = search needs
+
+array-read-read-u16s-2 : tie.Need-array-read-read-u16s-2
+array-read-read-u16s-2 c = search needs
+
+slice-aggregate-read-u16s : tie.Need-slice-aggregate-read-u16s
+slice-aggregate-read-u16s c = search needs
+
+read-u16s-requires : tie.Need-read-u16s-requires
+read-u16s-requires c κs = room (c .before .before .before) 2 (omega arith)
+
+array-read-read-u16s-3 : tie.Need-array-read-read-u16s-3
+array-read-read-u16s-3 c = search needs
+
+array-read-read-u16s-4 : tie.Need-array-read-read-u16s-4
+array-read-read-u16s-4 c = search needs
+
+slice-aggregate-read-u16s-2 : tie.Need-slice-aggregate-read-u16s-2
+slice-aggregate-read-u16s-2 c = search needs
+
+read-u16s-requires-2 : tie.Need-read-u16s-requires-2
+read-u16s-requires-2 c κs = room (c .before .before .before .before .before .before) 3 (omega arith)
+
+array-read-read-faces : tie.Need-array-read-read-faces
+array-read-read-faces c = search needs
+
+array-read-read-faces-2 : tie.Need-array-read-read-faces-2
+array-read-read-faces-2 c = search needs
+
+read-faces-requires : tie.Need-read-faces-requires
+read-faces-requires c κs = room (c .before .before .before .before .before .before .before .before) 4 (omega arith)
+
+array-read-read-u16s-5 : tie.Need-array-read-read-u16s-5
+array-read-read-u16s-5 c = search needs
+
+array-read-read-u16s-6 : tie.Need-array-read-read-u16s-6
+array-read-read-u16s-6 c = search needs
+
+slice-aggregate-read-u16s-3 : tie.Need-slice-aggregate-read-u16s-3
+slice-aggregate-read-u16s-3 c = search needs
+
+read-u16s-requires-3 : tie.Need-read-u16s-requires-3
+read-u16s-requires-3 c κs = room (c .before .before .before .before .before .before .before .before .before .before) 5 (omega arith)
+
+array-read-read-u16s-7 : tie.Need-array-read-read-u16s-7
+array-read-read-u16s-7 c = search needs
+
+array-read-read-u16s-8 : tie.Need-array-read-read-u16s-8
+array-read-read-u16s-8 c = search needs
+
+slice-aggregate-read-u16s-4 : tie.Need-slice-aggregate-read-u16s-4
+slice-aggregate-read-u16s-4 c = search needs
+
+read-u16s-requires-4 : tie.Need-read-u16s-requires-4
+read-u16s-requires-4 c κs = room (c .before .before .before .before .before .before .before .before .before .before .before .before .before) 6 (omega arith)
+
+returns : tie.Need-returns
+returns c =
+    decoded (c .before .before .before .before .before .before .before .before .before .before .before .before .before .before .before .before .before .before .args .s .now) (c .before .before .before .before .before .before .before .before .before .before .before .before .before .before .before .before .before .before .pre) (c .before .before .before .before .before .before .before .before .before .before .before .before .before .before .before .before .counts-of .result) (c .before .before .before .before .before .before .before .before .before .before .before .before .before .before .before .starts-of .result) (c .before .before .before .before .before .before .before .before .before .before .before .before .before .before .before .before .counts-of .ensures) (c .before .before .before .before .before .before .before .before .before .before .before .before .before .before .before .starts-of .ensures) _ _ _ _ _ _ _
+    (c .before .before .before .before .before .before .before .before .before .before .before .before .before .before .read-points .ensures) (c .before .before .before .before .before .before .before .before .before .before .before .before .before .read-edges .ensures) (c .before .before .before .before .before .before .before .before .before .before .before .read-u16s .ensures) (c .before .before .before .before .before .before .before .before .read-u16s2 .ensures) (c .before .before .before .before .before .before .read-faces .ensures) (c .before .before .before .before .read-u16s3 .ensures) (c .before .read-u16s4 .ensures)
+
+pub decode-spec : {M : Type 1} → statement M
+decode-spec =
+    tie.close
+    (tie.spec
+    counts-of-requires
+    starts-of-requires
+    array-read-read-points
+    array-read-read-points-2
+    read-points-requires
+    array-read-read-edges
+    array-read-read-edges-2
+    read-edges-requires
+    array-read-read-u16s
+    array-read-read-u16s-2
+    slice-aggregate-read-u16s
+    read-u16s-requires
+    array-read-read-u16s-3
+    array-read-read-u16s-4
+    slice-aggregate-read-u16s-2
+    read-u16s-requires-2
+    array-read-read-faces
+    array-read-read-faces-2
+    read-faces-requires
+    array-read-read-u16s-5
+    array-read-read-u16s-6
+    slice-aggregate-read-u16s-3
+    read-u16s-requires-3
+    array-read-read-u16s-7
+    array-read-read-u16s-8
+    slice-aggregate-read-u16s-4
+    read-u16s-requires-4
+    returns)

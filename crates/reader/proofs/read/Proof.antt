@@ -1,0 +1,91 @@
+-- The table's refusal, then the content's, is the first fault of the file.
+-- a file whose table is right, and the pattern that was decoded of it
+use Prim.Native.Nat.{ℕ}
+use mathlib.Core.List.{List, []}
+use mathlib.Core.Path.{_∙_, _≡_, ap, sym}
+use borrow.Author.Needs.{needs}
+use Rattle.errors.proofs.Laws.{accepted-none, passed-first, refused-first}
+use Rattle.errors.specs.Faults.{first}
+use Rattle.errors.specs.declared.Check.the-variants.{Accepted}
+use Rattle.pattern.specs.Checks.{contentFaults, countFaults}
+use Rattle.pattern.specs.Contents.{Content, content, stored}
+use Rattle.pattern.specs.declared.Pattern.{Pattern}
+use Rattle.pattern_file.proofs.RoundTrip.{content-of-stored}
+use Rattle.pattern_file.specs.File.{fileContent, fileFaults, tableFaults}
+use Rattle.reader.proofs.Laws.{counts-of-content, reading-accepted, reading-refused, table-counts}
+use Rattle.reader.proofs.read.Statement.{statement}
+use Rattle.reader.proofs.read.Tie as tie
+
+module _ (s : List ℕ) (ok : first (tableFaults s) ≡ Accepted) (p : Pattern) (e : p ≡ stored (fileContent s)) where
+  counts-pass : countFaults (p .counts) ≡ []
+  counts-pass = ap (λ (q : Pattern). countFaults (q .counts)) e ∙ ap countFaults (sym (counts-of-content s)) ∙ table-counts s (accepted-none (tableFaults s) ok)
+
+  file-first : first (fileFaults s) ≡ first (contentFaults (content p))
+  file-first =
+      passed-first (tableFaults s) (contentFaults (fileContent s)) ok
+      ∙ ap (λ (c : Content). first (contentFaults c)) (sym (ap content e ∙ content-of-stored (fileContent s)))
+
+check-table-requires : tie.Need-check-table-requires
+check-table-requires c κs = search needs
+
+enum-known-table : tie.Need-enum-known-table
+enum-known-table c = search needs
+
+refused-requires : tie.Need-refused-requires
+refused-requires c κs = search needs
+
+enum-told : tie.Need-enum-told
+enum-told c = search needs
+
+decode-requires : tie.Need-decode-requires
+decode-requires c κs = accepted-none (tableFaults (c .before .before .before .before .args .s .now)) (sym (c .before .before .check-table .ensures) ∙ c .enum-told .given .1)
+
+check-content-requires : tie.Need-check-content-requires
+check-content-requires c κs = counts-pass (c .before .before .before .before .before .args .s .now) (sym (c .before .before .before .check-table .ensures) ∙ c .before .enum-told .given .1) (c .decode .result) (c .decode .ensures)
+
+enum-known-answer : tie.Need-enum-known-answer
+enum-known-answer c = search needs
+
+refused-requires-2 : tie.Need-refused-requires-2
+refused-requires-2 c κs = search needs
+
+enum-told-2 : tie.Need-enum-told-2
+enum-told-2 c = search needs
+
+returns : tie.Need-returns
+returns c =
+    c .refused .ensures
+    ∙ reading-refused (c .before .before .before .before .before .before .args .s .now) _
+    (refused-first (tableFaults (c .before .before .before .before .before .before .args .s .now)) (contentFaults (fileContent (c .before .before .before .before .before .before .args .s .now))) _ (sym (c .before .before .before .before .check-table .ensures) ∙ c .before .before .table .given .1))
+
+returns-2 : tie.Need-returns-2
+returns-2 c =
+    c .refused2 .ensures
+    ∙ reading-refused (c .before .before .before .before .before .before .before .before .before .before .args .s .now) _
+    (file-first (c .before .before .before .before .before .before .before .before .before .before .args .s .now) (sym (c .before .before .before .before .before .before .before .before .check-table .ensures) ∙ c .before .before .before .before .before .before .enum-told .given .1) (c .before .before .before .before .before .decode .result) (c .before .before .before .before .before .decode .ensures)
+    ∙ sym (c .before .before .before .before .check-content .ensures) ∙ c .before .before .answer .given .1)
+
+returns-3 : tie.Need-returns-3
+returns-3 c =
+    ap (λ (p : Pattern). record { answer = Accepted; pattern = p }) (c .before .before .before .decode .ensures)
+    ∙ reading-accepted (c .before .before .before .before .before .before .before .before .args .s .now)
+    (accepted-none (fileFaults (c .before .before .before .before .before .before .before .before .args .s .now))
+    (file-first (c .before .before .before .before .before .before .before .before .args .s .now) (sym (c .before .before .before .before .before .before .check-table .ensures) ∙ c .before .before .before .before .enum-told .given .1) (c .before .before .before .decode .result) (c .before .before .before .decode .ensures)
+    ∙ sym (c .before .before .check-content .ensures) ∙ c .enum-told2 .given .1))
+
+pub read-spec : {M : Type 1} → statement M
+read-spec =
+    tie.close
+    (tie.spec
+    check-table-requires
+    enum-known-table
+    refused-requires
+    enum-told
+    decode-requires
+    check-content-requires
+    enum-known-answer
+    refused-requires-2
+    enum-told-2
+    returns
+    returns-2
+    returns-3)

@@ -1,0 +1,64 @@
+-- After k turns the first k faces are written, over zero faces.
+use Prim.Native.Nat.{_*_, _+_, _-_, _≤_, ℕ}
+use mathlib.Core.Path.{_≡_}
+use native.Mathlib.Omega.{arith}
+use lib.ListN.{replicate}
+use borrow.Author.Needs.{needs}
+use Rattle.lists.proofs.Laws.{Filling, filling-next, filling-padded, filling-start}
+use Rattle.pattern.specs.Contents.{zeroFace}
+use Rattle.pattern_file.specs.File.{faceAt}
+use Rattle.reader.proofs.read_faces.Statement.{statement}
+use Rattle.reader.proofs.read_faces.Tie as tie
+
+abbrev Inv-loop : tie.InvT-loop
+Inv-loop s at n out₀ k₀ out k = (k ≤ n) × Filling (λ (j : ℕ). faceAt s (at + 4 * j)) (replicate 256 zeroFace) out k
+
+abbrev μ-loop : tie.MeasureT-loop
+μ-loop s at n out₀ k₀ out k = n - k
+
+loop-holds : tie.Need-loop-holds Inv-loop μ-loop
+loop-holds c = (omega arith, filling-start _ _)
+
+mul-face-at : tie.Need-mul-face-at Inv-loop μ-loop
+mul-face-at c = search needs
+
+add-face-at : tie.Need-add-face-at Inv-loop μ-loop
+add-face-at c = search needs
+
+face-at-requires : tie.Need-face-at-requires Inv-loop μ-loop
+face-at-requires c κs = search needs
+
+mul-out : tie.Need-mul-out Inv-loop μ-loop
+mul-out c = search needs
+
+array-set-from-out : tie.Need-array-set-from-out Inv-loop μ-loop
+array-set-from-out c = search needs
+
+add-k : tie.Need-add-k Inv-loop μ-loop
+add-k c = search needs
+
+loop-less : tie.Need-loop-less Inv-loop μ-loop
+loop-less c = search needs
+
+loop-again : tie.Need-loop-again Inv-loop μ-loop
+loop-again c = (omega arith, filling-next _ zeroFace _ _ _ _ (c .before .before .loop .inv .1) (omega arith) (c .face-at .ensures))
+
+returns : tie.Need-returns Inv-loop μ-loop
+returns c = let e : c .before .loop .k ≡ c .before .before .before .args .n = omega arith in filling-padded _ zeroFace 256 _ _ (rw e at (c .before .loop .inv .1))
+
+pub read-faces-spec : {M : Type 1} → statement M
+read-faces-spec =
+    tie.close
+    (tie.spec
+    Inv-loop
+    μ-loop
+    loop-holds
+    mul-face-at
+    add-face-at
+    face-at-requires
+    mul-out
+    array-set-from-out
+    add-k
+    loop-less
+    loop-again
+    returns)

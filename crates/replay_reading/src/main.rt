@@ -1,0 +1,67 @@
+// Reads each file that the arguments name and prints its name and the answer; an accepted pattern is
+// written back and compared with the file.
+use errors::Check;
+use libc::STDOUT_FILENO;
+use pattern::Pattern;
+use writer::Written;
+
+// Whether the file of a pattern is just these bytes.
+fn written_back(p: Pattern, bytes: &[u8]) -> bool {
+    let mut file = [0u8; 41048];
+    let answer = writer::write(p, &mut file);
+    match answer {
+        Written::Length(n) => {
+            if n <= 41048 {
+                check::same(&file[0..n], bytes)
+            } else {
+                false
+            }
+        }
+        Written::Refused(_) => false,
+        Written::NoSpace => false,
+    }
+}
+
+fn answer(bytes: &[u8]) {
+    let reading = reader::read(bytes);
+    let answer = reading.answer;
+    match answer {
+        Check::Refused(f) => {
+            console::print_refusal(STDOUT_FILENO, f);
+        }
+        Check::Accepted => {
+            let p = reading.pattern;
+            if written_back(p, bytes) {
+                io::write_all(STDOUT_FILENO, b"accepted\n");
+            } else {
+                io::write_all(STDOUT_FILENO, b"accepted, written back otherwise\n");
+            }
+        }
+    }
+}
+
+fn replay(k: usize) {
+    let mut name = [0u8; 64];
+    let length = os::arg(k, &mut name);
+    io::write_all(STDOUT_FILENO, &name[..length]);
+    io::write_all(STDOUT_FILENO, b" ");
+    let fd = os::open_read(&name[..length]);
+    if fd < 0 {
+        io::write_all(STDOUT_FILENO, b"not found\n");
+        return;
+    }
+    // One byte more than the longest file.
+    let mut bytes = [0u8; 41049];
+    let n = io::read_full(fd, &mut bytes);
+    libc::close(fd);
+    answer(&bytes[..n]);
+}
+
+fn main() {
+    let n = os::arg_count();
+    let mut k: usize = 1;
+    while k < n {
+        replay(k);
+        k += 1;
+    }
+}

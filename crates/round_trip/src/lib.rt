@@ -1,0 +1,2 @@
+// Reading and writing undo each other: theorems over what the contracts of `reader::read` and
+// `writer::write` cite; no code.

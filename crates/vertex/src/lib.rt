@@ -1,0 +1,2 @@
+// The vertex, a point of document 01: its number is its identity (the Rust's vertex.rs).
+pub struct VertexID(pub u16);

@@ -1,0 +1,61 @@
+-- The checks in sequence.
+use Prim.Native.Nat.{_+_}
+use mathlib.Core.Path.{_∙_, sym}
+use native.Mathlib.Omega.{arith}
+use borrow.Author.Needs.{needs}
+use borrow.Author.Tests.{not-false, not-true}
+use Rattle.lists.proofs.Marks.{below-later}
+use Rattle.wire.proofs.Laws.{empty-wire, open-wire, repeating-wire, simple-wire}
+use Rattle.wire.proofs.check_wire.Statement.{statement}
+use Rattle.wire.proofs.check_wire.Tie as tie
+
+returns : tie.Need-returns
+returns c =
+    let a = c .before .before .before .before .before .args in
+    (empty-wire (a .fronts .now) (a .backs .now) (a .uses .now) (c .if1 .taken), below-later (a .stamp) (a .stamp + 1) (a .marks .now) (c .before .before .before .before .before .pre .1 .1) (omega arith))
+
+is-closed-requires : tie.Need-is-closed-requires
+is-closed-requires c κs = search needs
+
+returns-2 : tie.Need-returns-2
+returns-2 c =
+    let a = c .before .before .before .before .before .before .before .args in (
+      open-wire (a .fronts .now) (a .backs .now) (a .uses .now) (omega arith) (sym (c .before .is-closed .ensures) ∙ not-true _ (c .if2 .taken)),
+      below-later (a .stamp) (a .stamp + 1) (a .marks .now) (c .before .before .before .before .before .before .before .pre .1 .1) (omega arith),
+    )
+
+is-simple-requires : tie.Need-is-simple-requires
+is-simple-requires c κs = search needs
+
+same-length : tie.Need-same-length
+same-length c = search needs
+
+returns-3 : tie.Need-returns-3
+returns-3 c =
+    let a = c .before .before .before .before .before .before .before .before .before .before .before .before .args in (
+      repeating-wire (a .fronts .now) (a .backs .now) (a .uses .now) (omega arith) (sym (c .before .before .before .before .before .before .is-closed .ensures) ∙ not-false _ (c .before .before .before .before .before .if2 .left)) (sym (c .before .before .before .is-simple .ensures .0) ∙ not-true _ (c .if3 .taken)),
+      c .before .before .before .is-simple .ensures .1,
+    )
+
+same-length-2 : tie.Need-same-length-2
+same-length-2 c = search needs
+
+returns-4 : tie.Need-returns-4
+returns-4 c =
+    let a = c .before .before .before .before .before .before .before .before .before .before .before .before .args in (
+      simple-wire (a .fronts .now) (a .backs .now) (a .uses .now) (omega arith) (sym (c .before .before .before .before .before .before .is-closed .ensures) ∙ not-false _ (c .before .before .before .before .before .if2 .left)) (sym (c .before .before .before .is-simple .ensures .0) ∙ not-false _ (c .if3 .left)),
+      c .before .before .before .is-simple .ensures .1,
+    )
+
+pub check-wire-spec : {M : Type 1} → statement M
+check-wire-spec =
+    tie.close
+    (tie.spec
+    returns
+    is-closed-requires
+    returns-2
+    is-simple-requires
+    same-length
+    returns-3
+    same-length-2
+    returns-4)

@@ -1,0 +1,91 @@
+-- The wire is closed if the run from `at` over the uses from place i on ends at the first point.
+use Prim.Native.Nat.{_-_, _≤_}
+use mathlib.Core.Path.{_∙_, _≡_, sym}
+use native.Mathlib.Omega.{arith}
+use lib.ListN.{drop, length}
+use borrow.Author.Needs.{needs}
+use Rattle.wire.proofs.Laws.{closed-none, closed-start, named-edge, runs-next, runs-past, runs-stop}
+use Rattle.wire.proofs.is_closed.Statement.{statement}
+use Rattle.wire.specs.Wires.{closed, runs}
+use Rattle.wire.proofs.is_closed.Tie as tie
+
+abbrev Inv-loop : tie.InvT-loop
+Inv-loop uses fronts backs n first at₀ i₀ at i = (i ≤ length uses) × (closed fronts backs uses ≡ runs fronts backs at (drop i uses) first)
+
+abbrev μ-loop : tie.MeasureT-loop
+μ-loop uses fronts backs n first at₀ i₀ at i = length uses - i
+
+returns : tie.Need-returns Inv-loop μ-loop
+returns c = sym (closed-none _ _ _ (c .if1 .taken))
+
+shared-slice-read-front-of : tie.Need-shared-slice-read-front-of Inv-loop μ-loop
+shared-slice-read-front-of c = search needs
+
+front-of-requires : tie.Need-front-of-requires Inv-loop μ-loop
+front-of-requires c κs = named-edge _ _ _ (c .before .before .before .before .before .pre) 0 (omega arith)
+
+shared-slice-read-back-of : tie.Need-shared-slice-read-back-of Inv-loop μ-loop
+shared-slice-read-back-of c = search needs
+
+back-of-requires : tie.Need-back-of-requires Inv-loop μ-loop
+back-of-requires c κs = named-edge _ _ _ (c .before .before .before .before .before .before .before .pre) 0 (omega arith)
+
+loop-holds : tie.Need-loop-holds Inv-loop μ-loop
+loop-holds c =
+    let a = c .before .before .before .before .before .before .before .before .args in
+    (omega arith, rw (c .back-of .ensures, c .before .before .front-of .ensures) (closed-start (a .fronts .now) (a .backs .now) (a .uses .now) (omega arith)))
+
+mul-u : tie.Need-mul-u Inv-loop μ-loop
+mul-u c = search needs
+
+shared-slice-read-u : tie.Need-shared-slice-read-u Inv-loop μ-loop
+shared-slice-read-u c = search needs
+
+front-of-requires-2 : tie.Need-front-of-requires-2 Inv-loop μ-loop
+front-of-requires-2 c κs = named-edge _ _ _ (c .before .before .before .before .before .before .before .before .before .before .before .pre) (c .before .before .loop .i) (omega arith)
+
+returns-2 : tie.Need-returns-2 Inv-loop μ-loop
+returns-2 c =
+    let a = c .before .before .before .before .before .before .before .before .before .before .before .before .before .args in
+    sym (c .before .before .before .before .loop .inv .1 ∙ runs-stop (a .fronts .now) (a .backs .now) (a .uses .now) (c .before .before .before .before .loop .at) (c .before .before .before .before .before .before .before .front-of .result) (c .before .before .before .before .loop .i) (omega arith) (λ e. c .if2 .taken (e ∙ sym (c .before .front-of2 .ensures))))
+
+back-of-requires-2 : tie.Need-back-of-requires-2 Inv-loop μ-loop
+back-of-requires-2 c κs = named-edge _ _ _ (c .before .before .before .before .before .before .before .before .before .before .before .before .before .pre) (c .before .before .before .before .loop .i) (omega arith)
+
+add-i : tie.Need-add-i Inv-loop μ-loop
+add-i c = search needs
+
+loop-less : tie.Need-loop-less Inv-loop μ-loop
+loop-less c = search needs
+
+loop-again : tie.Need-loop-again Inv-loop μ-loop
+loop-again c =
+    let a = c .before .before .before .before .before .before .before .before .before .before .before .before .before .before .args in
+    (omega arith, rw (c .back-of2 .ensures) (c .before .before .before .before .before .loop .inv .1 ∙ runs-next (a .fronts .now) (a .backs .now) (a .uses .now) (c .before .before .before .before .before .loop .at) (c .before .before .before .before .before .before .before .before .front-of .result) (c .before .before .before .before .before .loop .i) (omega arith) (c .before .if2 .left ∙ c .before .before .front-of2 .ensures)))
+
+returns-3 : tie.Need-returns-3 Inv-loop μ-loop
+returns-3 c =
+    let a = c .before .before .before .before .before .before .before .before .before .before .args in
+    sym (c .before .loop .inv .1 ∙ runs-past (a .fronts .now) (a .backs .now) (a .uses .now) (c .before .loop .at) (c .before .before .before .before .front-of .result) (c .before .loop .i) (omega arith))
+
+pub is-closed-spec : {M : Type 1} → statement M
+is-closed-spec =
+    tie.close
+    (tie.spec
+    Inv-loop
+    μ-loop
+    returns
+    shared-slice-read-front-of
+    front-of-requires
+    shared-slice-read-back-of
+    back-of-requires
+    loop-holds
+    mul-u
+    shared-slice-read-u
+    front-of-requires-2
+    returns-2
+    back-of-requires-2
+    add-i
+    loop-less
+    loop-again
+    returns-3)

@@ -1,0 +1,94 @@
+-- The loop stamps point after point.
+use Prim.Native.Nat.{_-_, _<_, _≤_}
+use mathlib.Core.Logic.{⊎-elim}
+use mathlib.Core.Path.{_∙_, _≡_, sym}
+use native.Mathlib.Omega.{arith}
+use lib.ListN.{getD, length}
+use borrow.Author.Needs.{needs}
+use Rattle.lists.proofs.Marks.{Stamping, stamping-again, stamping-marks, stamping-met, stamping-on, stamping-start}
+use Rattle.wire.proofs.Laws.{front-below, getD-points, length-points, named-edge}
+use Rattle.wire.proofs.stamp_points.Statement.{statement}
+use Rattle.wire.specs.Wires.{points}
+use Rattle.wire.proofs.stamp_points.Tie as tie
+
+abbrev Inv-loop : tie.InvT-loop
+Inv-loop uses fronts backs marks₀ stamp again₀ i₀ marks again i = (i ≤ length uses) × Stamping stamp (points fronts backs uses) marks₀ marks again i
+
+abbrev μ-loop : tie.MeasureT-loop
+μ-loop uses fronts backs marks₀ stamp again₀ i₀ marks again i = length uses - i
+
+loop-holds : tie.Need-loop-holds Inv-loop μ-loop
+loop-holds c = (omega arith, stamping-start _ _ _)
+
+mul-front-of : tie.Need-mul-front-of Inv-loop μ-loop
+mul-front-of c = search needs
+
+shared-slice-read-front-of : tie.Need-shared-slice-read-front-of Inv-loop μ-loop
+shared-slice-read-front-of c = search needs
+
+front-of-requires : tie.Need-front-of-requires Inv-loop μ-loop
+front-of-requires c κs = named-edge _ _ _ (c .before .before .before .before .before .before .before .pre .0) (c .before .before .loop .i) (omega arith)
+
+mul-if1 : tie.Need-mul-if1 Inv-loop μ-loop
+mul-if1 c = omega (arith, front-below _ _ _ (c .before .before .before .before .before .before .before .before .pre .0) (c .before .before .before .loop .i) (c .front-of .result) (omega arith) (c .front-of .ensures))
+
+slice-read-if1 : tie.Need-slice-read-if1 Inv-loop μ-loop
+slice-read-if1 c = rw (c .before .before .before .before .loop .inv .1 .long ∙ c .before .before .before .before .before .before .before .before .before .pre .1) (front-below _ _ _ (c .before .before .before .before .before .before .before .before .before .pre .0) (c .before .before .before .before .loop .i) (c .before .front-of .result) (omega arith) (c .before .front-of .ensures))
+
+mul-marks : tie.Need-mul-marks Inv-loop μ-loop
+mul-marks c = omega (arith, front-below _ _ _ (c .before .before .before .before .before .before .before .before .before .before .pre .0) (c .before .before .before .before .before .loop .i) (c .before .before .front-of .result) (omega arith) (c .before .before .front-of .ensures))
+
+slice-write-marks : tie.Need-slice-write-marks Inv-loop μ-loop
+slice-write-marks c = rw (c .before .before .before .before .before .loop .inv .1 .long ∙ c .before .before .before .before .before .before .before .before .before .before .pre .1) (front-below _ _ _ (c .before .before .before .before .before .before .before .before .before .before .pre .0) (c .before .before .before .before .before .loop .i) (c .before .before .front-of .result) (omega arith) (c .before .before .front-of .ensures))
+
+add-i : tie.Need-add-i Inv-loop μ-loop
+add-i c = search needs
+
+loop-less : tie.Need-loop-less Inv-loop μ-loop
+loop-less c = search needs
+
+loop-again : tie.Need-loop-again Inv-loop μ-loop
+loop-again c =
+    let a = c .before .before .before .before .before .before .before .before .before .before .args in
+    let v = c .before .before .before .before .before .loop .inv in
+    let i = c .before .before .before .before .before .loop .i in
+    let f = a .fronts .now in
+    let b = a .backs .now in
+    let us = a .uses .now in
+    let l : i < length us = omega arith in
+    let p = c .before .before .front-of .result in
+    let at : p ≡ getD (points f b us) i 0 = c .before .before .front-of .ensures ∙ sym (getD-points f b us i l) in
+    let lp : i < length (points f b us) = rw (length-points f b us) l in (
+      omega arith,
+      ⊎-elim (λ w. rw (w .1) (stamping-again _ _ _ _ _ _ _ (v .1) lp at (w .0 .taken))) (λ w. rw (w .1) (stamping-on _ _ _ _ _ _ _ (v .1) lp at (w .0 .left))) (c .if1 .came),
+    )
+
+same-length : tie.Need-same-length Inv-loop μ-loop
+same-length c = c .before .loop .inv .1 .long
+
+returns : tie.Need-returns Inv-loop μ-loop
+returns c =
+    let v = c .before .loop .inv in
+    let a = c .before .before .before .before .before .before .args in
+    let l : length (points (a .fronts .now) (a .backs .now) (a .uses .now)) ≤ c .before .loop .i = rw (length-points (a .fronts .now) (a .backs .now) (a .uses .now)) (omega arith) in
+    (stamping-met _ _ _ _ _ _ (v .1) l, stamping-marks _ _ _ _ _ _ (v .1) l)
+
+pub stamp-points-spec : {M : Type 1} → statement M
+stamp-points-spec =
+    tie.close
+    (tie.spec
+    Inv-loop
+    μ-loop
+    loop-holds
+    mul-front-of
+    shared-slice-read-front-of
+    front-of-requires
+    mul-if1
+    slice-read-if1
+    mul-marks
+    slice-write-marks
+    add-i
+    loop-less
+    loop-again
+    same-length
+    returns)

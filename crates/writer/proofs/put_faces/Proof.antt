@@ -1,0 +1,70 @@
+-- After k turns the first k faces are written.
+use Prim.Native.Nat.{_-_}
+use mathlib.Core.Path.{_≡_, refl}
+use native.Mathlib.Omega.{arith}
+use lib.ListN.{length}
+use borrow.Author.Needs.{needs}
+use Rattle.lists.proofs.Sets.{Laid, laid-all, laid-long, laid-next, laid-room, laid-start}
+use Rattle.pattern.specs.Contents.{zeroFace}
+use Rattle.pattern_file.specs.File.{faceBytes}
+use Rattle.writer.proofs.put_faces.Statement.{statement}
+use Rattle.writer.proofs.put_faces.Tie as tie
+
+abbrev Inv-loop : tie.InvT-loop
+Inv-loop out₀ at n faces k₀ out k = (length faces ≡ 256) × Laid faceBytes 4 out₀ at faces n out k
+
+abbrev μ-loop : tie.MeasureT-loop
+μ-loop out₀ at n faces k₀ out k = n - k
+
+loop-holds : tie.Need-loop-holds Inv-loop μ-loop
+loop-holds c =
+    let long : length (c .before .args .t3) ≡ 256 = search needs in
+    (long, laid-start faceBytes 4 _ _ _ _ (λ x. refl) (omega (arith, long)))
+
+mul-f : tie.Need-mul-f Inv-loop μ-loop
+mul-f c = search needs
+
+array-copy-out-f : tie.Need-array-copy-out-f Inv-loop μ-loop
+array-copy-out-f c = search needs
+
+mul-put-face : tie.Need-mul-put-face Inv-loop μ-loop
+mul-put-face c = search needs
+
+add-put-face : tie.Need-add-put-face Inv-loop μ-loop
+add-put-face c = search needs
+
+put-face-requires : tie.Need-put-face-requires Inv-loop μ-loop
+put-face-requires c κs = laid-room faceBytes 4 _ _ _ _ _ _ (c .before .before .before .loop .inv .1) (c .before .before .before .before .before .pre .0) (c .before .before .loop-test .taken)
+
+add-k : tie.Need-add-k Inv-loop μ-loop
+add-k c = search needs
+
+loop-less : tie.Need-loop-less Inv-loop μ-loop
+loop-less c = search needs
+
+loop-again : tie.Need-loop-again Inv-loop μ-loop
+loop-again c = (c .before .before .before .before .before .before .loop .inv .0, laid-next faceBytes 4 _ _ _ _ _ _ (c .before .before .before .before .before .before .loop .inv .1) _ zeroFace (c .before .before .before .before .before .loop-test .taken) (c .before .before .put-face .ensures))
+
+same-length : tie.Need-same-length Inv-loop μ-loop
+same-length c = laid-long faceBytes 4 _ _ _ _ _ _ (c .before .loop .inv .1)
+
+returns : tie.Need-returns Inv-loop μ-loop
+returns c = laid-all faceBytes 4 _ _ _ _ _ _ (c .before .loop .inv .1) (c .loop-test .left)
+
+pub put-faces-spec : {M : Type 1} → statement M
+put-faces-spec =
+    tie.close
+    (tie.spec
+    Inv-loop
+    μ-loop
+    loop-holds
+    mul-f
+    array-copy-out-f
+    mul-put-face
+    add-put-face
+    put-face-requires
+    add-k
+    loop-less
+    loop-again
+    same-length
+    returns)

@@ -1,0 +1,65 @@
+-- After k turns the first k points are written.
+use Prim.Native.Nat.{_-_}
+use mathlib.Core.Path.{refl}
+use borrow.Author.Needs.{needs}
+use Rattle.lists.proofs.Sets.{Laid, laid-all, laid-long, laid-next, laid-room, laid-start}
+use Rattle.words.specs.Words.{bytes32}
+use Rattle.writer.proofs.put_points.Statement.{statement}
+use Rattle.writer.proofs.put_points.Tie as tie
+
+abbrev Inv-loop : tie.InvT-loop
+Inv-loop out₀ at points n k₀ out k = Laid bytes32 4 out₀ at points n out k
+
+abbrev μ-loop : tie.MeasureT-loop
+μ-loop out₀ at points n k₀ out k = n - k
+
+loop-holds : tie.Need-loop-holds Inv-loop μ-loop
+loop-holds c = laid-start bytes32 4 _ _ _ _ (λ x. refl) (c .before .before .pre .1)
+
+mul-put-u32 : tie.Need-mul-put-u32 Inv-loop μ-loop
+mul-put-u32 c = search needs
+
+add-put-u32 : tie.Need-add-put-u32 Inv-loop μ-loop
+add-put-u32 c = search needs
+
+mul-put-u32-2 : tie.Need-mul-put-u32-2 Inv-loop μ-loop
+mul-put-u32-2 c = search needs
+
+shared-slice-read-put-u32 : tie.Need-shared-slice-read-put-u32 Inv-loop μ-loop
+shared-slice-read-put-u32 c = search needs
+
+put-u32-requires : tie.Need-put-u32-requires Inv-loop μ-loop
+put-u32-requires c κs = laid-room bytes32 4 _ _ _ _ _ _ (c .before .before .before .loop .inv) (c .before .before .before .before .before .before .pre .0) (c .before .before .loop-test .taken)
+
+add-k : tie.Need-add-k Inv-loop μ-loop
+add-k c = search needs
+
+loop-less : tie.Need-loop-less Inv-loop μ-loop
+loop-less c = search needs
+
+loop-again : tie.Need-loop-again Inv-loop μ-loop
+loop-again c = laid-next bytes32 4 _ _ _ _ _ _ (c .before .before .before .before .before .before .loop .inv) _ 0 (c .before .before .before .before .before .loop-test .taken) (c .before .before .put-u32 .ensures)
+
+same-length : tie.Need-same-length Inv-loop μ-loop
+same-length c = laid-long bytes32 4 _ _ _ _ _ _ (c .before .loop .inv)
+
+returns : tie.Need-returns Inv-loop μ-loop
+returns c = laid-all bytes32 4 _ _ _ _ _ _ (c .before .loop .inv) (c .loop-test .left)
+
+pub put-points-spec : {M : Type 1} → statement M
+put-points-spec =
+    tie.close
+    (tie.spec
+    Inv-loop
+    μ-loop
+    loop-holds
+    mul-put-u32
+    add-put-u32
+    mul-put-u32-2
+    shared-slice-read-put-u32
+    put-u32-requires
+    add-k
+    loop-less
+    loop-again
+    same-length
+    returns)

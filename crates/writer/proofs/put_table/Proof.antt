@@ -1,0 +1,74 @@
+-- After b turns the first b entries are written.
+use Prim.Native.Nat.{_-_}
+use mathlib.Core.Path.{_≡_}
+use native.Mathlib.Omega.{arith}
+use lib.ListN.{length}
+use borrow.Author.Needs.{needs}
+use Rattle.lists.proofs.Sets.{Laid, laid-long}
+use Rattle.pattern_file.proofs.Records.{entryBytes}
+use Rattle.writer.proofs.Laws.{entries, entries-all, entries-next, entries-room, entries-start, entry-fits}
+use Rattle.writer.proofs.put_table.Statement.{statement}
+use Rattle.writer.proofs.put_table.Tie as tie
+
+abbrev Inv-loop : tie.InvT-loop
+Inv-loop out₀ counts starts b₀ out b = (length counts ≡ 7) × Laid entryBytes 8 out₀ 0 (entries counts) 7 out b
+
+abbrev μ-loop : tie.MeasureT-loop
+μ-loop out₀ counts starts b₀ out b = 7 - b
+
+loop-holds : tie.Need-loop-holds Inv-loop μ-loop
+loop-holds c = (search needs, entries-start _ _)
+
+mul-put-entry : tie.Need-mul-put-entry Inv-loop μ-loop
+mul-put-entry c = search needs
+
+mul-put-entry-2 : tie.Need-mul-put-entry-2 Inv-loop μ-loop
+mul-put-entry-2 c = search needs
+
+array-read-put-entry : tie.Need-array-read-put-entry Inv-loop μ-loop
+array-read-put-entry c = search needs
+
+mul-put-entry-3 : tie.Need-mul-put-entry-3 Inv-loop μ-loop
+mul-put-entry-3 c = search needs
+
+array-read-put-entry-2 : tie.Need-array-read-put-entry-2 Inv-loop μ-loop
+array-read-put-entry-2 c = search needs
+
+put-entry-requires : tie.Need-put-entry-requires Inv-loop μ-loop
+put-entry-requires c κs =
+    let fit = entry-fits (c .before .before .before .before .args .t2) (c .before .before .before .before .args .t3) (c .before .before .loop .b) (c .before .before .before .before .pre .2) (c .before .before .before .before .pre .1) (c .before .before .loop .inv .0) (omega arith) in
+    (entries-room _ _ _ _ (c .before .before .loop .inv .1) (c .before .before .before .before .pre .0) (omega arith), omega (arith, fit .0), omega (arith, fit .1))
+
+add-b : tie.Need-add-b Inv-loop μ-loop
+add-b c = search needs
+
+loop-less : tie.Need-loop-less Inv-loop μ-loop
+loop-less c = search needs
+
+loop-again : tie.Need-loop-again Inv-loop μ-loop
+loop-again c = (c .before .before .before .before .before .loop .inv .0, entries-next _ _ _ _ (c .before .before .before .before .before .loop .inv .1) _ _ (c .before .before .before .before .before .before .before .pre .2) (omega arith) (c .before .before .put-entry .ensures))
+
+same-length : tie.Need-same-length Inv-loop μ-loop
+same-length c = laid-long entryBytes 8 _ _ _ _ _ _ (c .before .loop .inv .1)
+
+returns : tie.Need-returns Inv-loop μ-loop
+returns c = entries-all _ _ _ _ (c .before .loop .inv .1) (omega arith)
+
+pub put-table-spec : {M : Type 1} → statement M
+put-table-spec =
+    tie.close
+    (tie.spec
+    Inv-loop
+    μ-loop
+    loop-holds
+    mul-put-entry
+    mul-put-entry-2
+    array-read-put-entry
+    mul-put-entry-3
+    array-read-put-entry-2
+    put-entry-requires
+    add-b
+    loop-less
+    loop-again
+    same-length
+    returns)

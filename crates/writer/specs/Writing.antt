@@ -1,0 +1,36 @@
+-- What the writer answers, and what the lent slice then holds.
+use Prim.Native.Nat.{ℕ}
+use mathlib.Core.List.{List, [], _++_, _∷_}
+use lib.Dec.{leb}
+use lib.ListN.{drop, length}
+use Rattle.errors.specs.Numbers.{number}
+use Rattle.errors.specs.declared.Refusal.{Refusal}
+use Rattle.lists.specs.Lists.{pick}
+use Rattle.pattern.specs.Checks.{patternFaults}
+use Rattle.pattern.specs.Contents.{content}
+use Rattle.pattern.specs.declared.Pattern.{Pattern}
+use Rattle.pattern_file.specs.File.{fileBytes}
+use Rattle.writer.specs.declared.Written.{Written}
+use Rattle.writer.specs.declared.Written.the-variants.{Length, NoSpace, Refused}
+
+-- the number of a refusal to write: 17 alone where the slice is shorter than the file; 0 where it is written
+abbrev pub writtenNumber : Written → ℕ
+writtenNumber (Length n) = 0
+writtenNumber (Refused f) = number f
+writtenNumber NoSpace = 17
+
+-- the reading checks first, then 17
+abbrev pub writeAnswer : List Refusal → List ℕ → List ℕ → Written
+writeAnswer (f ∷ fs) file out = Refused f
+writeAnswer [] file out = pick (leb (length file) (length out)) (Length (length file)) NoSpace
+
+-- the slice keeps the rest, and everything if refused
+abbrev pub writeBytes : List Refusal → List ℕ → List ℕ → List ℕ
+writeBytes (f ∷ fs) file out = out
+writeBytes [] file out = pick (leb (length file) (length out)) (file ++ drop (length file) out) out
+
+abbrev pub written : Pattern → List ℕ → Written
+written p out = writeAnswer (patternFaults p) (fileBytes (content p)) out
+
+abbrev pub writtenBytes : Pattern → List ℕ → List ℕ
+writtenBytes p out = writeBytes (patternFaults p) (fileBytes (content p)) out
