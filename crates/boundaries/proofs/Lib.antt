@@ -1,0 +1,4 @@
+pub mod Laws
+pub mod Shells
+pub mod Answers
+pub mod Theorem

@@ -1,0 +1,95 @@
+// Groups of linked members: trees in two lists, the parent of each member and the size of each
+// tree. A root is its own parent and stands for its group; the smaller tree goes under the larger,
+// so no member is more than 11 steps below its root where there are 2,048.
+ghost use mathlib.Core.Path.{_≡_};
+ghost use Prim.Native.Nat.{ℕ, _+_, _<_, _≤_};
+ghost use lib.Dec.{eqb};
+ghost use lib.ListN.{length, getD};
+ghost use Rattle.groups.specs.Forest.{Climbs, Ready, joined, oneRoot, rootOf, started, under};
+
+// Makes each of n members a group of its own.
+pub fn start(parents: &mut [u16], sizes: &mut [u16], n: usize)
+    requires { ⌜ (n < 65536) × ((n ≤ length (now parents)) × (n ≤ length (now sizes))) ⌝ }
+    ensures { λ _. ⌜ now (parents .exit) ≡ started n (now (parents .entry)) (now (sizes .entry)) .parents ⌝ }
+    ensures { λ _. ⌜ now (sizes .exit) ≡ started n (now (parents .entry)) (now (sizes .entry)) .sizes ⌝ }
+{
+    let mut i: usize = 0;
+    while i < n {
+        parents[i] = i as u16;
+        sizes[i] = 1;
+        i += 1;
+    }
+}
+
+// The root of the tree of member i.
+pub fn find(parents: &[u16], i: usize) -> usize
+    requires { ⌜ Climbs (now parents) i ⌝ }
+    ensures { λ r. ⌜ r ≡ rootOf (now (parents .entry)) i ⌝ }
+{
+    let mut at = i;
+    loop {
+        let up = parents[at] as usize;
+        if up == at {
+            break at;
+        }
+        at = up;
+    }
+}
+
+// Whether members i and j are in one group.
+pub fn same(parents: &[u16], i: usize, j: usize) -> bool
+    requires { ⌜ Climbs (now parents) i ⌝ }
+    requires { ⌜ Climbs (now parents) j ⌝ }
+    ensures { λ r. ⌜ r ≡ eqb (rootOf (now (parents .entry)) i) (rootOf (now (parents .entry)) j) ⌝ }
+{
+    find(parents, i) == find(parents, j)
+}
+
+// Whether all of the members are in one group.
+pub fn one_group(parents: &[u16], members: &[u16]) -> bool
+    requires { ⌜ ((k : ℕ) → k < length (now members) → Climbs (now parents) (getD (now members) k 0)) ⌝ }
+    ensures { λ r. ⌜ r ≡ oneRoot (now (parents .entry)) (now (members .entry)) ⌝ }
+{
+    if members.len() == 0 {
+        return true;
+    }
+    let root = find(parents, members[0] as usize);
+    let mut i: usize = 1;
+    while i < members.len() {
+        if find(parents, members[i] as usize) != root {
+            return false;
+        }
+        i += 1;
+    }
+    true
+}
+
+// Puts root b under root a.
+fn put_under(parents: &mut [u16], sizes: &mut [u16], a: usize, b: usize)
+    requires { ⌜ (a < 65536) × (b < length (now parents)) ⌝ }
+    requires { ⌜ (a < length (now sizes)) × (b < length (now sizes)) ⌝ }
+    requires { ⌜ getD (now sizes) a 0 + getD (now sizes) b 0 < 65536 ⌝ }
+    ensures { λ _. ⌜ now (parents .exit) ≡ under (now (parents .entry)) (now (sizes .entry)) a b .parents ⌝ }
+    ensures { λ _. ⌜ now (sizes .exit) ≡ under (now (parents .entry)) (now (sizes .entry)) a b .sizes ⌝ }
+{
+    parents[b] = a as u16;
+    sizes[a] += sizes[b];
+}
+
+// Joins the groups of members i and j.
+pub fn join(parents: &mut [u16], sizes: &mut [u16], i: usize, j: usize)
+    requires { ⌜ Ready (now parents) (now sizes) i j ⌝ }
+    ensures { λ _. ⌜ now (parents .exit) ≡ joined (now (parents .entry)) (now (sizes .entry)) i j .parents ⌝ }
+    ensures { λ _. ⌜ now (sizes .exit) ≡ joined (now (parents .entry)) (now (sizes .entry)) i j .sizes ⌝ }
+{
+    let a = find(parents, i);
+    let b = find(parents, j);
+    if a == b {
+        return;
+    }
+    if sizes[a] < sizes[b] {
+        put_under(parents, sizes, b, a);
+    } else {
+        put_under(parents, sizes, a, b);
+    }
+}

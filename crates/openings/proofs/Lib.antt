@@ -1,0 +1,6 @@
+pub mod Slots
+pub mod Follow
+pub mod Keeping
+pub mod Passes
+pub mod Wide
+pub mod Written

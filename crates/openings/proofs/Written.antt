@@ -1,0 +1,36 @@
+-- The openings of a walk are read back from the written uses and lengths.
+use Prim.Native.Nat.{ℕ, _+_, _≤_}
+use mathlib.Core.List.{List, [], _∷_, map}
+use mathlib.Core.Path.{_≡_, refl}
+use native.Mathlib.Omega.{arith}
+use lib.ListN.{drop, length, length-map, take}
+use lib.Seq.{drop-append-seam, sets, sets-eq, take-append-seam}
+use Rattle.lists.specs.Lists.{flat, split}
+use Rattle.shell.specs.Openings.{Walk}
+use Rattle.openings.specs.declared.Walked.{Walked}
+use Rattle.openings.specs.Passes.{Passed, Ready}
+use Rattle.openings.proofs.Passes.{passed-lens, passed-out}
+
+split-flat : (os : List (List ℕ)) → split (map length os) (flat os) ≡ os
+unfolding split flat
+split-flat [] = refl
+split-flat (o ∷ os) = rw (take-append-seam o (flat os), drop-append-seam o (flat os), split-flat os)
+
+take-sets : (l vs : List ℕ) → length vs ≤ length l → take (length vs) (sets l 0 vs) ≡ vs
+take-sets l vs h = rw (sets-eq vs l 0 (omega arith)) (take-append-seam vs (drop (0 + length vs) l))
+
+-- a walk that began at the first places of the arrays
+pub written-openings : (w : Walk) (out₀ lens₀ : List ℕ) (before : Walked) (fronts backs kept out lens : List ℕ) (after : Walked)
+    → Passed w out₀ lens₀ before kept out lens after → Ready fronts backs kept out lens after → before .at ≡ 0 → before .openings ≡ 0
+    → split (take (after .openings) lens) (take (after .at) out) ≡ w .openings
+written-openings w out₀ lens₀ before fronts backs kept out lens after p r a o =
+    let f = flat (w .openings) in
+    let ns = map length (w .openings) in
+    let n : length ns ≡ length (w .openings) = length-map (w .openings) length in
+    let x : after .at ≡ length f = omega (arith, p .place, a) in
+    let y : after .openings ≡ length ns = omega (arith, p .number, o, n) in
+    let l = passed-out w out₀ lens₀ before kept out lens after p in
+    let m = passed-lens w out₀ lens₀ before kept out lens after p in
+    let us : take (after .at) out ≡ f = rw (x, p .written, a) (take-sets out₀ f (omega (arith, x, l, r .uses))) in
+    let ls : take (after .openings) lens ≡ ns = rw (y, p .lengths, o) (take-sets lens₀ ns (omega (arith, y, m, r .parts))) in
+    rw (us, ls) (split-flat (w .openings))

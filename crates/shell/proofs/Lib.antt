@@ -1,0 +1,10 @@
+pub mod Held
+pub mod Pass
+pub mod Turned
+pub mod Level
+pub mod Free
+pub mod Chain
+pub mod Walked
+pub mod Keeping
+pub mod Rings
+pub mod Theorem
