@@ -160,8 +160,5 @@ module _ (fronts backs : List ℕ) where
   pub faultless-sound : (us : List ℕ) → wireFaults fronts backs us ≡ [] → Sound us
   faultless-sound us h = simple-sound us (ap firstOfWire h)
 
-  pub simple-noDup : (us : List ℕ) → firstOfWire (wireFaults fronts backs us) ≡ Simple → noDup (points fronts backs us) ≡ true
-  simple-noDup us h = simple-sound us h .once
-
   pub faultless-noDup : (us : List ℕ) → wireFaults fronts backs us ≡ [] → noDup (points fronts backs us) ≡ true
   faultless-noDup us h = faultless-sound us h .once

@@ -1,6 +1,7 @@
 -- The columns show the parts of the listings; one after the other they are the shell's uses.
-use Prim.Native.Nat.{_-_, _<_, _≤_, ℕ}
+use Prim.Native.Nat.{_<_, _≤_}
 use mathlib.Core.Path.{_∙_, _≡_, ap, sym}
+use native.Mathlib.Nat.{sub-zero}
 use native.Mathlib.Omega.{arith}
 use lib.ListN.{getD, length, length-map}
 use borrow.Author.Needs.{needs}
@@ -46,9 +47,6 @@ starts-long s = search needs
 
 counts-long : (s : tie.After-wire-counts) → length (s .wire-counts .result) ≡ 256
 counts-long s = search needs
-
-from-zero : (n : ℕ) → n - 0 ≡ n
-from-zero n = omega arith
 
 starts-are : (s : tie.After-starts-of) → s .starts-of .result ≡ startsIn (s .before .before .before .before .before .before .before .before .before .before .before .before .before .before .before .before .args .t1)
 starts-are s = s .starts-of .ensures ∙ rw (s .before .before .before .before .before .before .before .before .before .before .before .wire-counts .ensures)
@@ -147,7 +145,7 @@ tally-listings-requires c κs =
     let ok = s .pre .0 in
     let turned = c .before .before .before .before .before .before .before .before .before .before .before .before .before .before .before .before .before .before .before .before .turned-of .result in
     let starts = c .before .before .before .before .before .before .before .before .before .before .before .before .before .before .before .starts-of .result in
-    rw (from-zero (getD (p .counts) 6 0), from-zero (getD (p .counts) 2 0), c .before .before .before .before .before .before .before .before .before .before .before .sum-of .ensures, c .before .before .before .before .before .before .before .before .before .index .ensures .0) (
+    rw (sub-zero (getD (p .counts) 6 0), sub-zero (getD (p .counts) 2 0), c .before .before .before .before .before .before .before .before .before .before .before .sum-of .ensures, c .before .before .before .before .before .before .before .before .before .index .ensures .0) (
       (omega arith, omega (arith, end-inside p l f ok n (here s), listings-counted p l f)),
       λ k h. tallies p l f ok (small (c .before .before .before .before .before .before .before .before .before .before .before .before .before .before .before .before .before .before .before .before)) turned starts (c .before .before .before .before .before .before .before .before .before .before .before .before .before .before .before .before .before .before .before .before .turned-of .ensures .0) (starts-are (c .before .before .before .before .before .before .before .before .before .before .before .before .before .before .before)) (turned-long (c .before .before .before .before .before .before .before .before .before .before .before .before .before .before .before .before .before .before .before .before)) (starts-long (c .before .before .before .before .before .before .before .before .before .before .before .before .before .before .before)) _
           (shell-listing p l f ok (small (c .before .before .before .before .before .before .before .before .before .before .before .before .before .before .before .before .before .before .before .before)) turned starts (c .before .before .before .before .before .before .before .before .before .before .before .before .before .before .before .before .before .before .before .before .turned-of .ensures .0) (starts-are (c .before .before .before .before .before .before .before .before .before .before .before .before .before .before .before)) (turned-long (c .before .before .before .before .before .before .before .before .before .before .before .before .before .before .before .before .before .before .before .before)) (starts-long (c .before .before .before .before .before .before .before .before .before .before .before .before .before .before .before)) n (here s) k h),
@@ -159,7 +157,7 @@ returns c =
     let p = s .args .t1 in
     let turned = c .before .before .before .before .before .before .before .before .before .before .before .before .before .before .before .before .before .before .before .before .before .turned-of .result in
     let starts = c .before .before .before .before .before .before .before .before .before .before .before .before .before .before .before .before .starts-of .result in (
-      (rw (from-zero (getD (p .counts) 6 0), from-zero (getD (p .counts) 2 0), c .before .before .before .before .before .before .before .before .before .before .before .before .sum-of .ensures, c .before .before .before .before .before .before .before .before .before .before .index .ensures .0) at (c .tally-listings .ensures))
+      (rw (sub-zero (getD (p .counts) 6 0), sub-zero (getD (p .counts) 2 0), c .before .before .before .before .before .before .before .before .before .before .before .before .sum-of .ensures, c .before .before .before .before .before .before .before .before .before .before .index .ensures .0) at (c .tally-listings .ensures))
           ∙ ap (insertedAll noUses) (shell-shown p (limits s) (full s) (s .pre .0) (small (c .before .before .before .before .before .before .before .before .before .before .before .before .before .before .before .before .before .before .before .before .before)) turned starts (c .before .before .before .before .before .before .before .before .before .before .before .before .before .before .before .before .before .before .before .before .before .turned-of .ensures .0) (starts-are (c .before .before .before .before .before .before .before .before .before .before .before .before .before .before .before .before)) (turned-long (c .before .before .before .before .before .before .before .before .before .before .before .before .before .before .before .before .before .before .before .before .before)) (starts-long (c .before .before .before .before .before .before .before .before .before .before .before .before .before .before .before .before)) (s .args .n) (here s)),
       c .before .before .before .before .before .before .before .before .before .before .before .before .before .before .before .before .before .before .before .before .before .turned-of .ensures .1,
     )

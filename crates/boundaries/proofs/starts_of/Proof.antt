@@ -1,14 +1,11 @@
 -- The first records, in full.
-use Prim.Native.Nat.{_-_, ℕ}
 use mathlib.Core.Path.{_∙_, _≡_, sym}
+use native.Mathlib.Nat.{sub-zero}
 use native.Mathlib.Omega.{arith}
 use lib.Seq.{length-take-le}
 use borrow.Author.Needs.{needs}
 use Rattle.boundaries.proofs.starts_of.Statement.{statement}
 use Rattle.boundaries.proofs.starts_of.Tie as tie
-
-from-zero : (n : ℕ) → n - 0 ≡ n
-from-zero n = omega arith
 
 sub-face-starts : tie.Need-sub-face-starts
 sub-face-starts c = search needs
@@ -24,10 +21,10 @@ face-starts-requires c κs =
     let a = c .before .before .before .args in
     let p = c .before .before .before .pre in
     let lw = length-take-le (a .wcount) (a .wires .now) (p .0 .1) in
-    rw (from-zero (a .wcount)) (p .0 .2, p .0 .3, p .1 ∙ sym lw, omega (arith, lw, p .0 .0))
+    rw (sub-zero (a .wcount)) (p .0 .2, p .0 .3, p .1 ∙ sym lw, omega (arith, lw, p .0 .0))
 
 returns : tie.Need-returns
-returns c = let a = c .before .before .before .before .args in rw (from-zero (a .wcount)) at (c .face-starts .ensures)
+returns c = let a = c .before .before .before .before .args in rw (sub-zero (a .wcount)) at (c .face-starts .ensures)
 
 pub starts-of-spec : {M : Type 1} → statement M
 starts-of-spec =

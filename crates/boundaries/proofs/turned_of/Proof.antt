@@ -1,14 +1,11 @@
 -- The first records, in full.
-use Prim.Native.Nat.{_-_, ℕ}
 use mathlib.Core.Path.{_∙_, _≡_, sym}
+use native.Mathlib.Nat.{sub-zero}
 use native.Mathlib.Omega.{arith}
 use lib.Seq.{length-take-le}
 use borrow.Author.Needs.{needs}
 use Rattle.boundaries.proofs.turned_of.Statement.{statement}
 use Rattle.boundaries.proofs.turned_of.Tie as tie
-
-from-zero : (n : ℕ) → n - 0 ≡ n
-from-zero n = omega arith
 
 sub-turned-uses : tie.Need-sub-turned-uses
 sub-turned-uses c = search needs
@@ -34,12 +31,12 @@ turned-uses-requires c κs =
     let p = c .before .before .before .before .pre in
     let lu = length-take-le (a .ucount) (a .uses .now) (p .0 .1) in
     let lw = length-take-le (a .wcount) (a .wires .now) (p .0 .3) in
-    rw (from-zero (a .ucount), from-zero (a .wcount)) (omega (arith, lu, p .0 .0), omega (arith, lw, p .0 .2), p .1 ∙ sym lu)
+    rw (sub-zero (a .ucount), sub-zero (a .wcount)) (omega (arith, lu, p .0 .0), omega (arith, lw, p .0 .2), p .1 ∙ sym lu)
 
 returns : tie.Need-returns
 returns c =
     let a = c .before .before .before .before .before .args in
-    (rw (from-zero (a .ucount), from-zero (a .wcount)) at (c .turned-uses .ensures), λ k. omega (arith, c .before .before .before .before .shared-slice-known .given k))
+    (rw (sub-zero (a .ucount), sub-zero (a .wcount)) at (c .turned-uses .ensures), λ k. omega (arith, c .before .before .before .before .shared-slice-known .given k))
 
 pub turned-of-spec : {M : Type 1} → statement M
 turned-of-spec =
