@@ -1,7 +1,9 @@
 #!/usr/bin/env python3
 """Patterns and edits for the comparison with the Rust, and the recorded answers.
 
-    tools/generate.py record            makes recorded/ again, always the same bytes
+    tools/generate.py record            makes the recorded answers again, always the same
+                                        bytes: those that crates/replay_reports and
+                                        crates/replay_packs replay, and recorded/edits
     tools/generate.py random SEED COUNT FOLDER
                                         COUNT random patterns and as many files of
                                         edits, with their answers, in the same form
@@ -933,14 +935,14 @@ def check(name, line, hand, answer):
 
 
 def record():
-    folder = Folder(ROOT / "recorded/reports")
+    folder = Folder(ROOT / "crates/replay_reports")
     for name, content, *_ in REPORTS:
         folder.add(name, bytes_of(content))
     parts = folder.ask("report")
     for name, _, *hand in REPORTS:
         check(name, "report", hand[0] if hand else None, parts[name])
 
-    folder = Folder(ROOT / "recorded/packs")
+    folder = Folder(ROOT / "crates/replay_packs")
     for name, contents in PACKS:
         files = [bytes_of(content) for content in contents]
         folder.add(name, b"".join(struct.pack("<I", len(file)) + file for file in files))

@@ -1,11 +1,12 @@
 #!/usr/bin/env python3
 """Document 01 read a second time, to hold against the oracle.
 
-    python3 tools/second_reading.py FOLDER
+    python3 tools/second_reading.py [FOLDER]
 
-FOLDER is recorded/ or one that `tools/generate.py random` made.  Every answer in
-it is worked out again, by the text of document 01 and in its words, with nothing
-of the Rust or of the port; each file that is answered otherwise is named.
+FOLDER is one that `tools/generate.py random` made; without it the recorded answers
+of this repository are read.  Every answer is worked out again, by the text of
+document 01 and in its words, with nothing of the Rust or of the port; each file
+that is answered otherwise is named.
 """
 
 import math
@@ -411,22 +412,27 @@ def edits(data):
     return lines
 
 
+ROOT = pathlib.Path(__file__).resolve().parent.parent
+RECORDED = {"reports": ROOT / "crates/replay_reports", "packs": ROOT / "crates/replay_packs",
+            "edits": ROOT / "recorded/edits"}
+
+
 def main():
-    if len(sys.argv) != 2:
+    if len(sys.argv) > 2:
         sys.exit(__doc__)
     wrong = 0
-    for folder, again in ("reports", reports), ("packs", packs), ("edits", edits):
-        folder = pathlib.Path(sys.argv[1]) / folder
-        if not folder.exists():
+    for kind, again in ("reports", reports), ("packs", packs), ("edits", edits):
+        folder = RECORDED[kind] if len(sys.argv) == 1 else pathlib.Path(sys.argv[1]) / kind
+        if len(sys.argv) == 2 and not folder.exists():
             continue
         names = (folder / "args").read_text().split()
         parts = (folder / "stdout").read_text().split("file ")[1:]
         assert len(parts) == len(names)
         for name, part in zip(names, parts):
             if part.splitlines() != [name] + again(folder / "data" / name):
-                print(f"otherwise: {folder.name} {name}")
+                print(f"otherwise: {kind} {name}")
                 wrong += 1
-        print(f"{folder.name}: {len(names)} files")
+        print(f"{kind}: {len(names)} files")
     sys.exit(1 if wrong else 0)
 
 

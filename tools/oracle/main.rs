@@ -5,6 +5,9 @@
 //!                                     a pack holds for each its length (u32) and its bytes
 //!     oracle edit PATTERN EDITS ..    the answers to each file of edits, likewise
 //!     oracle said PATTERN EDITS ..    the same; after each refusal what the Rust said
+//!     oracle measure ROUNDS REPEATS PATTERN..
+//!                                     for each file its name, the microseconds of REPEATS
+//!                                     reports, the least of ROUNDS, and a report's length
 //!
 //! Shells, faces, wires and edges are the Rust's, and so is what is done with
 //! them.  The oracle's own part:
@@ -30,8 +33,12 @@
 //!     fresh                           the pattern as it was read
 //! Answers: `refused N`; `new E ..`, a line for each new edge, a line for each
 //! stored wire that uses one; `lengths U W` and a line for each wire; `panic`.
+//!
+//! A measured report goes from the bytes to the text, asks the Rust each question once
+//! (`Asked::Once`), and is not printed.  The time is the processor's, by C's `clock`.
 
 use std::fmt::Write as _;
+use std::hint::black_box;
 use std::io::Write as _;
 use std::panic::{catch_unwind, AssertUnwindSafe};
 use truck_geotrait as geo;
@@ -136,7 +143,15 @@ const BODIES: [(usize, usize); 7] =
 /// A refusal: number, body, record.
 type Refused = (u32, usize, usize);
 
-fn read(bytes: &[u8]) -> Result<Pattern, Refused> {
+/// Whether the Rust is asked again: which wire a face is refused for, and whether all
+/// shells together make the solid that they make one by one.
+#[derive(Clone, Copy, PartialEq)]
+enum Asked {
+    Once,
+    Again,
+}
+
+fn read(bytes: &[u8], asked: Asked) -> Result<Pattern, Refused> {
     let u16 = |at: usize| u16::from_le_bytes([bytes[at], bytes[at + 1]]) as usize;
     let u32 = |at: usize| u16(at) + (u16(at + 2) << 16);
     let f64 = |at: usize| f64::from_le_bytes(bytes[at..at + 8].try_into().unwrap());
@@ -194,15 +209,19 @@ fn read(bytes: &[u8]) -> Result<Pattern, Refused> {
     for (k, at) in places(4).enumerate() {
         let surface = Surface { value: u16(at + 2), face: k };
         let outlines: Vec<_> = wires.by_ref().take(u16(at)).collect();
-        for (w, wire) in outlines.iter().enumerate() {
-            Face::try_new(vec![wire.clone()], surface).map_err(|e| (number(e), 3, start + w))?;
-        }
-        for w in 1..outlines.len() {
-            Face::try_new(outlines[..=w].to_vec(), surface)
-                .map_err(|e| (number(e), 3, start + w))?;
-        }
+        let first = start;
         start += outlines.len();
-        faces.push(Face::new(outlines, surface));
+        if asked == Asked::Again {
+            for (w, wire) in outlines.iter().enumerate() {
+                let face = Face::try_new(vec![wire.clone()], surface);
+                face.map_err(|e| (number(e), 3, first + w))?;
+            }
+            for w in 1..outlines.len() {
+                let face = Face::try_new(outlines[..=w].to_vec(), surface);
+                face.map_err(|e| (number(e), 3, first + w))?;
+            }
+        }
+        faces.push(Face::try_new(outlines, surface).map_err(|e| (number(e), 3, first))?);
     }
     let mut listings = places(6).map(signed);
     let shells = places(5).map(|at| listings.by_ref().take(u16(at)).collect()).collect();
@@ -257,7 +276,7 @@ fn write_uses(out: &mut String, wire: &Wire) {
 
 // ----------------------------------------------------------------- report
 
-fn report(p: &Pattern) -> String {
+fn report(p: &Pattern, asked: Asked) -> String {
     let mut out = String::new();
     let shells: Vec<_> = (0..p.shells.len()).map(|s| p.shell(s)).collect();
     for (s, shell) in shells.iter().enumerate() {
@@ -277,10 +296,10 @@ fn report(p: &Pattern) -> String {
         let mut components: Vec<Vec<Signed>> = Vec::new();
         for component in shell.connected_components() {
             let mut members: Vec<_> = component.iter().map(listing).collect();
-            members.sort_by_key(place);
+            members.sort_by_cached_key(place);
             components.push(members);
         }
-        components.sort_by_key(|members| place(&members[0]));
+        components.sort_by_cached_key(|members| place(&members[0]));
         for members in components {
             out.push_str("component");
             for (face, plus) in members {
@@ -295,10 +314,10 @@ fn report(p: &Pattern) -> String {
         }
     }
     // The Rust's error does not say which shell: that is the first one refused alone.
-    let whole = Solid::try_new(shells.clone()).err();
+    let whole = (asked == Asked::Again).then(|| Solid::try_new(shells.clone()).err());
     let first = (shells.into_iter().enumerate())
         .find_map(|(s, shell)| Solid::try_new(vec![shell]).err().map(|e| (s, e)));
-    assert_eq!(whole, first.map(|(_, e)| e));
+    assert!(whole.map_or(true, |whole| whole == first.map(|(_, e)| e)));
     match first {
         None => out.push_str("solid accepted\n"),
         Some((s, e)) => writeln!(out, "solid refused {} shell {s}", number(e)).unwrap(),
@@ -607,15 +626,15 @@ fn refused_line((number, body, record): Refused) -> String {
     format!("refused {number} body {body} record {record}\n")
 }
 
-fn report_of(bytes: &[u8]) -> String {
-    guarded(|| match read(bytes) {
-        Ok(pattern) => report(&pattern),
+fn report_of(bytes: &[u8], asked: Asked) -> String {
+    guarded(|| match read(bytes, asked) {
+        Ok(pattern) => report(&pattern, asked),
         Err(refused) => refused_line(refused),
     })
 }
 
 fn edits(bytes: &[u8], lines: &str, said: bool) -> String {
-    let mut pattern = match read(bytes) {
+    let mut pattern = match read(bytes, Asked::Again) {
         Ok(pattern) => pattern,
         Err(refused) => return refused_line(refused),
     };
@@ -623,8 +642,8 @@ fn edits(bytes: &[u8], lines: &str, said: bool) -> String {
     for line in lines.lines() {
         writeln!(out, "{line}").unwrap();
         match line {
-            "fresh" => pattern = read(bytes).unwrap(),
-            "report" => out.push_str(&guarded(|| report(&pattern))),
+            "fresh" => pattern = read(bytes, Asked::Again).unwrap(),
+            "report" => out.push_str(&guarded(|| report(&pattern, Asked::Again))),
             _ => out.push_str(&guarded(|| match pattern.edit(line) {
                 Ok(answer) => answer,
                 Err((number, word)) if said => format!("refused {number} {word}\n"),
@@ -635,18 +654,36 @@ fn edits(bytes: &[u8], lines: &str, said: bool) -> String {
     out
 }
 
+extern "C" {
+    /// The processor time of this program; a million to a second, by POSIX.
+    fn clock() -> std::ffi::c_long;
+}
+
+/// The least time of so many reports of these bytes, and the length of one.
+fn least_time(bytes: &[u8], rounds: usize, repeats: usize) -> (std::ffi::c_long, usize) {
+    let now = || unsafe { clock() };
+    let round = |_| {
+        let (start, mut length) = (now(), 0);
+        for _ in 0..repeats {
+            length = black_box(report_of(black_box(bytes), Asked::Once)).len();
+        }
+        (now() - start, length)
+    };
+    (0..rounds).map(round).min().expect("a round")
+}
+
 fn main() {
     std::panic::set_hook(Box::new(|panic| eprintln!("{panic}")));
     let args: Vec<String> = std::env::args().skip(1).collect();
     let file = |path: &str| std::fs::read(path).unwrap_or_else(|e| panic!("{path}: {e}"));
     let name = |path: &str| path.rsplit('/').next().unwrap().to_string();
-    let (word, paths) = args.split_first().expect("report, pack, edit or said");
+    let (word, paths) = args.split_first().expect("report, pack, edit, said or measure");
     let mut out = String::new();
     match word.as_str() {
         "report" => {
             for path in paths {
                 writeln!(out, "file {}", name(path)).unwrap();
-                out.push_str(&report_of(&file(path)));
+                out.push_str(&report_of(&file(path), Asked::Again));
             }
         }
         "pack" => {
@@ -657,7 +694,7 @@ fn main() {
                 while let Some((length, after)) = rest.split_first_chunk::<4>() {
                     let (pattern, after) = after.split_at(u32::from_le_bytes(*length) as usize);
                     writeln!(out, "pattern {k}").unwrap();
-                    out.push_str(&report_of(pattern));
+                    out.push_str(&report_of(pattern, Asked::Again));
                     (rest, k) = (after, k + 1);
                 }
             }
@@ -669,7 +706,15 @@ fn main() {
                 out.push_str(&edits(&file(&pair[0]), &lines, word == "said"));
             }
         }
-        other => panic!("{other}: report, pack, edit or said"),
+        "measure" => {
+            let number = |word: &String| word.parse().expect("a number");
+            let (rounds, repeats) = (number(&paths[0]), number(&paths[1]));
+            for path in &paths[2..] {
+                let (time, length) = least_time(&file(path), rounds, repeats);
+                writeln!(out, "{} {time} {length}", name(path)).unwrap();
+            }
+        }
+        other => panic!("{other}: report, pack, edit, said or measure"),
     }
     std::io::stdout().write_all(out.as_bytes()).unwrap();
 }

@@ -115,6 +115,10 @@ module _ (ps : List ℕ) (i : ℕ) (c : Climbs ps i) where
   pub steps-fall : (Root ps i → ⊥) → steps (length ps) ps (getD ps i 0) < steps (length ps) ps i
   steps-fall o = steps-up (length ps) ps i (c .top) o
 
+-- two with the same parent have the same root
+pub same-parent : (ps : List ℕ) (i j : ℕ) → Climbs ps i → Climbs ps j → getD ps i 0 ≡ getD ps j 0 → rootOf ps i ≡ rootOf ps j
+same-parent ps i j c d e = sym (root-up ps i c) ∙ ap (rootOf ps) e ∙ root-up ps j d
+
 -- root b goes under root a
 module _ (ps : List ℕ) (a b : ℕ) (hb : b < length ps) (ra : Root ps a) (rb : Root ps b) (ne : a ≡ b → ⊥) where
   moved : (k x : ℕ) → Root ps (climb k ps x) → climb (suc k) (set ps b a) x ≡ renamed b a (climb k ps x)

@@ -3,14 +3,15 @@ use Prim.Native.Nat.{_*_, _+_, _<_, _≤_, ℕ}
 use mathlib.Core.Bool.{false, true}
 use mathlib.Core.List.{List}
 use mathlib.Core.Logic.{⊎-elim}
-use mathlib.Core.Path.{_∙_, _≡_, refl, sym}
+use mathlib.Core.Path.{_∙_, _≡_, ap, refl, sym}
 use native.Mathlib.Omega.{arith}
 use lib.Dec.{eqb}
 use lib.ListN.{getD, length, length-set, set}
 use lib.Seq.{getD-set-other, getD-set-same}
 use borrow.Author.Tests.{eq-eqb, eqb-false, eqb-true, le-ltb, lt-ltb, ne-eqb}
+use Rattle.groups.proofs.Climbing.{same-parent}
 use Rattle.groups.proofs.Sums.{sum-change, sum-holds}
-use Rattle.groups.specs.Forest.{Forest, Ready, Root, rootOf, rooted, under, weight}
+use Rattle.groups.specs.Forest.{Forest, Ready, Root, Trees, joined, rootOf, rooted, under, weight}
 use Rattle.lists.proofs.Laws.{cases}
 use Rattle.lists.specs.Lists.{pick, sum, tabulate}
 
@@ -139,6 +140,13 @@ module _ (ps ss : List ℕ) (a b : ℕ) where
   pub rooted-more : (a ≡ b → ⊥) → getD ss b 0 ≤ getD ss a 0 → rooted ps ss a b ≡ under ps ss a b
   unfolding rooted
   rooted-more ne l = rw (ne-eqb a b ne, le-ltb (getD ss a 0) (getD ss b 0) l)
+
+-- two with the same parent are in one tree: nothing changes
+pub joined-alike : (ps ss : List ℕ) (i j : ℕ) → Ready ps ss i j → getD ps i 0 ≡ getD ps j 0
+    → (ps ≡ joined ps ss i j .parents) × (ss ≡ joined ps ss i j .sizes)
+joined-alike ps ss i j r e =
+    let one = rooted-one ps ss (rootOf ps i) (rootOf ps j) (same-parent ps i j (r .left) (r .right) e) in
+    (sym (ap (λ (t : Trees). t .parents) one), sym (ap (λ (t : Trees). t .sizes) one))
 
 pub ready-back : (ps ss : List ℕ) (i j : ℕ) → Ready ps ss i j → Ready ps ss j i
 ready-back ps ss i j r = record {

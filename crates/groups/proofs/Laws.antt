@@ -1,9 +1,9 @@
 -- The trees stand for the groups of the links: at the start for no links, and after a join for one more.
 use Prim.Native.Nat.{_+_, _<_, _≤_, ℕ}
 use mathlib.Core.Bool.{false, true, true≢false}
-use mathlib.Core.List.{List, [], _++_, _∷_}
+use mathlib.Core.List.{List, List·Memᴰ, List·Memᴰ·cases-cons, List·Memᴰ·head, List·Memᴰ·not-nil, List·Memᴰ·tail, [], _++_, _∷_, append-assoc, append-nil}
 use mathlib.Core.Logic.{⊎-elim}
-use mathlib.Core.Path.{_∙_, _≡_, sym}
+use mathlib.Core.Path.{_∙_, _≡_, refl, sym}
 use native.Mathlib.Omega.{arith}
 use lib.Dec.{eqb, ltb}
 use lib.ListN.{List·getD-append, drop, getD, length, length-append, set}
@@ -12,8 +12,8 @@ use Rattle.groups.proofs.Climbing.{climb-root, climbs, root-below, root
 use Rattle.groups.proofs.Joining.{forest-under, rooted-less, rooted-more, rooted-one, two-sizes}
 use Rattle.groups.proofs.Meaning.{Merges, linked-same-group, means-next, means-none, merges-none, merges-renamed, merges-sym, same-linked}
 use Rattle.groups.proofs.Sums.{sum-alike, sum-ones}
-use Rattle.groups.specs.Forest.{Climbs, Forest, Grouped, Ready, Trees, joined, rootOf, rooted, started, under, weight}
-use Rattle.groups.specs.Groups.{Link, Linked, Means, sameGroup}
+use Rattle.groups.specs.Forest.{Climbs, Forest, Grouped, Ready, Trees, joined, joinedAll, rootOf, rooted, started, trees, under, weight}
+use Rattle.groups.specs.Groups.{Inside, Link, Linked, Means, links, sameGroup}
 use Rattle.lists.proofs.Flat.{getD-tabulate}
 use Rattle.lists.proofs.Laws.{cases, length-tabulate}
 use Rattle.lists.specs.Lists.{tabulate}
@@ -74,7 +74,7 @@ module _ (n : ℕ) (ps ss : List ℕ) (few : n < 65536) where
   }
 
 -- ---- a join
-rooted-by : (P : Trees → Type 0) (ps ss : List ℕ) (a b : ℕ) → (a ≡ b → P (record { parents = ps; sizes = ss }))
+pub rooted-by : (P : Trees → Type 0) (ps ss : List ℕ) (a b : ℕ) → (a ≡ b → P (record { parents = ps; sizes = ss }))
     → ((a ≡ b → ⊥) → getD ss a 0 ≤ getD ss b 0 → P (under ps ss b a)) → ((a ≡ b → ⊥) → getD ss b 0 ≤ getD ss a 0 → P (under ps ss a b))
     → P (rooted ps ss a b)
 rooted-by P ps ss a b p q r =
@@ -146,10 +146,29 @@ module _ (n : ℕ) (L : List Link) (ps ss : List ℕ) (g : Grouped n L ps ss) (i
   pub grouped-ready : Ready ps ss i j
   grouped-ready = ready n ps ss (g .forest) i j hi hj
 
+pub grouped-all : (n : ℕ) (L M : List Link) (t : Trees) → Grouped n L (t .parents) (t .sizes) → Inside n M
+    → Grouped n (L ++ M) (joinedAll t M .parents) (joinedAll t M .sizes)
+unfolding joinedAll
+grouped-all n L [] t g i = rw (append-nil L) g
+grouped-all n L (k ∷ M) t g i =
+    let h = i k (List·Memᴰ·head refl) in
+    rw (append-assoc L (k ∷ []) M) at
+    (grouped-all n (L ++ (k ∷ [])) M (joined (t .parents) (t .sizes) (k .a) (k .b))
+    (grouped-join n L (t .parents) (t .sizes) g (k .a) (k .b) (h .0) (h .1))
+    (λ l m. i l (List·Memᴰ·tail m)))
+
+pub inside-links : (n : ℕ) (xs ys : List ℕ) → ((x : ℕ) → List·Memᴰ x xs → x < n) → ((y : ℕ) → List·Memᴰ y ys → y < n) → Inside n (links xs ys)
+unfolding links
+inside-links n [] ys hx hy l m = absurd (List·Memᴰ·not-nil m)
+inside-links n (x ∷ xs) [] hx hy l m = absurd (List·Memᴰ·not-nil m)
+inside-links n (x ∷ xs) (y ∷ ys) hx hy l m =
+    let rest = inside-links n xs ys (λ z o. hx z (List·Memᴰ·tail o)) (λ z o. hy z (List·Memᴰ·tail o)) l in
+    ⊎-elim (λ (e : l ≡ record { a = x; b = y }). rw e (hx x (List·Memᴰ·head refl), hy y (List·Memᴰ·head refl))) rest (List·Memᴰ·cases-cons m)
+
 pub grouped-climbs : (n : ℕ) (L : List Link) (ps ss : List ℕ) → Grouped n L ps ss → (i : ℕ) → i < n → Climbs ps i
 grouped-climbs n L ps ss g i h = climbs n ps ss (g .forest) i h
 
--- the same, of the lists that `start` and `join` ensure
+-- the same, of the lists that `start`, `join` and `join_all` ensure
 pub grouped-begin : (n : ℕ) (ps ss : List ℕ) {ps′ ss′ : List ℕ} → n < 65536 → (ps′ ≡ started n ps ss .parents) × (ss′ ≡ started n ps ss .sizes)
     → Grouped n [] ps′ ss′
 grouped-begin n ps ss few e = rw (e .0, e .1) (grouped-start n ps ss few)
@@ -157,3 +176,12 @@ grouped-begin n ps ss few e = rw (e .0, e .1) (grouped-start n ps ss few)
 pub grouped-next : (n : ℕ) {L L′ : List Link} {ps ss ps′ ss′ : List ℕ} (i j : ℕ) → Grouped n L ps ss → i < n → j < n
     → L′ ≡ L ++ (record { a = i; b = j } ∷ []) → (ps′ ≡ joined ps ss i j .parents) × (ss′ ≡ joined ps ss i j .sizes) → Grouped n L′ ps′ ss′
 grouped-next n {L} {L′} {ps} {ss} i j g hi hj e o = rw (e, o .0, o .1) (grouped-join n L ps ss g i j hi hj)
+
+pub grouped-more : (n : ℕ) {L L′ : List Link} {ps ss ps′ ss′ : List ℕ} (M : List Link) → Grouped n L ps ss → Inside n M → L′ ≡ L ++ M
+    → (ps′ ≡ joinedAll (trees ps ss) M .parents) × (ss′ ≡ joinedAll (trees ps ss) M .sizes) → Grouped n L′ ps′ ss′
+grouped-more n {L} {L′} {ps} {ss} M g i e o = rw (e, o .0, o .1) (grouped-all n L M (trees ps ss) g i)
+
+pub grouped-links : (n : ℕ) {L L′ : List Link} {ps ss ps′ ss′ : List ℕ} (xs ys : List ℕ) → Grouped n L ps ss
+    → ((x : ℕ) → List·Memᴰ x xs → x < n) → ((y : ℕ) → List·Memᴰ y ys → y < n) → L′ ≡ L ++ links xs ys
+    → (ps′ ≡ joinedAll (trees ps ss) (links xs ys) .parents) × (ss′ ≡ joinedAll (trees ps ss) (links xs ys) .sizes) → Grouped n L′ ps′ ss′
+grouped-links n xs ys g hx hy e o = grouped-more n (links xs ys) g (inside-links n xs ys hx hy) e o

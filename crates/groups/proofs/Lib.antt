@@ -5,3 +5,6 @@ pub mod Joining
 pub mod Laws
 pub mod Rooting
 pub mod Cases
+pub mod All
+pub mod Alike
+pub mod Parts

@@ -37,6 +37,9 @@ pub record Trees : Type 0 where
   pub parents : List ℕ
   pub sizes : List ℕ
 
+abbrev pub trees : List ℕ → List ℕ → Trees
+trees parents sizes = record { parents = parents; sizes = sizes }
+
 -- each of the n members is a root of size 1
 abbrev pub started : ℕ → List ℕ → List ℕ → Trees
 started n parents sizes = record {
@@ -51,12 +54,17 @@ under parents sizes a b = record { parents = set parents b a; sizes = set sizes 
 -- of two roots, the one of the smaller tree goes under the other
 unfoldable pub rooted : List ℕ → List ℕ → ℕ → ℕ → Trees
 rooted parents sizes a b =
-    pick (eqb a b) (record { parents = parents; sizes = sizes })
+    pick (eqb a b) (trees parents sizes)
     (pick (ltb (getD sizes a 0) (getD sizes b 0)) (under parents sizes b a) (under parents sizes a b))
 
 -- the trees of members i and j become one
 abbrev pub joined : List ℕ → List ℕ → ℕ → ℕ → Trees
 joined parents sizes i j = rooted parents sizes (rootOf parents i) (rootOf parents j)
+
+-- the trees after the links, in sequence
+unfoldable pub joinedAll : Trees → List Link → Trees
+joinedAll t [] = t
+joinedAll t (k ∷ L) = joinedAll (joined (t .parents) (t .sizes) (k .a) (k .b)) L
 
 -- what joining asks: the ways up from i and j come to roots; these are numbers of 16 bits, have sizes, and the sum of the sizes of two roots is one too
 pub record Ready (parents sizes : List ℕ) (i j : ℕ) : Type 0 where

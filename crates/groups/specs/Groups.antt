@@ -11,6 +11,15 @@ pub record Link : Type 0 where
   pub a : ℕ
   pub b : ℕ
 
+abbrev pub link : ℕ → ℕ → Link
+link a b = record { a = a; b = b }
+
+-- the members of two lists linked, one by one
+unfoldable pub links : List ℕ → List ℕ → List Link
+links [] ys = []
+links (x ∷ xs) [] = []
+links (x ∷ xs) (y ∷ ys) = link x y ∷ links xs ys
+
 -- the meaning: a chain of links joins the two, each link taken along or against
 pub data Linked (L : List Link) : ℕ → ℕ → Type 0 where
   here : {x : ℕ} → Linked L x x

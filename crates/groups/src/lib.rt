@@ -5,7 +5,8 @@ ghost use mathlib.Core.Path.{_≡_};
 ghost use Prim.Native.Nat.{ℕ, _+_, _<_, _≤_};
 ghost use lib.Dec.{eqb};
 ghost use lib.ListN.{length, getD};
-ghost use Rattle.groups.specs.Forest.{Climbs, Ready, joined, oneRoot, rootOf, started, under};
+ghost use Rattle.groups.specs.Forest.{Climbs, Forest, Ready, joined, joinedAll, oneRoot, rootOf, started, trees, under};
+ghost use Rattle.groups.specs.Groups.{links};
 
 // Makes each of n members a group of its own.
 pub fn start(parents: &mut [u16], sizes: &mut [u16], n: usize)
@@ -76,8 +77,8 @@ fn put_under(parents: &mut [u16], sizes: &mut [u16], a: usize, b: usize)
     sizes[a] += sizes[b];
 }
 
-// Joins the groups of members i and j.
-pub fn join(parents: &mut [u16], sizes: &mut [u16], i: usize, j: usize)
+// Joins the groups of members i and j, by their roots.
+fn join_roots(parents: &mut [u16], sizes: &mut [u16], i: usize, j: usize)
     requires { ⌜ Ready (now parents) (now sizes) i j ⌝ }
     ensures { λ _. ⌜ now (parents .exit) ≡ joined (now (parents .entry)) (now (sizes .entry)) i j .parents ⌝ }
     ensures { λ _. ⌜ now (sizes .exit) ≡ joined (now (parents .entry)) (now (sizes .entry)) i j .sizes ⌝ }
@@ -91,5 +92,31 @@ pub fn join(parents: &mut [u16], sizes: &mut [u16], i: usize, j: usize)
         put_under(parents, sizes, b, a);
     } else {
         put_under(parents, sizes, a, b);
+    }
+}
+
+// Joins the groups of members i and j. Two with the same parent are in one group already.
+pub fn join(parents: &mut [u16], sizes: &mut [u16], i: usize, j: usize)
+    requires { ⌜ Ready (now parents) (now sizes) i j ⌝ }
+    ensures { λ _. ⌜ now (parents .exit) ≡ joined (now (parents .entry)) (now (sizes .entry)) i j .parents ⌝ }
+    ensures { λ _. ⌜ now (sizes .exit) ≡ joined (now (parents .entry)) (now (sizes .entry)) i j .sizes ⌝ }
+{
+    if parents[i] == parents[j] {
+        return;
+    }
+    join_roots(parents, sizes, i, j);
+}
+
+// Joins the groups of a[k] and b[k], for each k in sequence. The members are the numbers below n.
+pub fn join_all(parents: &mut [u16], sizes: &mut [u16], n: usize, a: &[u16], b: &[u16])
+    requires { ⌜ Forest n (now parents) (now sizes) ⌝ }
+    requires { ⌜ (length (now b) ≡ length (now a)) × ((k : ℕ) → k < length (now a) → (getD (now a) k 0 < n) × (getD (now b) k 0 < n)) ⌝ }
+    ensures { λ _. ⌜ now (parents .exit) ≡ joinedAll (trees (now (parents .entry)) (now (sizes .entry))) (links (now (a .entry)) (now (b .entry))) .parents ⌝ }
+    ensures { λ _. ⌜ now (sizes .exit) ≡ joinedAll (trees (now (parents .entry)) (now (sizes .entry))) (links (now (a .entry)) (now (b .entry))) .sizes ⌝ }
+{
+    let mut k: usize = 0;
+    while k < a.len() {
+        join(parents, sizes, a[k] as usize, b[k] as usize);
+        k += 1;
     }
 }

@@ -30,7 +30,7 @@ use Rattle.shell.proofs.Turned.{turned-edge, turned-front, turned-low}
 use Rattle.shell.specs.Shells.{faceNumber, listingsOf, shellUses, shellWires, shownWires}
 
 -- a wire as it is, or in reverse order with every use turned
-abbrev shownAs : Bool → List ℕ → List ℕ
+abbrev pub shownAs : Bool → List ℕ → List ℕ
 shownAs b us = pick b (map turned (reverse us)) us
 
 -- the column that a listing's uses stand in
@@ -126,7 +126,7 @@ part-shown counts wires uses e f m true =
     part-padded counts wires (turnedUses wires uses) f m (omega (arith, starts-inside counts wires uses e (suc f), turned-long wires uses e))
 part-shown counts wires uses e f m false = refl
 
-shown-keeps : (b : Bool) (us : List ℕ) → length (shownAs b us) ≡ length us
+pub shown-keeps : (b : Bool) (us : List ℕ) → length (shownAs b us) ≡ length us
 shown-keeps true us = turned-keeps us
 shown-keeps false us = refl
 
@@ -154,7 +154,7 @@ module _ (counts wires uses : List ℕ) (e : sum wires ≡ length uses) where
   pub listing-part : (l : ℕ) → flat (shownWires (split counts (split wires uses)) l) ≡ facePart counts wires (faceNumber l) (column wires uses (leb 32768 l))
   listing-part l = face-part (leb 32768 l) (faceNumber l)
 
-flat-flat {ℓ ℓ′} : {A : Type ℓ} {B : Type ℓ′} (g : A → List (List B)) (h : A → List B) → ((x : A) → flat (g x) ≡ h x) → (xs : List A)
+pub flat-flat {ℓ ℓ′} : {A : Type ℓ} {B : Type ℓ′} (g : A → List (List B)) (h : A → List B) → ((x : A) → flat (g x) ≡ h x) → (xs : List A)
     → flat (flat (map g xs)) ≡ flat (map h xs)
 unfolding flat
 flat-flat g h e [] = refl

@@ -7,7 +7,7 @@ ghost use lib.ListN.{drop, length, take};
 ghost use lib.Seq.{sets};
 ghost use Rattle.lists.specs.Lists.{padded, pick, sum, tabulate};
 ghost use Rattle.edge.specs.Uses.{turned};
-ghost use Rattle.listing.specs.Parts.{faceStart, turnedUses};
+ghost use Rattle.listing.specs.Parts.{faceStart, partAt, Shows, turnedUses};
 use words::index;
 use words::sum_of;
 
@@ -88,4 +88,13 @@ pub fn shown<'a>(
         return &turned[start..end];
     }
     &uses[start..end]
+}
+
+// The uses that listing l shows; `starts` says where the uses of each face begin.
+pub fn part_of<'a>(uses: &'a [u16], turned: &'a [u16], starts: &[usize], l: u16) -> &'a [u16]
+    requires { ⌜ Shows (now uses) (now turned) (now starts) l ⌝ }
+    ensures { λ r. ⌜ now r ≡ partAt (now (uses .entry)) (now (turned .entry)) (now (starts .entry)) l ⌝ }
+{
+    let f = index(l % 32768);
+    shown(uses, turned, starts[f], starts[f + 1], 32768 <= l)
 }

@@ -63,3 +63,12 @@ module _ {ℓ} {A : Type ℓ} where
   -- the list, with d after it up to length n
   abbrev pub padded : ℕ → A → List A → List A
   padded n d xs = xs ++ replicate (n - length xs) d
+
+-- 0, 1, .., n of them
+abbrev pub numbers : ℕ → List ℕ
+numbers n = tabulate n (λ (k : ℕ). k)
+
+-- each number once, where it first stands
+unfoldable pub once : List ℕ → List ℕ
+once [] = []
+once (p ∷ ps) = p ∷ only (λ (q : ℕ). not (eqb p q)) (once ps)

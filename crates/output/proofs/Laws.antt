@@ -53,7 +53,7 @@ pub length-more : (n : ℕ) → 10 ≤ n → length (decimal n) ≡ length (deci
 length-more n h = ap length (decimal-more n h) ∙ length-append (decimal (n / 10)) (digit (n % 10))
 
 -- a number below 10 to the k + 1 has at most k + 1 digits
-decimal-short : (k n : ℕ) → n < 10 ^ suc k → length (decimal n) ≤ suc k
+pub decimal-short : (k n : ℕ) → n < 10 ^ suc k → length (decimal n) ≤ suc k
 decimal-short zero n h = omega (arith, length-one n (omega arith))
 decimal-short (suc k) n h =
     ⊎-elim

@@ -43,8 +43,9 @@ pub fn put_field(out: &mut [u8], at: usize, text: &[u8], n: usize) -> usize
     put_decimal(out, number, n)
 }
 
-// Writes the line of a refusal, and returns its length.
-pub fn refusal_line(f: Refusal, out: &mut [u8; 96]) -> usize
+// Writes the line of a refusal from the first place on, and returns its length.
+pub fn put_refusal(f: Refusal, out: &mut [u8]) -> usize
+    requires { ⌜ 96 ≤ length (now out) ⌝ }
     ensures { λ r. ⌜ (now (out .exit) ≡ sets (now (out .entry)) 0 (refusalLine f)) × (r ≡ length (refusalLine f)) × (r ≤ 96) ⌝ }
 {
     let n = errors::number_of(f);
@@ -54,4 +55,11 @@ pub fn refusal_line(f: Refusal, out: &mut [u8; 96]) -> usize
     at = put_field(out, at, b" body ", b);
     at = put_field(out, at, b" record ", k);
     put_text(out, at, b"\n")
+}
+
+// The same, for any refusal.
+pub fn refusal_line(f: Refusal, out: &mut [u8; 96]) -> usize
+    ensures { λ r. ⌜ (now (out .exit) ≡ sets (now (out .entry)) 0 (refusalLine f)) × (r ≡ length (refusalLine f)) × (r ≤ 96) ⌝ }
+{
+    put_refusal(f, out)
 }

@@ -1,4 +1,5 @@
 pub mod Laws
 pub mod Counts
 pub mod Named
+pub mod Edges
 pub mod Outlines

@@ -45,6 +45,15 @@ recordFaults c =
     ++ sumFaults 5 (c .shells) (length (c .listings))
     ++ each (nameFaults 6 (length (c .faces))) 0 (c .listings)
 
+-- the records after the edges, of which there are so many; the faces are given by their numbers of wires
+abbrev pub listFaults : ℕ → List ℕ → List ℕ → List ℕ → List ℕ → List ℕ → List Refusal
+listFaults edges uses wires counts shells listings =
+    each (nameFaults 2 edges) 0 uses
+    ++ sumFaults 3 wires (length uses)
+    ++ sumFaults 4 counts (length wires)
+    ++ sumFaults 5 shells (length listings)
+    ++ each (nameFaults 6 (length counts)) 0 listings
+
 -- the outlines of each face
 abbrev pub outlines : Content → List (List (List ℕ))
 outlines c = split (map wireCount (c .faces)) (split (c .wires) (c .uses))

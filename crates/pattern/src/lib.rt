@@ -5,15 +5,12 @@ ghost use Prim.Native.Nat.{_+_, _<_, _≤_};
 ghost use lib.ListN.{length, getD, take};
 ghost use Rattle.lists.specs.Lists.{split, sum};
 ghost use Rattle.errors.specs.Faults.{first as firstFault, each};
-ghost use Rattle.edge.specs.Edges.{backNumber, frontNumber};
 ghost use Rattle.wire.specs.Wires.{Named};
 ghost use Rattle.face.specs.Faces.{faceRule};
 ghost use Rattle.pattern.specs.Contents.{layout, content};
-ghost use Rattle.pattern.specs.Checks.{countFaults, edgeFaults, nameFaults, sumFaults, recordFaults, contentFaults, outlines, patternFaults};
+ghost use Rattle.pattern.specs.Checks.{countFaults, edgeFaults, nameFaults, sumFaults, listFaults, contentFaults, patternFaults};
 ghost use Rattle.pattern.specs.Outlines.{placeNumber, wirePlace};
 use edge::Edge;
-use edge::backs_of;
-use edge::fronts_of;
 use errors::Check;
 use errors::Refusal;
 use errors::number_of;
@@ -90,26 +87,6 @@ fn check_edge(e: Edge, k: usize, points: usize) -> Check
     Check::Accepted
 }
 
-// The first n edges.
-fn check_edges(edges: [Edge; 1024], n: usize, points: usize) -> Check
-    requires { ⌜ n ≤ 1024 ⌝ }
-    ensures { λ r. ⌜ r ≡ firstFault (each (edgeFaults points) 0 (take n edges)) ⌝ }
-{
-    let mut k: usize = 0;
-    while k < n {
-        let e = edges[k];
-        let answer = check_edge(e, k, points);
-        match answer {
-            Check::Refused(f) => {
-                return Check::Refused(f);
-            }
-            Check::Accepted => {}
-        }
-        k += 1;
-    }
-    Check::Accepted
-}
-
 // The first n uses or listings: 3.
 fn check_names(numbers: &[u16], n: usize, body: usize, names: usize) -> Check
     requires { ⌜ n ≤ length (now numbers) ⌝ }
@@ -137,27 +114,28 @@ fn check_sum(ns: &[u16], n: usize, body: usize, total: usize) -> Check
     }
 }
 
-// Edges, uses, sums, listings.
-fn check_records(p: Pattern) -> Check
-    requires { ⌜ countFaults (p .counts) ≡ [] ⌝ }
-    ensures { λ r. ⌜ r ≡ firstFault (recordFaults (content p)) ⌝ }
+// The records after the edges, of which there are `ecount`: uses, sums, listings.
+fn check_lists<'a>(
+    uses: &'a [u16],
+    ucount: usize,
+    ecount: usize,
+    wires: &'a [u16],
+    wcount: usize,
+    counts: &[u16],
+    fcount: usize,
+    shells: &'a [u16],
+    scount: usize,
+    listings: &'a [u16],
+    lcount: usize,
+) -> Check
+    requires { ⌜ (ucount ≤ length (now uses)) × (wcount ≤ length (now wires)) × (wcount ≤ 1024) × (fcount ≤ length (now counts)) × (fcount ≤ 256) × (scount ≤ length (now shells)) × (scount ≤ 16) × (lcount ≤ length (now listings)) ⌝ }
+    ensures { λ r. ⌜ r ≡ firstFault (listFaults ecount (take ucount (now (uses .entry))) (take wcount (now (wires .entry))) (take fcount (now (counts .entry))) (take scount (now (shells .entry))) (take lcount (now (listings .entry)))) ⌝ }
 {
-    let points = p.counts[0];
-    let edges = p.counts[1];
-    let uses = p.counts[2];
-    let wires = p.counts[3];
-    let faces = p.counts[4];
-    let shells = p.counts[5];
-    let listings = p.counts[6];
-    let edge_table = p.edges;
-    let face_table = p.faces;
-    let counts = wire_counts(face_table);
-    check_edges(edge_table, edges, points)
-        .and_then(check_names(&p.uses, uses, 2, edges))
-        .and_then(check_sum(&p.wires, wires, 3, uses))
-        .and_then(check_sum(&counts, faces, 4, wires))
-        .and_then(check_sum(&p.shells, shells, 5, listings))
-        .and_then(check_names(&p.listings, listings, 6, faces))
+    check_names(uses, ucount, 2, ecount)
+        .and_then(check_sum(wires, wcount, 3, ucount))
+        .and_then(check_sum(counts, fcount, 4, wcount))
+        .and_then(check_sum(shells, scount, 5, lcount))
+        .and_then(check_names(listings, lcount, 6, fcount))
 }
 
 // The face rule over the first records of the tables.
@@ -187,42 +165,63 @@ fn check_tables<'a>(
     )
 }
 
-// The face rule, where the records are right.
-fn check_outlines(p: Pattern) -> Check
-    requires { ⌜ (countFaults (p .counts) ≡ []) × (recordFaults (content p) ≡ []) ⌝ }
-    ensures { λ r. ⌜ r ≡ firstFault (faceRule (map frontNumber (content p .edges)) (map backNumber (content p .edges)) 0 (outlines (content p))) ⌝ }
-{
-    let ecount = p.counts[1];
-    let ucount = p.counts[2];
-    let wcount = p.counts[3];
-    let fcount = p.counts[4];
-    let edges = p.edges;
-    let faces = p.faces;
-    let fronts = fronts_of(edges);
-    let backs = backs_of(edges);
-    let counts = wire_counts(faces);
-    check_tables(
-        &p.uses,
-        ucount,
-        &p.wires,
-        wcount,
-        &counts,
-        fcount,
-        &fronts,
-        &backs,
-        ecount,
-    )
-}
-
-// The reading checks after the counts.
+// The reading checks after the counts: edges, other records, the face rule. The edges are read in
+// place, and their ends kept.
 pub fn check_content(p: Pattern) -> Check
     requires { ⌜ countFaults (p .counts) ≡ [] ⌝ }
     ensures { λ r. ⌜ r ≡ firstFault (contentFaults (content p)) ⌝ }
 {
-    let records = check_records(p);
+    let mut fronts = [0u16; 1024];
+    let mut backs = [0u16; 1024];
+    let points = p.counts[0];
+    let ecount = p.counts[1];
+    let mut k: usize = 0;
+    while k < ecount {
+        let e = p.edges[k];
+        let answer = check_edge(e, k, points);
+        match answer {
+            Check::Refused(f) => {
+                return Check::Refused(f);
+            }
+            Check::Accepted => {}
+        }
+        fronts[k] = e.front.0;
+        backs[k] = e.back.0;
+        k += 1;
+    }
+    let ucount = p.counts[2];
+    let wcount = p.counts[3];
+    let fcount = p.counts[4];
+    let scount = p.counts[5];
+    let lcount = p.counts[6];
+    let faces = p.faces;
+    let counts = wire_counts(faces);
+    let records = check_lists(
+        &p.uses,
+        ucount,
+        ecount,
+        &p.wires,
+        wcount,
+        &counts,
+        fcount,
+        &p.shells,
+        scount,
+        &p.listings,
+        lcount,
+    );
     match records {
         Check::Refused(f) => Check::Refused(f),
-        Check::Accepted => check_outlines(p),
+        Check::Accepted => check_tables(
+            &p.uses,
+            ucount,
+            &p.wires,
+            wcount,
+            &counts,
+            fcount,
+            &fronts,
+            &backs,
+            ecount,
+        ),
     }
 }
 

@@ -41,11 +41,9 @@ fn answer(bytes: &[u8]) {
 }
 
 fn replay(k: usize) {
-    let mut name = [0u8; 64];
-    let length = os::arg(k, &mut name);
-    io::write_all(STDOUT_FILENO, &name[..length]);
+    console::print_argument(STDOUT_FILENO, k);
     io::write_all(STDOUT_FILENO, b" ");
-    let fd = os::open_read(&name[..length]);
+    let fd = console::open_argument(k);
     if fd < 0 {
         io::write_all(STDOUT_FILENO, b"not found\n");
         return;

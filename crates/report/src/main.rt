@@ -1,5 +1,4 @@
-// Reads one pattern file on standard input, to its end, and prints what is refused.
-use errors::Check;
+// Reads one pattern file on standard input, to its end, and prints its report.
 use libc::STDIN_FILENO;
 use libc::STDOUT_FILENO;
 
@@ -18,16 +17,11 @@ fn drain() {
 fn main() {
     // One byte more than the longest file.
     let mut bytes = [0u8; 41049];
+    let mut text = [0u8; 1126400];
     let n = io::read_full(STDIN_FILENO, &mut bytes);
     if n == 41049 {
         drain();
     }
-    let reading = reader::read(&bytes[..n]);
-    let answer = reading.answer;
-    match answer {
-        Check::Refused(f) => {
-            console::print_refusal(STDOUT_FILENO, f);
-        }
-        Check::Accepted => {}
-    }
+    let length = report_text::report(&bytes[0..n], &mut text);
+    console::print_report(STDOUT_FILENO, &text, length);
 }

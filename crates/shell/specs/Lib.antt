@@ -3,3 +3,6 @@ pub mod Conditions
 pub mod Openings
 pub mod OpeningsHold
 pub mod OnePass
+pub mod Connected
+pub mod Components
+pub mod Singular

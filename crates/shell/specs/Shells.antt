@@ -24,9 +24,13 @@ shownWires faces l = map (shownWire l) (getD faces (faceNumber l) [])
 abbrev pub listingsOf : Content → ℕ → List ℕ
 listingsOf c n = getD (split (c .shells) (c .listings)) n []
 
+-- the faces of a shell, each with the wires that its listing shows
+abbrev pub shellFaces : Content → ℕ → List (List (List ℕ))
+shellFaces c n = map (shownWires (outlines c)) (listingsOf c n)
+
 -- the wires of a shell, listing by listing
 unfoldable pub shellWires : Content → ℕ → List (List ℕ)
-shellWires c n = flat (map (shownWires (outlines c)) (listingsOf c n))
+shellWires c n = flat (shellFaces c n)
 
 -- the uses of a shell are those of its listings, in sequence
 abbrev pub shellUses : Content → ℕ → List ℕ

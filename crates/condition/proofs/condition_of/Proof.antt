@@ -1,29 +1,28 @@
--- The worst at each turn is the lowest that the edges so far make.
-use Prim.Native.Nat.{_-_, _≤_}
-use mathlib.Core.Path.{_≡_}
+-- At each turn: the lowest that the edges so far make of the condition.
+use Prim.Native.Nat.{_-_}
 use native.Mathlib.Omega.{arith}
-use lib.ListN.{length, take}
 use borrow.Author.Needs.{needs}
-use Rattle.condition.proofs.Laws.{lowest-all, lowest-next}
+use Rattle.condition.proofs.Loops.{Joining, joining-all, joining-next, joining-start}
 use Rattle.condition.proofs.condition_of.Statement.{statement}
-use Rattle.condition.specs.Tallies.{lowest}
 use Rattle.condition.proofs.condition_of.Tie as tie
 
 abbrev Inv-loop : tie.InvT-loop
-Inv-loop n t worst₀ e₀ worst e = (e ≤ n) × (worst .0 ≡ lowest (take e (t .codes)))
+Inv-loop n t closed₀ e₀ closed e = Joining t n (closed .0) e
 
 abbrev μ-loop : tie.MeasureT-loop
-μ-loop n t worst₀ e₀ worst e = n - e
+μ-loop n t closed₀ e₀ closed e = n - e
 
 loop-holds : tie.Need-loop-holds Inv-loop μ-loop
-unfolding lowest
-loop-holds c = search needs
+loop-holds c = joining-start (c .args .t1) (c .args .n)
 
-element-copy-out-code-condition : tie.Need-element-copy-out-code-condition Inv-loop μ-loop
-element-copy-out-code-condition c = search needs
+element-copy-out-state-in : tie.Need-element-copy-out-state-in Inv-loop μ-loop
+element-copy-out-state-in c = search needs
 
-code-condition-requires : tie.Need-code-condition-requires Inv-loop μ-loop
-code-condition-requires c κs = search needs
+state-in-requires : tie.Need-state-in-requires Inv-loop μ-loop
+state-in-requires c κs = search needs
+
+state-condition-requires : tie.Need-state-condition-requires Inv-loop μ-loop
+state-condition-requires c κs = search needs
 
 join-requires : tie.Need-join-requires Inv-loop μ-loop
 join-requires c κs = search needs
@@ -35,16 +34,13 @@ loop-less : tie.Need-loop-less Inv-loop μ-loop
 loop-less c = search needs
 
 loop-again : tie.Need-loop-again Inv-loop μ-loop
-loop-again c =
-    let long : length (c .before .before .before .before .before .args .t1 .codes) ≡ 1024 = search needs in (
-      omega arith,
-      lowest-next (c .before .before .before .before .before .args .t1 .codes) (c .before .before .before .before .loop .e) (c .before .before .before .before .loop .worst .0) (c .before .code-condition .result .0) (c .join .result .0)
-          (omega arith) (c .before .before .before .before .loop .inv .1) (c .before .code-condition .ensures) (c .join .ensures),
-    )
+loop-again c = joining-next _ _ _ _ (c .before .before .before .before .before .loop .inv) (c .before .before .before .before .loop-test .taken) _ _ _ (c .before .before .state-in .ensures .0) (c .before .state-condition .ensures) (c .join .ensures)
+
+join-requires-2 : tie.Need-join-requires-2 Inv-loop μ-loop
+join-requires-2 c κs = search needs
 
 returns : tie.Need-returns Inv-loop μ-loop
-returns c =
-    lowest-all (c .before .before .args .t1 .codes) (c .before .loop .e) (c .before .before .args .n) (c .before .loop .worst .0) (c .before .loop .inv .0) (omega arith) (c .before .loop .inv .1)
+returns c = joining-all _ _ _ _ (c .before .before .loop .inv) (omega arith) _ (c .join2 .ensures)
 
 pub condition-of-spec : {M : Type 1} → statement M
 condition-of-spec =
@@ -53,10 +49,12 @@ condition-of-spec =
     Inv-loop
     μ-loop
     loop-holds
-    element-copy-out-code-condition
-    code-condition-requires
+    element-copy-out-state-in
+    state-in-requires
+    state-condition-requires
     join-requires
     add-e
     loop-less
     loop-again
+    join-requires-2
     returns)

@@ -1,44 +1,65 @@
 -- The tally at each turn, after the rest of the part, is the tally after the whole part.
 use Prim.Native.Nat.{_-_}
-use mathlib.Core.Path.{_≡_, refl}
 use native.Mathlib.Omega.{arith}
-use lib.ListN.{drop, length}
+use lib.ListN.{length}
 use borrow.Author.Needs.{needs}
-use Rattle.condition.proofs.Laws.{inserted-all, inserted-next}
+use Rattle.condition.proofs.Loops.{Inserting, inserting-all, inserting-four, inserting-one, inserting-start}
 use Rattle.condition.proofs.tally_part.Statement.{statement}
-use Rattle.condition.specs.Tallies.{insertedAll}
 use Rattle.condition.proofs.tally_part.Tie as tie
 
 abbrev Inv-loop : tie.InvT-loop
-Inv-loop t₀ part i₀ t i = insertedAll t₀ part ≡ insertedAll t (drop i part)
+Inv-loop t₀ part i₀ t i = Inserting part t₀ i₀ t i
 
 abbrev μ-loop : tie.MeasureT-loop
 μ-loop t₀ part i₀ t i = length part - i
 
-loop-holds : tie.Need-loop-holds Inv-loop μ-loop
-loop-holds c = refl
+abbrev Inv-loop2 : tie.InvT-loop2
+Inv-loop2 t₀ part i₀ t i = Inserting part t₀ i₀ t i
 
-mul-insert : tie.Need-mul-insert Inv-loop μ-loop
-mul-insert c = search needs
+abbrev μ-loop2 : tie.MeasureT-loop2
+μ-loop2 t₀ part i₀ t i = length part - i
 
-shared-slice-read-insert : tie.Need-shared-slice-read-insert Inv-loop μ-loop
-shared-slice-read-insert c = search needs
+loop-holds : tie.Need-loop-holds Inv-loop μ-loop Inv-loop2 μ-loop2
+loop-holds c = inserting-start _ (c .before .args .t) 0 (omega arith)
 
-insert-requires : tie.Need-insert-requires Inv-loop μ-loop
-insert-requires c κs = c .before .before .before .before .pre (c .before .before .loop .i) (c .before .loop-test .taken)
+sub-loop : tie.Need-sub-loop Inv-loop μ-loop Inv-loop2 μ-loop2
+sub-loop c = search needs
 
-add-i : tie.Need-add-i Inv-loop μ-loop
+insert-four-requires : tie.Need-insert-four-requires Inv-loop μ-loop Inv-loop2 μ-loop2
+insert-four-requires c κs = (omega (arith, c .before .loop .inv .low), c .before .before .before .pre)
+
+add-i : tie.Need-add-i Inv-loop μ-loop Inv-loop2 μ-loop2
 add-i c = search needs
 
-loop-less : tie.Need-loop-less Inv-loop μ-loop
+loop-less : tie.Need-loop-less Inv-loop μ-loop Inv-loop2 μ-loop2
 loop-less c = search needs
 
-loop-again : tie.Need-loop-again Inv-loop μ-loop
-loop-again c =
-    inserted-next (c .before .before .before .before .before .args .t) (c .before .before .before .loop .t) (c .before .before .before .before .before .args .part .now) (c .before .before .before .loop .i) (omega arith) (c .before .before .before .loop .inv) (c .insert .result) (c .insert .ensures)
+loop-again : tie.Need-loop-again Inv-loop μ-loop Inv-loop2 μ-loop2
+loop-again c = inserting-four _ _ _ _ _ (c .before .before .loop .inv) (c .before .loop-test .taken) _ (c .insert-four .ensures)
 
-returns : tie.Need-returns Inv-loop μ-loop
-returns c = inserted-all (c .before .before .before .args .t) (c .before .loop .t) (c .before .before .before .args .part .now) (c .before .loop .i) (omega arith) (c .before .loop .inv)
+loop2-holds : tie.Need-loop2-holds Inv-loop μ-loop Inv-loop2 μ-loop2
+loop2-holds c = inserting-start _ (c .before .loop .t) (c .before .loop .i) (c .before .loop .inv .low)
+
+mul-insert : tie.Need-mul-insert Inv-loop μ-loop Inv-loop2 μ-loop2
+mul-insert c = search needs
+
+shared-slice-read-insert : tie.Need-shared-slice-read-insert Inv-loop μ-loop Inv-loop2 μ-loop2
+shared-slice-read-insert c = search needs
+
+insert-requires : tie.Need-insert-requires Inv-loop μ-loop Inv-loop2 μ-loop2
+insert-requires c κs = c .before .before .before .before .before .before .pre (c .before .before .loop2 .i) (c .before .loop2-test .taken)
+
+add-i-2 : tie.Need-add-i-2 Inv-loop μ-loop Inv-loop2 μ-loop2
+add-i-2 c = search needs
+
+loop2-less : tie.Need-loop2-less Inv-loop μ-loop Inv-loop2 μ-loop2
+loop2-less c = search needs
+
+loop2-again : tie.Need-loop2-again Inv-loop μ-loop Inv-loop2 μ-loop2
+loop2-again c = inserting-one _ _ _ _ _ (c .before .before .before .loop2 .inv) (c .before .before .loop2-test .taken) _ (c .insert .ensures)
+
+returns : tie.Need-returns Inv-loop μ-loop Inv-loop2 μ-loop2
+returns c = inserting-all _ _ _ _ _ _ (c .before .before .before .loop .inv) (c .before .loop2 .inv) (omega arith)
 
 pub tally-part-spec : {M : Type 1} → statement M
 tally-part-spec =
@@ -46,11 +67,19 @@ tally-part-spec =
     (tie.spec
     Inv-loop
     μ-loop
+    Inv-loop2
+    μ-loop2
     loop-holds
-    mul-insert
-    shared-slice-read-insert
-    insert-requires
+    sub-loop
+    insert-four-requires
     add-i
     loop-less
     loop-again
+    loop2-holds
+    mul-insert
+    shared-slice-read-insert
+    insert-requires
+    add-i-2
+    loop2-less
+    loop2-again
     returns)

@@ -1,84 +1,47 @@
--- The roots are what the two finds answer; each way out is one case of the definition.
-use mathlib.Core.Path.{_∙_, ap, sym}
-use native.Mathlib.Omega.{arith}
+-- Two with the same parent are in one tree; the others are joined by their roots.
 use borrow.Author.Needs.{needs}
-use Rattle.groups.proofs.Joining.{ready-back, ready-under, rooted-less, rooted-more, rooted-one}
+use Rattle.groups.proofs.Climbing.{climbs-in}
+use Rattle.groups.proofs.Joining.{joined-alike}
 use Rattle.groups.proofs.join.Statement.{statement}
-use Rattle.groups.specs.Forest.{Trees, rootOf}
 use Rattle.groups.proofs.join.Tie as tie
 
-find-requires : tie.Need-find-requires
-find-requires c κs = search needs
+mul-if1 : tie.Need-mul-if1
+mul-if1 c = let h = climbs-in _ _ (c .before .before .pre .left) in search needs
 
-find-requires-2 : tie.Need-find-requires-2
-find-requires-2 c κs = search needs
+slice-read-if1 : tie.Need-slice-read-if1
+slice-read-if1 c = climbs-in _ _ (c .before .before .before .pre .left)
+
+mul-if1-2 : tie.Need-mul-if1-2
+mul-if1-2 c = let h = climbs-in _ _ (c .before .before .before .pre .right) in search needs
+
+slice-read-if1-2 : tie.Need-slice-read-if1-2
+slice-read-if1-2 c = climbs-in _ _ (c .before .before .before .before .pre .right)
+
+returns : tie.Need-returns
+returns c = joined-alike _ _ _ _ (c .before .before .before .before .before .pre) (c .if1 .taken)
+
+join-roots-requires : tie.Need-join-roots-requires
+join-roots-requires c κs = search needs
 
 same-length : tie.Need-same-length
 same-length c = search needs
 
-returns : tie.Need-returns
-returns c =
-    let s = c .before .before .before .before .before .before .before .args in
-    let e = rooted-one (s .parents .now) (s .sizes .now) (rootOf (s .parents .now) (s .i)) (rootOf (s .parents .now) (s .j)) (sym (c .before .before .before .find .ensures) ∙ c .if1 .taken ∙ c .before .find2 .ensures) in
-    (sym (ap (λ (t : Trees). t .parents) e), sym (ap (λ (t : Trees). t .sizes) e))
-
-mul-if2 : tie.Need-mul-if2
-mul-if2 c = search needs
-
-slice-read-if2 : tie.Need-slice-read-if2
-slice-read-if2 c = search needs
-
-mul-if2-2 : tie.Need-mul-if2-2
-mul-if2-2 c = search needs
-
-slice-read-if2-2 : tie.Need-slice-read-if2-2
-slice-read-if2-2 c = search needs
-
-put-under-requires : tie.Need-put-under-requires
-put-under-requires c κs = ready-under _ _ _ _ _ _ (ready-back _ _ _ _ (c .before .before .before .before .before .before .before .before .before .before .before .before .pre)) (c .before .before .before .before .before .before .find2 .ensures) (c .before .before .before .before .before .before .before .before .find .ensures) (λ e. c .before .before .before .before .before .if1 .left (sym e))
-
-put-under-requires-2 : tie.Need-put-under-requires-2
-put-under-requires-2 c κs = ready-under _ _ _ _ _ _ (c .before .before .before .before .before .before .before .before .before .before .before .before .pre) (c .before .before .before .before .before .before .before .before .find .ensures) (c .before .before .before .before .before .before .find2 .ensures) (c .before .before .before .before .before .if1 .left)
-
 same-length-2 : tie.Need-same-length-2
 same-length-2 c = search needs
 
-same-length-3 : tie.Need-same-length-3
-same-length-3 c = search needs
-
 returns-2 : tie.Need-returns-2
-returns-2 c =
-    let s = c .before .before .before .before .before .before .before .before .before .before .before .before .before .before .before .before .before .args in
-    rw (← c .before .before .before .before .before .before .before .before .before .before .before .find2 .ensures, ← c .before .before .before .before .before .before .before .before .before .before .before .before .before .find .ensures, rooted-less (s .parents .now) (s .sizes .now) (c .before .before .before .before .before .before .before .before .before .before .before .before .before .find .result) (c .before .before .before .before .before .before .before .before .before .before .before .find2 .result) (c .before .before .before .before .before .before .before .before .before .before .if1 .left) (c .before .before .before .before .before .before .before .if2 .taken)) (c .before .before .before .before .put-under .ensures)
-
-same-length-4 : tie.Need-same-length-4
-same-length-4 c = search needs
-
-same-length-5 : tie.Need-same-length-5
-same-length-5 c = search needs
-
-returns-3 : tie.Need-returns-3
-returns-3 c =
-    let s = c .before .before .before .before .before .before .before .before .before .before .before .before .before .before .before .before .before .args in
-    rw (← c .before .before .before .before .before .before .before .before .before .before .before .find2 .ensures, ← c .before .before .before .before .before .before .before .before .before .before .before .before .before .find .ensures, rooted-more (s .parents .now) (s .sizes .now) (c .before .before .before .before .before .before .before .before .before .before .before .before .before .find .result) (c .before .before .before .before .before .before .before .before .before .before .before .find2 .result) (c .before .before .before .before .before .before .before .before .before .before .if1 .left) (omega (arith, c .before .before .before .before .before .before .before .if2 .left))) (c .before .before .before .before .put-under2 .ensures)
+returns-2 c = search needs
 
 pub join-spec : {M : Type 1} → statement M
 join-spec =
     tie.close
     (tie.spec
-    find-requires
-    find-requires-2
-    same-length
+    mul-if1
+    slice-read-if1
+    mul-if1-2
+    slice-read-if1-2
     returns
-    mul-if2
-    slice-read-if2
-    mul-if2-2
-    slice-read-if2-2
-    put-under-requires
-    put-under-requires-2
+    join-roots-requires
+    same-length
     same-length-2
-    same-length-3
-    returns-2
-    same-length-4
-    same-length-5
-    returns-3)
+    returns-2)

@@ -1,4 +1,0 @@
-pub mod Laws
-pub mod Shells
-pub mod Answers
-pub mod Theorem

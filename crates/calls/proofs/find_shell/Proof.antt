@@ -1,0 +1,59 @@
+-- The checks first; then the number of shells.
+use mathlib.Core.List.{[]}
+use mathlib.Core.Path.{_∙_, _≡_, sym}
+use native.Mathlib.Omega.{arith}
+use lib.ListN.{getD, length}
+use lib.Seq.{length-take-le}
+use borrow.Author.Needs.{needs}
+use Rattle.calls.proofs.Answers.{presence-none, presence-refused, presence-there}
+use Rattle.calls.proofs.find_shell.Statement.{statement}
+use Rattle.errors.proofs.Laws.{accepted-none, none-left}
+use Rattle.pattern.proofs.Counts.{count-kept}
+use Rattle.pattern.specs.Checks.{contentFaults, countFaults, patternFaults}
+use Rattle.pattern.specs.Contents.{content}
+use Rattle.calls.proofs.find_shell.Tie as tie
+
+passed : (c : tie.After-enum-told) → patternFaults (c .before .before .before .args .t1) ≡ []
+passed c = accepted-none (patternFaults (c .before .before .before .args .t1)) (sym (c .before .before .check .ensures) ∙ c .enum-told .given .1)
+
+counts-long : (s : tie.Start) → length (s .args .t1 .counts) ≡ 7
+counts-long s = search needs
+
+shells-long : (s : tie.Start) → length (s .args .t1 .shells) ≡ 16
+shells-long s = search needs
+
+shells : (c : tie.After-enum-told) → length (content (c .before .before .before .args .t1) .shells) ≡ getD (c .before .before .before .args .t1 .counts) 5 0
+shells c =
+    let p = c .before .before .before .args .t1 in
+    let few = count-kept (p .counts) 5 (none-left (countFaults (p .counts)) (contentFaults (content p)) (passed c)) (omega (arith, counts-long (c .before .before .before))) in
+    length-take-le (getD (p .counts) 5 0) (p .shells) (omega (arith, few, shells-long (c .before .before .before)))
+
+check-requires : tie.Need-check-requires
+check-requires c κs = search needs
+
+enum-known-answer : tie.Need-enum-known-answer
+enum-known-answer c = search needs
+
+returns : tie.Need-returns
+returns c =
+    let a = c .before .before .before .before .args in
+    presence-refused (patternFaults (a .t1)) (content (a .t1)) (a .n) _ (sym (c .before .before .before .check .ensures) ∙ c .before .answer .given .1)
+
+enum-told : tie.Need-enum-told
+enum-told c = search needs
+
+element-copy-out-shells : tie.Need-element-copy-out-shells
+element-copy-out-shells c = search needs
+
+returns-2 : tie.Need-returns-2
+returns-2 c =
+    let a = c .before .before .before .before .before .args in
+    presence-none (patternFaults (a .t1)) (passed (c .before .before)) (content (a .t1)) (a .n) (omega (arith, c .if1 .taken, shells (c .before .before)))
+
+returns-3 : tie.Need-returns-3
+returns-3 c =
+    let a = c .before .before .before .before .before .args in
+    presence-there (patternFaults (a .t1)) (passed (c .before .before)) (content (a .t1)) (a .n) (omega (arith, c .if1 .left, shells (c .before .before)))
+
+pub find-shell-spec : {M : Type 1} → statement M
+find-shell-spec = tie.close (tie.spec check-requires enum-known-answer returns enum-told element-copy-out-shells returns-2 returns-3)

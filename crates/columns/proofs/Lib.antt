@@ -1,0 +1,3 @@
+pub mod Loops
+pub mod Made
+pub mod Shells

@@ -1,0 +1,4 @@
+pub mod Members
+pub mod Theorem
+pub mod Loops
+pub mod Roots

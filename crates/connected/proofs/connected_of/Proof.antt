@@ -1,0 +1,38 @@
+-- The array holds the first points of the wires; the answer by these links is the one of the definition.
+use borrow.Author.Needs.{needs}
+use Rattle.connected.proofs.Answer.{firsts-taken, wired-answer, wired-fronts, wired-linkable}
+use Rattle.connected.proofs.connected_of.Statement.{statement}
+use Rattle.connected.proofs.connected_of.Tie as tie
+
+firsts-of-requires : tie.Need-firsts-of-requires
+firsts-of-requires c κs = (c .before .before .before .before .before .pre .cut, wired-fronts (c .before .before .before .before .before .pre))
+
+sub-linked : tie.Need-sub-linked
+sub-linked c = search needs
+
+part-linked-start : tie.Need-part-linked-start
+part-linked-start c = search needs
+
+part-linked-end : tie.Need-part-linked-end
+part-linked-end c = search needs
+
+linked-requires : tie.Need-linked-requires
+linked-requires c κs =
+    let w = c .before .before .before .before .before .before .before .before .pre in
+    wired-linkable w (firsts-taken w (c .before .before .firsts-of .ensures))
+
+returns : tie.Need-returns
+returns c =
+    let w = c .before .before .before .before .before .before .before .before .before .pre in
+    wired-answer w (firsts-taken w (c .before .before .before .firsts-of .ensures)) (c .linked .ensures)
+
+pub connected-of-spec : {M : Type 1} → statement M
+connected-of-spec =
+    tie.close
+    (tie.spec
+    firsts-of-requires
+    sub-linked
+    part-linked-start
+    part-linked-end
+    linked-requires
+    returns)

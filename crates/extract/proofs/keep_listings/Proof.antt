@@ -1,0 +1,61 @@
+-- What the listings before i keep, and one more part.
+use Prim.Native.Nat.{_-_}
+use native.Mathlib.Omega.{arith}
+use lib.ListN.{length}
+use borrow.Author.Needs.{needs}
+use Rattle.extract.proofs.Laws.{Keeping, keeping-all, keeping-here, keeping-next, keeping-start}
+use Rattle.extract.proofs.keep_listings.Statement.{statement}
+use Rattle.extract.proofs.keep_listings.Tie as tie
+
+abbrev Inv-loop : tie.InvT-loop
+Inv-loop kept₀ listings uses turned starts odd fronts backs i₀ kept i = Keeping uses turned starts listings fronts backs odd kept₀ kept i
+
+abbrev μ-loop : tie.MeasureT-loop
+μ-loop kept₀ listings uses turned starts odd fronts backs i₀ kept i = length listings - i
+
+loop-holds : tie.Need-loop-holds Inv-loop μ-loop
+loop-holds c = keeping-start _ _ _ _ _ _ (c .before .before .before .before .before .before .before .before .args .odd .now) _ (c .before .before .before .before .before .before .before .before .pre .1 .3)
+
+mul-part-of : tie.Need-mul-part-of Inv-loop μ-loop
+mul-part-of c = search needs
+
+shared-slice-read-part-of : tie.Need-shared-slice-read-part-of Inv-loop μ-loop
+shared-slice-read-part-of c = search needs
+
+part-of-requires : tie.Need-part-of-requires Inv-loop μ-loop
+part-of-requires c κs = c .before .before .before .before .before .before .before .before .before .before .before .before .pre .0 (c .before .before .before .loop .i) (c .before .before .loop-test .taken) .shows
+
+keep-part-requires : tie.Need-keep-part-requires Inv-loop μ-loop
+keep-part-requires c κs = let pre = c .before .before .before .before .before .before .before .before .before .before .before .before .before .pre in keeping-here _ _ _ _ _ _ _ _ _ _ (c .before .before .before .before .loop .inv) (pre .0 (c .before .before .before .before .loop .i) (c .before .before .before .loop-test .taken)) (pre .1 .0) (pre .1 .1) (pre .1 .2) _ (c .part-of .ensures)
+
+add-i : tie.Need-add-i Inv-loop μ-loop
+add-i c = search needs
+
+loop-less : tie.Need-loop-less Inv-loop μ-loop
+loop-less c = search needs
+
+loop-again : tie.Need-loop-again Inv-loop μ-loop
+loop-again c = keeping-next _ _ _ _ _ _ _ _ _ _ (c .before .before .before .before .before .before .before .loop .inv) (c .before .before .before .before .before .before .loop-test .taken) _ _ (c .before .before .before .part-of .ensures) (c .before .before .keep-part .ensures .0) (c .before .before .keep-part .kept .0) (c .before .before .keep-part .ensures .1)
+
+same-length : tie.Need-same-length Inv-loop μ-loop
+same-length c = c .before .loop .inv .long
+
+returns : tie.Need-returns Inv-loop μ-loop
+returns c = (keeping-all _ _ _ _ _ _ _ _ _ _ (c .before .loop .inv) (omega arith), c .before .loop .inv .holding)
+
+pub keep-listings-spec : {M : Type 1} → statement M
+keep-listings-spec =
+    tie.close
+    (tie.spec
+    Inv-loop
+    μ-loop
+    loop-holds
+    mul-part-of
+    shared-slice-read-part-of
+    part-of-requires
+    keep-part-requires
+    add-i
+    loop-less
+    loop-again
+    same-length
+    returns)

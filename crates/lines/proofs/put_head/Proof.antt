@@ -1,0 +1,46 @@
+-- The three lines, one after the other.
+use mathlib.Core.List.{_++_}
+use mathlib.Core.Path.{_∙_}
+use native.Mathlib.Omega.{arith}
+use borrow.Author.Needs.{needs}
+use Rattle.lists.proofs.Sets.{put-then}
+use Rattle.output.specs.Text.{ascii}
+use Rattle.lines.proofs.Bounds.{condition-short, shell-number-short}
+use Rattle.lines.specs.Parts.{conditionLine, connectedLine, wordNumber}
+use Rattle.lines.proofs.put_head.Statement.{statement}
+use Rattle.lines.proofs.put_head.Tie as tie
+
+slice-aggregate-put-number : tie.Need-slice-aggregate-put-number
+slice-aggregate-put-number c = search needs
+
+put-number-requires : tie.Need-put-number-requires
+put-number-requires c κs = omega (arith, shell-number-short (c .before .before .before .args .n) (c .before .before .before .pre .0))
+
+put-condition-requires : tie.Need-put-condition-requires
+put-condition-requires c κs = omega (arith, shell-number-short (c .before .before .before .before .before .before .before .args .n) (c .before .before .before .before .before .before .before .pre .0), c .before .before .before .put-number .kept .0)
+
+put-connected-requires : tie.Need-put-connected-requires
+put-connected-requires c κs = omega (arith, shell-number-short (c .before .before .before .before .before .before .before .before .before .before .before .args .n) (c .before .before .before .before .before .before .before .before .before .before .before .pre .0), condition-short (c .before .before .before .before .before .before .before .before .before .before .before .args .condition), c .before .before .before .before .before .before .before .put-number .kept .0, c .before .before .before .put-condition .kept .0)
+
+same-length : tie.Need-same-length
+same-length c = c .before .before .put-connected .kept .0 ∙ c .before .before .before .before .before .before .put-condition .kept .0 ∙ c .before .before .before .before .before .before .before .before .before .before .put-number .kept .0
+
+returns : tie.Need-returns
+returns c =
+    let out = c .before .before .before .before .before .before .before .before .before .before .before .before .before .before .args .out .now in
+    let at = c .before .before .before .before .before .before .before .before .before .before .before .before .before .before .args .at in
+    let x = wordNumber (ascii "shell ") (c .before .before .before .before .before .before .before .before .before .before .before .before .before .before .args .n) in
+    let y = conditionLine (c .before .before .before .before .before .before .before .before .before .before .before .before .before .before .args .condition) in
+    let p = put-then out at x y _ _ _ _ (c .before .before .before .before .before .before .before .before .before .before .put-number .ensures) (c .before .before .before .before .before .before .put-condition .ensures) in
+    put-then out at (x ++ y) (connectedLine (c .before .before .before .before .before .before .before .before .before .before .before .before .before .before .args .connected)) _ _ _ _ p (c .before .before .put-connected .ensures)
+
+pub put-head-spec : {M : Type 1} → statement M
+put-head-spec =
+    tie.close
+    (tie.spec
+    slice-aggregate-put-number
+    put-number-requires
+    put-condition-requires
+    put-connected-requires
+    same-length
+    returns)

@@ -1,0 +1,41 @@
+-- The openings, then the lookups.
+use mathlib.Core.Path.{_∙_}
+use native.Mathlib.Omega.{arith}
+use lib.ListN.{length-append}
+use borrow.Author.Needs.{needs}
+use Rattle.lists.proofs.Sets.{put-then}
+use Rattle.output.specs.Text.{ascii}
+use Rattle.lines.specs.Parts.{wordLines, wordNumber}
+use Rattle.lines.proofs.put_openings.Statement.{statement}
+use Rattle.lines.proofs.put_openings.Tie as tie
+
+slice-aggregate-put-lines : tie.Need-slice-aggregate-put-lines
+slice-aggregate-put-lines c = search needs
+
+put-lines-requires : tie.Need-put-lines-requires
+put-lines-requires c κs = (c .before .before .before .before .before .pre .0, omega (arith, length-append (wordLines (ascii "opening") (c .before .before .before .before .before .args .lens .now) (c .before .before .before .before .before .args .uses .now)) (wordNumber (ascii "lookups ") (c .before .before .before .before .before .args .lookups))))
+
+slice-aggregate-put-number : tie.Need-slice-aggregate-put-number
+slice-aggregate-put-number c = search needs
+
+put-number-requires : tie.Need-put-number-requires
+put-number-requires c κs = omega (arith, length-append (wordLines (ascii "opening") (c .before .before .before .before .before .before .before .before .before .before .args .lens .now) (c .before .before .before .before .before .before .before .before .before .before .args .uses .now)) (wordNumber (ascii "lookups ") (c .before .before .before .before .before .before .before .before .before .before .args .lookups)), c .before .before .before .before .put-lines .kept .0)
+
+same-length : tie.Need-same-length
+same-length c = c .before .before .put-number .kept .0 ∙ c .before .before .before .before .before .before .before .put-lines .kept .0
+
+returns : tie.Need-returns
+returns c =
+    put-then (c .before .before .before .before .before .before .before .before .before .before .before .before .before .args .out .now) (c .before .before .before .before .before .before .before .before .before .before .before .before .before .args .at) (wordLines (ascii "opening") (c .before .before .before .before .before .before .before .before .before .before .before .before .before .args .lens .now) (c .before .before .before .before .before .before .before .before .before .before .before .before .before .args .uses .now)) (wordNumber (ascii "lookups ") (c .before .before .before .before .before .before .before .before .before .before .before .before .before .args .lookups)) _ _ _ _
+    (c .before .before .before .before .before .before .before .put-lines .ensures) (c .before .before .put-number .ensures)
+
+pub put-openings-spec : {M : Type 1} → statement M
+put-openings-spec =
+    tie.close
+    (tie.spec
+    slice-aggregate-put-lines
+    put-lines-requires
+    slice-aggregate-put-number
+    put-number-requires
+    same-length
+    returns)

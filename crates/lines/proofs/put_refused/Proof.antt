@@ -1,0 +1,42 @@
+-- The number of the refusal, then that of the shell.
+use mathlib.Core.List.{_++_}
+use mathlib.Core.Path.{_∙_}
+use native.Mathlib.Omega.{arith}
+use borrow.Author.Needs.{needs}
+use Rattle.lists.proofs.Sets.{put-then}
+use Rattle.output.specs.Text.{ascii, decimal}
+use Rattle.lines.proofs.Bounds.{refused-first, refused-second}
+use Rattle.lines.specs.Parts.{wordNumber}
+use Rattle.lines.proofs.put_refused.Statement.{statement}
+use Rattle.lines.proofs.put_refused.Tie as tie
+
+slice-aggregate-put-field : tie.Need-slice-aggregate-put-field
+slice-aggregate-put-field c = search needs
+
+put-field-requires : tie.Need-put-field-requires
+put-field-requires c κs = omega (arith, refused-first (c .before .before .before .args .number) (c .before .before .before .pre .0))
+
+slice-aggregate-put-number : tie.Need-slice-aggregate-put-number
+slice-aggregate-put-number c = search needs
+
+put-number-requires : tie.Need-put-number-requires
+put-number-requires c κs = omega (arith, refused-first (c .before .before .before .before .before .before .before .before .args .number) (c .before .before .before .before .before .before .before .before .pre .0), refused-second (c .before .before .before .before .before .before .before .before .args .shell) (c .before .before .before .before .before .before .before .before .pre .1), c .before .before .before .before .put-field .kept .0)
+
+same-length : tie.Need-same-length
+same-length c = c .before .before .put-number .kept .0 ∙ c .before .before .before .before .before .before .before .put-field .kept .0
+
+returns : tie.Need-returns
+returns c =
+    put-then (c .before .before .before .before .before .before .before .before .before .before .before .args .out .now) (c .before .before .before .before .before .before .before .before .before .before .before .args .at) (ascii "solid refused " ++ decimal (c .before .before .before .before .before .before .before .before .before .before .before .args .number)) (wordNumber (ascii " shell ") (c .before .before .before .before .before .before .before .before .before .before .before .args .shell)) _ _ _ _
+    (c .before .before .before .before .before .before .before .put-field .ensures) (c .before .before .put-number .ensures)
+
+pub put-refused-spec : {M : Type 1} → statement M
+put-refused-spec =
+    tie.close
+    (tie.spec
+    slice-aggregate-put-field
+    put-field-requires
+    slice-aggregate-put-number
+    put-number-requires
+    same-length
+    returns)

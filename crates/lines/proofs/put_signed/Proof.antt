@@ -1,0 +1,39 @@
+-- The number, then the sign.
+use native.Mathlib.Omega.{arith}
+use borrow.Author.Needs.{needs}
+use Rattle.lines.proofs.Steps.{put-sign, signed-long}
+use Rattle.lines.proofs.put_signed.Statement.{statement}
+use Rattle.lines.proofs.put_signed.Tie as tie
+
+sign-of-requires : tie.Need-sign-of-requires
+sign-of-requires c κs = search needs
+
+index-requires : tie.Need-index-requires
+index-requires c κs = search needs
+
+put-decimal-requires : tie.Need-put-decimal-requires
+put-decimal-requires c κs = omega (arith, signed-long (c .before .before .before .before .args .u) (c .index .ensures .0) (c .before .before .sign-of .ensures))
+
+slice-write-out : tie.Need-slice-write-out
+slice-write-out c = omega (arith, signed-long (c .before .before .before .before .before .before .before .args .u) (c .before .before .before .index .ensures .0) (c .before .before .before .before .before .sign-of .ensures), c .before .before .put-decimal .kept .0)
+
+add-result : tie.Need-add-result
+add-result c = omega (arith, signed-long (c .before .before .before .before .before .before .before .args .u) (c .before .before .before .index .ensures .0) (c .before .before .before .before .before .sign-of .ensures))
+
+same-length : tie.Need-same-length
+same-length c = search needs
+
+returns : tie.Need-returns
+returns c = put-sign (c .before .before .before .before .before .before .before .args .u) (c .before .before .before .index .ensures .0) (c .before .before .before .before .before .sign-of .ensures) (c .before .before .before .before .before .before .before .args .out .now) (c .before .before .before .before .before .before .before .args .at) (c .before .before .put-decimal .last .0) (c .before .before .put-decimal .result) (c .before .before .put-decimal .ensures)
+
+pub put-signed-spec : {M : Type 1} → statement M
+put-signed-spec =
+    tie.close
+    (tie.spec
+    sign-of-requires
+    index-requires
+    put-decimal-requires
+    slice-write-out
+    add-result
+    same-length
+    returns)

@@ -1,0 +1,4 @@
+pub mod Once
+pub mod Room
+pub mod Loops
+pub mod Columns

@@ -1,0 +1,71 @@
+-- After k turns the spans of the first k pairs are written.
+use borrow.Author.Needs.{needs}
+use native.Mathlib.Omega.{arith}
+use Prim.Native.Nat.{_-_}
+use Prim.Native.Nat.{ℕ}
+use lib.ListN.{length, length-replicate}
+use mathlib.Core.Path.{ap}
+use Rattle.pairs.proofs.Loops.{Spanning, spanning-all, spanning-next, spanning-start}
+use Rattle.pairs.proofs.put_spans.Statement.{statement}
+use Rattle.pairs.proofs.put_spans.Tie as tie
+
+abbrev Inv-loop : tie.InvT-loop
+Inv-loop pairs uses turned starts out₀ k₀ out k = Spanning uses turned starts pairs out k
+
+abbrev μ-loop : tie.MeasureT-loop
+μ-loop pairs uses turned starts out₀ k₀ out k = length pairs - k
+
+loop-holds : tie.Need-loop-holds Inv-loop μ-loop
+loop-holds c = spanning-start _ _ _ _ _ (c .before .before .before .before .before .pre .0 .0) (c .before .before .before .before .before .pre .0 .1)
+
+mul-part-of : tie.Need-mul-part-of Inv-loop μ-loop
+mul-part-of c = search needs
+
+shared-slice-read-part-of : tie.Need-shared-slice-read-part-of Inv-loop μ-loop
+shared-slice-read-part-of c = search needs
+
+part-of-requires : tie.Need-part-of-requires Inv-loop μ-loop
+part-of-requires c κs = c .before .before .before .before .before .before .before .before .pre .1 .shows (c .before .before .loop .k) (omega arith)
+
+short-requires : tie.Need-short-requires Inv-loop μ-loop
+short-requires c κs = rw (c .part-of .ensures) (c .before .before .before .before .before .before .before .before .before .pre .1 .short (c .before .before .before .loop .k) (omega arith))
+
+mul-out : tie.Need-mul-out Inv-loop μ-loop
+mul-out c = search needs
+
+slice-write-out : tie.Need-slice-write-out Inv-loop μ-loop
+slice-write-out c = search needs
+
+add-k : tie.Need-add-k Inv-loop μ-loop
+add-k c = search needs
+
+loop-less : tie.Need-loop-less Inv-loop μ-loop
+loop-less c = search needs
+
+loop-again : tie.Need-loop-again Inv-loop μ-loop
+loop-again c = spanning-next _ _ _ _ (c .before .before .before .before .loop .inv) (omega arith) _ _ (c .before .part-of .ensures) (c .short .ensures)
+
+same-length : tie.Need-same-length Inv-loop μ-loop
+same-length c = omega (arith, c .before .loop .inv .long, ap length (c .before .before .before .before .before .before .before .pre .0 .1), length-replicate {A = ℕ} 512 0)
+
+returns : tie.Need-returns Inv-loop μ-loop
+returns c = spanning-all _ _ _ _ (c .before .loop .inv) (omega arith)
+
+pub put-spans-spec : {M : Type 1} → statement M
+put-spans-spec =
+    tie.close
+    (tie.spec
+    Inv-loop
+    μ-loop
+    loop-holds
+    mul-part-of
+    shared-slice-read-part-of
+    part-of-requires
+    short-requires
+    mul-out
+    slice-write-out
+    add-k
+    loop-less
+    loop-again
+    same-length
+    returns)

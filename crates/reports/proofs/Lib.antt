@@ -1,0 +1,6 @@
+pub mod Faces
+pub mod Ready
+pub mod Alike
+pub mod Groups
+pub mod Columned
+pub mod Openings

@@ -1,0 +1,121 @@
+-- The tally, the condition and the walk of a shell of a sound pattern, from its columns.
+use Prim.Native.Nat.{_%_, _*_, _+_, _-_, _<_, _≤_, ℕ}
+use mathlib.Core.List.{List, [], map}
+use mathlib.Core.Path.{_∙_, _≡_, ap, refl, sym}
+use native.Mathlib.Numerals.{add-one}
+use native.Mathlib.Omega.{arith}
+use lib.ListN.{getD, length, length-append, length-map, length-replicate, replicate, take}
+use lib.Seq.{sets}
+use Rattle.columns.proofs.Shells.{listings-are}
+use Rattle.columns.specs.Columns.{columnsIn}
+use Rattle.columns.specs.Sound.{Sound}
+use Rattle.columns.specs.declared.Columns.{Columns}
+use Rattle.condition.proofs.Laws.{tallied-none, tallied-part}
+use Rattle.condition.proofs.Theorem.{tally-condition}
+use Rattle.condition.specs.Tallies.{Tallied, conditionIn, insertedAll, oddsIn, stateOf}
+use Rattle.condition.specs.declared.Tally.{Tally}
+use Rattle.edge.specs.Edges.{backNumber, frontNumber}
+use Rattle.edge.specs.Uses.{backOf, frontOf}
+use Rattle.extract.proofs.Free.{tally-free}
+use Rattle.extract.specs.Listings.{AllTally, AllWalk, Extractable, Written, noUses}
+use Rattle.listing.proofs.Laws.{Placed}
+use Rattle.listing.specs.Parts.{partsOf}
+use Rattle.lists.proofs.Count.{All, all-weaker}
+use Rattle.lists.proofs.Laws.{length-tabulate}
+use Rattle.lists.specs.Lists.{flat, padded, tabulate}
+use Rattle.openings.specs.declared.Walked.{Walked}
+use Rattle.pairs.proofs.Columns.{sets-padded}
+use Rattle.pattern.proofs.Counts.{edges-counted, points-counted}
+use Rattle.pattern.specs.Contents.{content}
+use Rattle.pattern.specs.declared.Pattern.{Pattern}
+use Rattle.reports.proofs.Columned.{backs-are, fronts-are, listingsIn, points-are}
+use Rattle.reports.proofs.Ready.{all-tally, all-walk, shell-placed, use-front, uses-are}
+use Rattle.reports.specs.Figures.{openingsFound}
+use Rattle.reports.specs.declared.ShellOpenings.{ShellOpenings}
+use Rattle.shell.proofs.Level.{IsUse}
+use Rattle.shell.specs.Conditions.{condition}
+use Rattle.shell.specs.Openings.{Walk, shellWalk, walkOf}
+use Rattle.shell.specs.Shells.{shellUses}
+
+-- the uses of shell n in the columns
+abbrev pub usesIn : Columns → ℕ → List ℕ
+usesIn k n = partsOf (k .uses) (k .turned) (k .starts) (listingsIn k n)
+
+module _ (k : Columns) (n : ℕ) (p : Pattern) (s : Sound p) (e : k ≡ columnsIn p) (here : n < getD (p .counts) 5 0) where
+  abbrev us : List ℕ
+  us = shellUses (content p) n
+
+  pub k-uses : usesIn k n ≡ shellUses (content p) n
+  k-uses = rw (e, add-one, listings-are p s n here) (uses-are p s n)
+
+  pub k-tally : AllTally (k .uses) (k .turned) (k .starts) (listingsIn k n)
+  k-tally = rw (e, add-one, listings-are p s n here) (all-tally p s n)
+
+  pub k-walk : AllWalk (k .uses) (k .turned) (k .starts) (take (k .edges) (k .fronts)) (take (k .edges) (k .backs)) (listingsIn k n)
+  k-walk = rw (fronts-are k n p s e here, backs-are k n p s e here, e, add-one, listings-are p s n here) (all-walk p s n)
+
+  edges-are : k .edges ≡ length (content p .edges)
+  edges-are = rw e (sym (edges-counted p (s .limits) (s .full)))
+
+  pub edges-few : k .edges ≤ 1024
+  edges-few = rw e (s .limits .edges)
+
+  named : All (IsUse (k .edges)) us
+  named = all-weaker (Placed (content p)) (IsUse (k .edges)) (λ u h. (h .0 .0, omega (arith, h .0 .1, edges-are))) us (shell-placed p s n)
+
+  module _ (t : Tally) (made : t ≡ insertedAll noUses (usesIn k n)) where
+    made-of : t ≡ insertedAll noUses us
+    made-of = made ∙ ap (insertedAll noUses) k-uses
+
+    odds-long : 1024 ≤ length (oddsIn t (k .edges))
+    odds-long =
+        let f : ℕ → ℕ = λ (i : ℕ). 16 * (stateOf t i % 2) in
+        let m = 1024 - length (tabulate (k .edges) f) in
+        omega (arith, length-append (tabulate (k .edges) f) (replicate m 0), length-replicate {A = ℕ} m 0)
+
+    wide : All (IsUse 1024) us
+    wide = all-weaker (IsUse (k .edges)) (IsUse 1024) (λ u i. (i .0, omega (arith, i .1, edges-few))) us named
+
+    tallied : Tallied us t
+    tallied = rw made-of (tallied-part [] us noUses (tallied-none noUses refl refl) wide)
+
+    pub k-extractable : (odd out lens : List ℕ) → odd ≡ oddsIn t (k .edges) → length out ≡ 2048 → length lens ≡ 2048
+        → Extractable (usesIn k n) odd (take (k .edges) (k .fronts)) (take (k .edges) (k .backs)) (k .points) out lens
+    k-extractable odd out lens o a b =
+        let fs = map frontNumber (content p .edges) in
+        let bs = map backNumber (content p .edges) in
+        rw (k-uses, fronts-are k n p s e here, backs-are k n p s e here, points-are k n p s e here, o) (record {
+          alike = length-map (content p .edges) backNumber ∙ sym (length-map (content p .edges) frontNumber);
+          edges = omega (arith, length-map (content p .edges) frontNumber, edges-are, edges-few);
+          tallied = omega (arith, length-map (content p .edges) frontNumber, edges-are, edges-few, odds-long);
+          places = omega (arith, points-counted p (s .limits) (s .full), s .limits .points);
+          inside = use-front p s us (shell-placed p s n);
+          free = λ i l. tally-free us t (k .edges) made-of named edges-few i l;
+          uses = omega (arith, a);
+          lengths = omega (arith, b);
+        })
+
+    k-condition : conditionIn t (k .edges) ≡ condition us
+    k-condition = tally-condition us t (k .edges) tallied named edges-few
+
+    module _ (w : ℕ) (is : w ≡ conditionIn t (k .edges)) (out₀ lens₀ : List ℕ) (a : out₀ ≡ replicate 2048 0) (b : lens₀ ≡ replicate 2048 0) (out lens : List ℕ) (r : Walked)
+        (h : Written (walkOf (frontOf (take (k .edges) (k .fronts)) (take (k .edges) (k .backs))) (backOf (take (k .edges) (k .fronts)) (take (k .edges) (k .backs))) (k .points) (usesIn k n)) out₀ lens₀ out lens r) where
+      walk-is : Written (shellWalk (content p) n) (replicate 2048 0) (replicate 2048 0) out lens r
+      walk-is = rw (k-uses, fronts-are k n p s e here, backs-are k n p s e here, points-are k n p s e here, a, b) at h
+
+      pub k-openings : record { condition = w; openings = r .openings; used = r .at; lookups = r .lookups; uses = out; lens = lens } ≡ openingsFound (content p) n
+      k-openings =
+          let o = shellWalk (content p) n .openings in
+          let long : length (flat o) ≤ 2048 = omega (arith, walk-is .place, walk-is .few .0) in
+          let few : length (map length o) ≤ 2048 = omega (arith, length-map o length, walk-is .number, walk-is .few .1) in
+          rw (
+            is,
+            k-condition,
+            walk-is .number,
+            walk-is .place,
+            walk-is .asked,
+            walk-is .uses,
+            walk-is .lengths,
+            sets-padded 2048 (flat o) long,
+            sets-padded 2048 (map length o) few,
+          )

@@ -1,0 +1,152 @@
+-- What the leaves ask of a shell's columns holds of every shell of a sound pattern.
+use Prim.Native.Nat.{_+_, _-_, _<_, _≤_, suc, zero, ℕ}
+use mathlib.Core.Bool.{Bool, false, true}
+use mathlib.Core.List.{List, [], _++_, _∷_, map}
+use mathlib.Core.Path.{_∙_, _≡_, ap, refl, sym}
+use native.Mathlib.Omega.{arith}
+use lib.Dec.{leb}
+use lib.ListN.{getD, length, length-map, take}
+use Rattle.columns.proofs.Shells.{content-fine, part-fine, part-is, parts-are, records-fine, shell-named, shows, uses-small}
+use Rattle.columns.specs.Columns.{columnsIn}
+use Rattle.columns.specs.Sound.{Sound}
+use Rattle.condition.specs.Tallies.{EdgesBelow}
+use Rattle.edge.specs.Edges.{backNumber, frontNumber}
+use Rattle.edge.specs.Uses.{backOf, edgeNumber, frontOf}
+use Rattle.errors.proofs.Laws.{none-left, none-right}
+use Rattle.errors.specs.Faults.{each}
+use Rattle.extract.specs.Listings.{AllTally, AllWalk}
+use Rattle.face.proofs.Laws.{none-mapped}
+use Rattle.face.specs.Faces.{faceFaults, faceRule, outlineFaults, sharedFaults, wireCount}
+use Rattle.listing.proofs.Laws.{Placed, flat-flat, shown-keeps}
+use Rattle.listing.specs.Parts.{partAt, partsOf}
+use Rattle.lists.proofs.Count.{All, all-append, all-at, all-flat-map, all-map, all-weaker}
+use Rattle.lists.specs.Lists.{flat}
+use Rattle.pattern.proofs.Counts.{edges-counted, points-counted}
+use Rattle.pattern.specs.Checks.{contentFaults, outlines, recordFaults}
+use Rattle.pattern.specs.Contents.{content}
+use Rattle.pattern.specs.declared.Pattern.{Pattern}
+use Rattle.shell.specs.Shells.{faceNumber, listingsOf, shellUses, shellWires, shownWire, shownWires}
+use Rattle.wire.proofs.Laws.{faultless-sound}
+use Rattle.wire.specs.Wires.{Named, wireFaults}
+
+pub all-index : {A : Type 0} (P : A → Type 0) (d : A) (xs : List A) → All P xs → (k : ℕ) → k < length xs → P (getD xs k d)
+all-index P d [] h k l = absurd (omega arith)
+all-index P d (x ∷ xs) h zero l = h .0
+all-index P d (x ∷ xs) h (suc k) l = all-index P d xs (h .1) k (omega arith)
+
+-- ---- a face without fault has no wire without uses
+abbrev pub Some : List ℕ → Type 0
+Some us = 0 < length us
+
+module _ (fronts backs : List ℕ) where
+  wires-some : (w : ℕ) (wires : List (List ℕ)) → each (outlineFaults fronts backs) w wires ≡ [] → All Some wires
+  unfolding each
+  wires-some w [] e = tt
+  wires-some w (us ∷ wires) e =
+      let none = none-mapped w (wireFaults fronts backs us) (none-left (outlineFaults fronts backs w us) (each (outlineFaults fronts backs) (suc w) wires) e) in
+      (faultless-sound fronts backs us none .used, wires-some (suc w) wires (none-right (outlineFaults fronts backs w us) (each (outlineFaults fronts backs) (suc w) wires) e))
+
+  faces-some : (w : ℕ) (faces : List (List (List ℕ))) → faceRule fronts backs w faces ≡ [] → All (All Some) faces
+  unfolding faceRule
+  faces-some w [] e = tt
+  faces-some w (wires ∷ faces) e =
+      let here = none-left (faceFaults fronts backs w wires) (faceRule fronts backs (w + length wires) faces) e in (
+        wires-some w wires (none-left (each (outlineFaults fronts backs) w wires) (sharedFaults fronts backs [] w wires) here),
+        faces-some (w + length wires) faces (none-right (faceFaults fronts backs w wires) (faceRule fronts backs (w + length wires) faces) e),
+      )
+
+shown-some : (l : ℕ) (us : List ℕ) → Some us → Some (shownWire l us)
+shown-some l us h = omega (arith, shown-keeps (leb 32768 l) us)
+
+module _ (p : Pattern) (s : Sound p) where
+  abbrev fs : List ℕ
+  fs = map frontNumber (content p .edges)
+
+  abbrev bs : List ℕ
+  bs = map backNumber (content p .edges)
+
+  -- the wires that a listing shows
+  pub listing-some : (l : ℕ) → All Some (shownWires (outlines (content p)) l)
+  listing-some l =
+      all-map Some Some (shownWire l) (shown-some l) (getD (outlines (content p)) (faceNumber l) [])
+      (all-at (All Some) [] tt (outlines (content p))
+      (faces-some fs bs 0 (outlines (content p)) (none-right (recordFaults (content p)) (faceRule fs bs 0 (outlines (content p))) (content-fine p s))) (faceNumber l))
+
+  edges-few : length (content p .edges) ≤ 1024
+  edges-few = omega (arith, edges-counted p (s .limits) (s .full), s .limits .edges)
+
+  points-few : length (content p .points) ≤ 2048
+  points-few = omega (arith, points-counted p (s .limits) (s .full), s .limits .points)
+
+  -- a part of uses that are placed, place by place
+  module _ (us : List ℕ) (h : All (Placed (content p)) us) where
+    pub use-edge : (k : ℕ) → k < length us → edgeNumber (getD us k 0) < length (content p .edges)
+    use-edge k l = all-index (Placed (content p)) 0 us h k l .0 .1
+
+    pub use-small : (k : ℕ) → k < length us → getD us k 0 < 65536
+    use-small k l = all-index (Placed (content p)) 0 us h k l .0 .0
+
+    pub use-front : (k : ℕ) → k < length us → frontOf fs bs (getD us k 0) < length (content p .points)
+    use-front k l = all-index (Placed (content p)) 0 us h k l .1
+
+    pub use-back : (k : ℕ) → k < length us → backOf fs bs (getD us k 0) < length (content p .points)
+    use-back k l = all-index (Placed (content p)) 0 us h k l .2
+
+    begins : Named fs bs us
+    begins = record {
+      alike = length-map (content p .edges) backNumber ∙ sym (length-map (content p .edges) frontNumber);
+      edge = λ k l. omega (arith, use-edge k l, length-map (content p .edges) frontNumber);
+      point = λ k l. omega (arith, use-front k l, points-few);
+    }
+
+    ends : Named bs fs us
+    ends = record {
+      alike = length-map (content p .edges) frontNumber ∙ sym (length-map (content p .edges) backNumber);
+      edge = λ k l. omega (arith, use-edge k l, length-map (content p .edges) backNumber);
+      point = λ k l. omega (arith, use-back k l, points-few);
+    }
+
+  module _ (l : ℕ) (face : faceNumber l < length (content p .faces)) where
+    placed : All (Placed (content p)) (partAt (p .uses) (columnsIn p .turned) (columnsIn p .starts) l)
+    placed = rw (part-is p s l face) (part-fine p s l face)
+
+    tallies : EdgesBelow 1024 (partAt (p .uses) (columnsIn p .turned) (columnsIn p .starts) l)
+    tallies k h = omega (arith, use-edge (partAt (p .uses) (columnsIn p .turned) (columnsIn p .starts) l) placed k h, edges-few)
+
+  -- the listings of shell n
+  module _ (n : ℕ) where
+    abbrev ls : List ℕ
+    ls = listingsOf (content p) n
+
+    named : (k : ℕ) → k < length (listingsOf (content p) n) → faceNumber (getD (listingsOf (content p) n) k 0) < length (content p .faces)
+    named k h = all-index (λ (l : ℕ). faceNumber l < length (content p .faces)) 0 (listingsOf (content p) n) (shell-named p s n) k h
+
+    pub all-tally : AllTally (p .uses) (columnsIn p .turned) (columnsIn p .starts) (listingsOf (content p) n)
+    all-tally k h = let l = getD (listingsOf (content p) n) k 0 in record { shows = shows p s l (named k h); edges = tallies l (named k h) }
+
+    pub all-walk : AllWalk (p .uses) (columnsIn p .turned) (columnsIn p .starts) fs bs (listingsOf (content p) n)
+    all-walk k h =
+        let l = getD (listingsOf (content p) n) k 0 in
+        let part = partAt (p .uses) (columnsIn p .turned) (columnsIn p .starts) l in
+        record { shows = shows p s l (named k h); begins = begins part (placed l (named k h)); ends = ends part (placed l (named k h)) }
+
+    pub uses-are : partsOf (p .uses) (columnsIn p .turned) (columnsIn p .starts) (listingsOf (content p) n) ≡ shellUses (content p) n
+    unfolding shellWires
+    uses-are =
+        parts-are p s (listingsOf (content p) n) (shell-named p s n)
+        ∙ sym (flat-flat (shownWires (outlines (content p))) (λ (l : ℕ). flat (shownWires (outlines (content p)) l)) (λ l. refl) (listingsOf (content p) n))
+
+  -- the uses of several listings
+  pub listings-placed : (ls : List ℕ) → All (λ (l : ℕ). faceNumber l < length (content p .faces)) ls
+      → All (Placed (content p)) (flat (map (λ (l : ℕ). flat (shownWires (outlines (content p)) l)) ls))
+  unfolding flat
+  listings-placed [] h = tt
+  listings-placed (l ∷ ls) h =
+      all-append (Placed (content p)) (flat (shownWires (outlines (content p)) l)) (flat (map (λ (m : ℕ). flat (shownWires (outlines (content p)) m)) ls))
+      (part-fine p s l (h .0)) (listings-placed ls (h .1))
+
+  pub shell-placed : (n : ℕ) → All (Placed (content p)) (shellUses (content p) n)
+  unfolding shellWires
+  shell-placed n =
+      rw (flat-flat (shownWires (outlines (content p))) (λ (l : ℕ). flat (shownWires (outlines (content p)) l)) (λ l. refl) (listingsOf (content p) n))
+      (listings-placed (listingsOf (content p) n) (shell-named p s n))

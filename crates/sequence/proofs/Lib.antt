@@ -1,0 +1,4 @@
+pub mod Only
+pub mod Places
+pub mod Firsts
+pub mod Loops

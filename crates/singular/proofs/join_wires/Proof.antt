@@ -1,0 +1,91 @@
+-- After k turns the uses of the first k wires are joined with the next.
+use Prim.Native.Nat.{_*_, _+_, _-_}
+use native.Mathlib.Omega.{arith}
+use lib.ListN.{length}
+use borrow.Author.Needs.{needs}
+use Rattle.groups.proofs.Parts.{PartJoins, part-joins-all, part-joins-fits, part-joins-next, part-joins-start}
+use Rattle.shell.specs.Singular.{corners}
+use Rattle.singular.proofs.Ends.{below-part, corners-below}
+use Rattle.singular.proofs.join_wires.Statement.{statement}
+use Rattle.singular.proofs.join_wires.Tie as tie
+
+abbrev Inv-loop : tie.InvT-loop
+Inv-loop parents₀ sizes₀ edges uses lens at₀ k₀ parents sizes at k = PartJoins corners (2 * edges) lens uses parents₀ sizes₀ parents sizes k at
+
+abbrev μ-loop : tie.MeasureT-loop
+μ-loop parents₀ sizes₀ edges uses lens at₀ k₀ parents sizes at k = length lens - k
+
+loop-holds : tie.Need-loop-holds Inv-loop μ-loop
+loop-holds c = part-joins-start corners _ _ _ _ _ (c .before .before .before .before .pre .0) (omega (arith, c .before .before .before .before .pre .1 .summed))
+
+mul-index : tie.Need-mul-index Inv-loop μ-loop
+mul-index c = search needs
+
+shared-slice-read-index : tie.Need-shared-slice-read-index Inv-loop μ-loop
+shared-slice-read-index c = search needs
+
+index-requires : tie.Need-index-requires Inv-loop μ-loop
+index-requires c κs = search needs
+
+add-join-wire : tie.Need-add-join-wire Inv-loop μ-loop
+add-join-wire c = omega (arith, part-joins-fits corners (c .before .before .before .before .before .loop .inv) (omega arith) (c .before .before .index .ensures .0))
+
+mul-join-wire : tie.Need-mul-join-wire Inv-loop μ-loop
+mul-join-wire c = omega (arith, part-joins-fits corners (c .before .before .before .before .before .loop .inv) (omega arith) (c .before .before .index .ensures .0))
+
+sub-join-wire : tie.Need-sub-join-wire Inv-loop μ-loop
+sub-join-wire c = search needs
+
+part-join-wire-start : tie.Need-part-join-wire-start Inv-loop μ-loop
+part-join-wire-start c = search needs
+
+part-join-wire-end : tie.Need-part-join-wire-end Inv-loop μ-loop
+part-join-wire-end c = part-joins-fits corners (c .before .before .before .before .before .loop .inv) (omega arith) (c .before .before .index .ensures .0)
+
+join-wire-requires : tie.Need-join-wire-requires Inv-loop μ-loop
+join-wire-requires c κs = (c .before .before .before .before .before .before .loop .inv .forest, below-part (c .before .before .before .before .before .before .before .before .before .before .before .args .edges) (c .before .before .before .before .before .before .before .before .before .before .before .args .uses .now) (c .before .before .before .before .before .before .loop .at) (c .before .before .before .before .before .before .loop .at + c .before .before .before .index .result - c .before .before .before .before .before .before .loop .at) (c .before .before .before .before .before .before .before .before .before .before .before .pre .1 .edge))
+
+add-at : tie.Need-add-at Inv-loop μ-loop
+add-at c = omega (arith, part-joins-fits corners (c .before .before .before .before .before .before .before .before .before .before .before .loop .inv) (omega arith) (c .before .before .before .before .before .before .before .before .index .ensures .0))
+
+add-k : tie.Need-add-k Inv-loop μ-loop
+add-k c = search needs
+
+loop-less : tie.Need-loop-less Inv-loop μ-loop
+loop-less c = search needs
+
+loop-again : tie.Need-loop-again Inv-loop μ-loop
+loop-again c = part-joins-next corners (c .before .before .before .before .before .before .before .before .before .before .before .loop .inv) (omega arith) (c .before .before .before .before .before .before .before .before .index .ensures .0) (corners-below _ _ (below-part (c .before .before .before .before .before .before .before .before .before .before .before .before .before .before .before .before .args .edges) (c .before .before .before .before .before .before .before .before .before .before .before .before .before .before .before .before .args .uses .now) (c .before .before .before .before .before .before .before .before .before .before .before .loop .at) (c .before .before .before .before .before .before .before .before .before .before .before .loop .at + c .before .before .before .before .before .before .before .before .index .result - c .before .before .before .before .before .before .before .before .before .before .before .loop .at) (c .before .before .before .before .before .before .before .before .before .before .before .before .before .before .before .before .pre .1 .edge))) (c .before .before .before .before .join-wire .ensures)
+
+same-length : tie.Need-same-length Inv-loop μ-loop
+same-length c = search needs
+
+same-length-2 : tie.Need-same-length-2 Inv-loop μ-loop
+same-length-2 c = search needs
+
+returns : tie.Need-returns Inv-loop μ-loop
+returns c = part-joins-all corners (c .before .loop .inv) (omega arith)
+
+pub join-wires-spec : {M : Type 1} → statement M
+join-wires-spec =
+    tie.close
+    (tie.spec
+    Inv-loop
+    μ-loop
+    loop-holds
+    mul-index
+    shared-slice-read-index
+    index-requires
+    add-join-wire
+    mul-join-wire
+    sub-join-wire
+    part-join-wire-start
+    part-join-wire-end
+    join-wire-requires
+    add-at
+    add-k
+    loop-less
+    loop-again
+    same-length
+    same-length-2
+    returns)

@@ -1,0 +1,74 @@
+-- The two ends, one after the other.
+use mathlib.Core.Path.{_∙_, ap}
+use native.Mathlib.Omega.{arith}
+use borrow.Author.Needs.{needs}
+use Rattle.groups.specs.Forest.{rootOf}
+use Rattle.singular.proofs.Noting.{two-ends}
+use Rattle.singular.proofs.note_use.Statement.{statement}
+use Rattle.singular.proofs.note_use.Tie as tie
+
+first-end-requires : tie.Need-first-end-requires
+first-end-requires c κs = search needs
+
+index-requires : tie.Need-index-requires
+index-requires c κs = search needs
+
+find-requires : tie.Need-find-requires
+find-requires c κs = rw (c .index .ensures .0 ∙ c .before .first-end .ensures) (c .before .before .before .before .before .pre .first)
+
+cast-first : tie.Need-cast-first
+cast-first c = omega (arith, c .find .ensures ∙ ap (rootOf (c .before .before .before .before .before .before .args .parents .now)) (c .before .index .ensures .0 ∙ c .before .before .first-end .ensures), c .before .before .before .before .before .before .pre .first-low)
+
+last-end-requires : tie.Need-last-end-requires
+last-end-requires c κs = search needs
+
+index-requires-2 : tie.Need-index-requires-2
+index-requires-2 c κs = search needs
+
+find-requires-2 : tie.Need-find-requires-2
+find-requires-2 c κs = rw (c .index2 .ensures .0 ∙ c .before .last-end .ensures) (c .before .before .before .before .before .before .before .before .pre .last)
+
+cast-last : tie.Need-cast-last
+cast-last c = omega (arith, c .find2 .ensures ∙ ap (rootOf (c .before .before .before .before .before .before .before .before .before .args .parents .now)) (c .before .index2 .ensures .0 ∙ c .before .before .last-end .ensures), c .before .before .before .before .before .before .before .before .before .pre .last-low)
+
+front-of-requires : tie.Need-front-of-requires
+front-of-requires c κs = search needs
+
+note-requires : tie.Need-note-requires
+note-requires c κs = search needs
+
+back-of-requires : tie.Need-back-of-requires
+back-of-requires c κs = search needs
+
+note-requires-2 : tie.Need-note-requires-2
+note-requires-2 c κs = search needs
+
+returns : tie.Need-returns
+returns c =
+    let a = c .before .before .before .before .before .before .before .before .before .before .before .before .before .before .before .before .before .args in
+    let ps = a .parents .now in
+    two-ends (a .fronts .now) (a .backs .now) ps (a .roots .now) (a .several .now) (a .u)
+    (c .before .before .before .before .before .before .before .before .before .before .before .find .ensures ∙ ap (rootOf ps) (c .before .before .before .before .before .before .before .before .before .before .before .before .index .ensures .0 ∙ c .before .before .before .before .before .before .before .before .before .before .before .before .before .first-end .ensures))
+    (c .before .before .before .before .before .before .before .before .find2 .ensures ∙ ap (rootOf ps) (c .before .before .before .before .before .before .before .before .before .index2 .ensures .0 ∙ c .before .before .before .before .before .before .before .before .before .before .last-end .ensures))
+    (c .before .before .before .before .before .front-of .ensures)
+    (c .before .back-of .ensures)
+    (c .before .before .before .before .note .ensures)
+    (c .note2 .ensures)
+
+pub note-use-spec : {M : Type 1} → statement M
+note-use-spec =
+    tie.close
+    (tie.spec
+    first-end-requires
+    index-requires
+    find-requires
+    cast-first
+    last-end-requires
+    index-requires-2
+    find-requires-2
+    cast-last
+    front-of-requires
+    note-requires
+    back-of-requires
+    note-requires-2
+    returns)

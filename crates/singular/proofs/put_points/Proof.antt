@@ -1,0 +1,53 @@
+-- Of the points below p, those that are marked are written.
+use Prim.Native.Nat.{_-_}
+use native.Mathlib.Omega.{arith}
+use borrow.Author.Needs.{needs}
+use Rattle.singular.proofs.Lists.{Listed, listed-all, listed-long, listed-next, listed-start}
+use Rattle.singular.proofs.put_points.Statement.{statement}
+use Rattle.singular.specs.Noted.{marked}
+use Rattle.singular.proofs.put_points.Tie as tie
+
+abbrev Inv-loop : tie.InvT-loop
+Inv-loop marks points out₀ n₀ p₀ out n p = Listed (marked marks) points out₀ out n p
+
+abbrev μ-loop : tie.MeasureT-loop
+μ-loop marks points out₀ n₀ p₀ out n p = points - p
+
+loop-holds : tie.Need-loop-holds Inv-loop μ-loop
+loop-holds c = listed-start _ _ _
+
+shared-slice-read-put-point : tie.Need-shared-slice-read-put-point Inv-loop μ-loop
+shared-slice-read-put-point c = search needs
+
+put-point-requires : tie.Need-put-point-requires Inv-loop μ-loop
+put-point-requires c κs = (omega (arith, c .before .before .before .before .before .before .pre .0), omega (arith, c .before .before .before .loop .inv .few, listed-long (c .before .before .before .loop .inv), c .before .before .before .before .before .before .pre .1 .1))
+
+add-p : tie.Need-add-p Inv-loop μ-loop
+add-p c = search needs
+
+loop-less : tie.Need-loop-less Inv-loop μ-loop
+loop-less c = search needs
+
+loop-again : tie.Need-loop-again Inv-loop μ-loop
+loop-again c = listed-next (c .before .before .before .before .before .before .loop .inv) (omega arith) (c .before .before .put-point .ensures .0) (c .before .before .put-point .ensures .1)
+
+same-length : tie.Need-same-length Inv-loop μ-loop
+same-length c = listed-long (c .before .loop .inv)
+
+returns : tie.Need-returns Inv-loop μ-loop
+returns c = (listed-all (c .before .loop .inv) (omega arith), omega (arith, c .before .loop .inv .few, c .before .loop .inv .low))
+
+pub put-points-spec : {M : Type 1} → statement M
+put-points-spec =
+    tie.close
+    (tie.spec
+    Inv-loop
+    μ-loop
+    loop-holds
+    shared-slice-read-put-point
+    put-point-requires
+    add-p
+    loop-less
+    loop-again
+    same-length
+    returns)

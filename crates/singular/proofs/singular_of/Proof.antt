@@ -1,0 +1,47 @@
+-- The points where several roots are met are the singular ones.
+use borrow.Author.Needs.{needs}
+use Rattle.singular.proofs.Singular.{noteable, singular-marked}
+use Rattle.singular.proofs.singular_of.Statement.{statement}
+use Rattle.singular.proofs.singular_of.Tie as tie
+
+slice-aggregate-join-ends : tie.Need-slice-aggregate-join-ends
+slice-aggregate-join-ends c = search needs
+
+join-ends-requires : tie.Need-join-ends-requires
+join-ends-requires c κs = search needs
+
+slice-aggregate-several-roots : tie.Need-slice-aggregate-several-roots
+slice-aggregate-several-roots c = search needs
+
+several-roots-requires : tie.Need-several-roots-requires
+several-roots-requires c κs =
+    let a = c .before .before .before .before .before .before .before .before .before .args in
+    noteable (a .uses .now) (a .lens .now) (a .fronts .now) (a .backs .now) (a .points) (a .out .now) (c .before .before .before .before .before .before .before .before .before .pre) (c .before .before .join-ends .ensures)
+
+slice-aggregate-put-points : tie.Need-slice-aggregate-put-points
+slice-aggregate-put-points c = search needs
+
+put-points-requires : tie.Need-put-points-requires
+put-points-requires c κs = search needs
+
+same-length : tie.Need-same-length
+same-length c = search needs
+
+returns : tie.Need-returns
+returns c =
+    let a = c .before .before .before .before .before .before .before .before .before .before .before .before .before .before .before .args in
+    let e = singular-marked (a .uses .now) (a .lens .now) (a .fronts .now) (a .backs .now) (a .points) (a .out .now) (c .before .before .before .before .before .before .before .before .before .before .before .before .before .before .before .pre) (c .before .before .before .before .before .before .before .before .join-ends .ensures) (c .before .before .before .before .before .several-roots .ensures) in
+    rw (← e) (c .before .before .put-points .ensures)
+
+pub singular-of-spec : {M : Type 1} → statement M
+singular-of-spec =
+    tie.close
+    (tie.spec
+    slice-aggregate-join-ends
+    join-ends-requires
+    slice-aggregate-several-roots
+    several-roots-requires
+    slice-aggregate-put-points
+    put-points-requires
+    same-length
+    returns)

@@ -1,0 +1,62 @@
+-- The first error of a shell, case by case; that of a solid, shell by shell.
+use Prim.Native.Nat.{_<_, suc, ℕ}
+use mathlib.Core.Bool.{Bool, false, not, true}
+use mathlib.Core.List.{List, [], _++_, _∷_, append-nil, map}
+use mathlib.Core.Path.{_∙_, _≡_, ap, refl, sym}
+use native.Mathlib.Omega.{arith}
+use borrow.Author.Tests.{eq-eqb, le-ltb, lt-ltb, ne-eqb, not-false, not-true}
+use Rattle.lists.proofs.Laws.{flat-append, map-tabulate, tabulate-suc}
+use Rattle.lists.specs.Lists.{flat, numbers, tabulate}
+use Rattle.solid.specs.Solid.{andThen, errorsOf, firstError, firstOfSolid, inShell, inSolid}
+use Rattle.solid.specs.declared.ShellCheck.the-variants.{Fine, Wrong}
+use Rattle.solid.specs.declared.ShellError.{ShellError}
+use Rattle.solid.specs.declared.ShellError.the-variants.{EmptyShell, NotClosedShell, NotConnected, NotManifold}
+use Rattle.solid.specs.declared.SolidError.{SolidError}
+
+module _ (n : ℕ) (c : Bool) (w s : ℕ) where
+  pub error-empty : n ≡ 0 → Wrong EmptyShell ≡ firstError (errorsOf n c w s)
+  error-empty h = rw (le-ltb 0 n (omega arith))
+
+  module _ (some : n ≡ 0 → ⊥) where
+    positive : 0 < n
+    positive = omega arith
+
+    pub error-apart : not c ≡ true → Wrong NotConnected ≡ firstError (errorsOf n c w s)
+    error-apart h = rw (lt-ltb 0 n positive, not-true c h)
+
+    module _ (one : not c ≡ false) where
+      pub error-open : (w ≡ 3 → ⊥) → Wrong NotClosedShell ≡ firstError (errorsOf n c w s)
+      error-open h = rw (lt-ltb 0 n positive, not-false c one, ne-eqb w 3 h)
+
+      pub error-point : w ≡ 3 → (s ≡ 0 → ⊥) → Wrong NotManifold ≡ firstError (errorsOf n c w s)
+      error-point e h = rw (lt-ltb 0 n positive, not-false c one, eq-eqb w 3 e, ne-eqb 0 s (λ o. h (sym o)))
+
+      pub error-none : w ≡ 3 → s ≡ 0 → Fine ≡ firstError (errorsOf n c w s)
+      error-none e h = rw (lt-ltb 0 n positive, not-false c one, eq-eqb w 3 e, eq-eqb 0 s (sym h))
+
+-- what is wrong with a shell is what is wrong with a solid of it
+pub in-solid : (n : ℕ) (es : List ShellError) → inSolid n (firstError es) ≡ firstOfSolid (inShell n es)
+in-solid n [] = refl
+in-solid n (e ∷ es) = refl
+
+first-append : (xs ys : List SolidError) → firstOfSolid (xs ++ ys) ≡ andThen (firstOfSolid xs) (firstOfSolid ys)
+first-append [] ys = refl
+first-append (x ∷ xs) ys = refl
+
+flat-one : (xs : List SolidError) → flat (xs ∷ []) ≡ xs
+unfolding flat
+flat-one xs = append-nil xs
+
+module _ (g : ℕ → List ShellError) where
+  abbrev shellErrorsTo : ℕ → List SolidError
+  shellErrorsTo n = flat (map (λ (i : ℕ). inShell i (g i)) (numbers n))
+
+  errors-next : (n : ℕ) → shellErrorsTo (suc n) ≡ shellErrorsTo n ++ inShell n (g n)
+  errors-next n =
+      let f : ℕ → List SolidError = λ (i : ℕ). inShell i (g i) in
+      rw (map-tabulate f (suc n) (λ (i : ℕ). i), map-tabulate f n (λ (i : ℕ). i), tabulate-suc n f)
+      (flat-append (tabulate n f) (f n ∷ []) ∙ ap (λ (r : List SolidError). flat (tabulate n f) ++ r) (flat-one (f n)))
+
+  -- one shell more
+  pub solid-next : (n : ℕ) → firstOfSolid (shellErrorsTo (suc n)) ≡ andThen (firstOfSolid (shellErrorsTo n)) (inSolid n (firstError (g n)))
+  solid-next n = rw (errors-next n, in-solid n (g n)) (first-append (shellErrorsTo n) (inShell n (g n)))

@@ -1,0 +1,58 @@
+-- The listings, from their places; the rest from the figures.
+use borrow.Author.Needs.{needs}
+use Rattle.reports.proofs.Columned.{in-places}
+use Rattle.solid_calls.proofs.Solids.{errors-found}
+use Rattle.solid_calls.proofs.shell_check.Statement.{statement}
+use Rattle.solid_calls.proofs.shell_check.Tie as tie
+
+add-listings : tie.Need-add-listings
+add-listings c = search needs
+
+mul-listings : tie.Need-mul-listings
+mul-listings c = search needs
+
+element-copy-out-listings : tie.Need-element-copy-out-listings
+element-copy-out-listings c = search needs
+
+mul-listings-2 : tie.Need-mul-listings-2
+mul-listings-2 c = search needs
+
+element-copy-out-listings-2 : tie.Need-element-copy-out-listings-2
+element-copy-out-listings-2 c = search needs
+
+sub-listings : tie.Need-sub-listings
+sub-listings c =
+    let s = c .before .before in
+    let w = s .pre in
+    in-places (s .args .t1) (s .args .n) (w .pattern) (w .sound) (w .columns) (w .here) .0
+
+shell-openings-requires : tie.Need-shell-openings-requires
+shell-openings-requires c κs = search needs
+
+shell-groups-requires : tie.Need-shell-groups-requires
+shell-groups-requires c κs = search needs
+
+check-shell-requires : tie.Need-check-shell-requires
+check-shell-requires c κs = search needs
+
+returns : tie.Need-returns
+returns c p s e h =
+    let a = c .before .before .before .before .before .args in
+    let o = c .before .before .shell-openings in
+    let g = c .before .shell-groups in
+    errors-found (a .t1) (a .n) p s e h (o .result) (g .result) _ (o .ensures .0 p s e h) (g .ensures p s e h) (c .check-shell .ensures)
+
+pub shell-check-spec : {M : Type 1} → statement M
+shell-check-spec =
+    tie.close
+    (tie.spec
+    add-listings
+    mul-listings
+    element-copy-out-listings
+    mul-listings-2
+    element-copy-out-listings-2
+    sub-listings
+    shell-openings-requires
+    shell-groups-requires
+    check-shell-requires
+    returns)

@@ -1,0 +1,1 @@
+// The pieces of document 01 that are worked by hand and marked (M): proofs/Table.antt.
