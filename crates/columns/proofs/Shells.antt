@@ -14,6 +14,7 @@ use Rattle.errors.proofs.Laws.{none-left, none-right}
 use Rattle.face.specs.Faces.{faceRule, wireCount}
 use Rattle.listing.proofs.Laws.{Placed, column, facePart, listing-part, listingPart, listings-named, part-placed, part-shown, shell-parts, shells-summed, start-at, starts-inside, starts-rise, turned-long}
 use Rattle.listing.specs.Parts.{Shows, between, partAt, partsOf, turnedUses}
+use Rattle.lists.proofs.Parts.{map-same}
 use Rattle.lists.proofs.Count.{All, all-flat-map, all-weaker}
 use Rattle.lists.proofs.Laws.{length-tabulate, sum-next, sum-take-drop}
 use Rattle.lists.proofs.Marks.{AllBelow}
@@ -25,10 +26,6 @@ use Rattle.pattern.specs.Checks.{contentFaults, countFaults, outlines, recordFa
 use Rattle.pattern.specs.Contents.{content}
 use Rattle.pattern.specs.declared.Pattern.{Pattern}
 use Rattle.shell.specs.Shells.{faceNumber, listingsOf, shellUses, shownWires}
-
-pub map-same : {A : Type 0} (f g : ℕ → A) (ls : List ℕ) → All (λ (l : ℕ). f l ≡ g l) ls → map f ls ≡ map g ls
-map-same f g [] h = refl
-map-same f g (l ∷ ls) h = rw (h .0, map-same f g ls (h .1))
 
 -- a part of a list's first n numbers
 pub between-first : (xs : List ℕ) (n i j : ℕ) → i ≤ j → j ≤ n → between (take n xs) i j ≡ between xs i j

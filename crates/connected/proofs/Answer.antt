@@ -6,6 +6,7 @@ use mathlib.Core.Path.{_∙_, _≡_, ap, refl}
 use native.Mathlib.Omega.{arith}
 use lib.ListN.{drop, getD, length, length-drop, length-map, length-take, replicate, take, take-append-drop}
 use lib.Seq.{take-append-seam}
+use Rattle.lists.proofs.Parts.{flat-split, map-drop}
 use Rattle.lists.proofs.Laws.{length-split, map-take, sum-next, sum-take-drop}
 use Rattle.lists.proofs.Split.{getD-split}
 use Rattle.lists.specs.Lists.{flat, padded, split, sum}
@@ -24,27 +25,15 @@ use Rattle.connected.specs.Wired.{Begins, Ends, Linkable, Wired, neighbo
 
 -- ---- lists
 module _ {A : Type 0} where
-  -- the parts of a list, one after the other
-  flat-split : (ns : List ℕ) (xs : List A) → sum ns ≡ length xs → flat (split ns xs) ≡ xs
-  unfolding split sum flat
-  flat-split [] [] e = refl
-  flat-split [] (x ∷ xs) e = absurd (omega arith)
-  flat-split (n ∷ ns) xs e = rw (flat-split ns (drop n xs) (omega (arith, length-drop n xs))) (take-append-drop n xs)
-
   -- the list without what pads it
   unpadded : (m : ℕ) (d : A) (xs out : List A) (n : ℕ) → out ≡ padded m d xs → length xs ≡ n → take n out ≡ xs
   unpadded m d xs out n e l = rw (e, ← l) (take-append-seam xs (replicate (m - length xs) d))
 
 module _ {A B : Type 0} (f : A → B) where
-  map-drop : (n : ℕ) (xs : List A) → map f (drop n xs) ≡ drop n (map f xs)
-  map-drop zero xs = refl
-  map-drop (suc n) [] = refl
-  map-drop (suc n) (x ∷ xs) = map-drop n xs
-
   split-map : (ns : List ℕ) (xs : List A) → split ns (map f xs) ≡ map (map f) (split ns xs)
   unfolding split
   split-map [] xs = refl
-  split-map (n ∷ ns) xs = rw (← map-take f n xs, ← map-drop n xs, split-map ns (drop n xs))
+  split-map (n ∷ ns) xs = rw (← map-take f n xs, ← map-drop f n xs, split-map ns (drop n xs))
 
 -- ---- the trees of `linked`, call by call
 module _ {n : ℕ} {uses fronts backs firsts counts : List ℕ} (l : Linkable n uses fronts backs firsts counts) where

@@ -16,6 +16,7 @@ use Rattle.errors.specs.declared.Refusal.{Refusal}
 use Rattle.errors.specs.declared.Refusal.the-variants.{Unnamed}
 use Rattle.face.specs.Faces.{wireCount}
 use Rattle.listing.specs.Parts.{faceStart, turnedUses}
+use Rattle.lists.proofs.Parts.{all-flat, flat-split}
 use Rattle.lists.proofs.Count.{All, all-append, all-at, all-each, all-map, all-reverse, all-split, all-weaker}
 use Rattle.lists.proofs.Flat.{getD-tabulate}
 use Rattle.lists.proofs.Laws.{flat-append, length-tabulate, sum-append, sum-next, sum-take-drop}
@@ -40,13 +41,6 @@ column wires uses b = pick b (turnedUses wires uses) uses
 -- the part of a column that face f has
 abbrev pub facePart : List ℕ → List ℕ → ℕ → List ℕ → List ℕ
 facePart counts wires f us = take (faceStart counts wires (suc f) - faceStart counts wires f) (drop (faceStart counts wires f) us)
-
-module _ {ℓ} {A : Type ℓ} where
-  flat-split : (ns : List ℕ) (xs : List A) → sum ns ≡ length xs → flat (split ns xs) ≡ xs
-  unfolding split sum flat
-  flat-split [] [] e = refl
-  flat-split [] (x ∷ xs) e = absurd (omega arith)
-  flat-split (n ∷ ns) xs e = rw (flat-split ns (drop n xs) (omega (arith, length-drop n xs))) (take-append-drop n xs)
 
 -- wires shown in a way that keeps their lengths
 module _ {ℓ} {A : Type ℓ} (f : List A → List A) (keeps : (us : List A) → length (f us) ≡ length us) where
@@ -159,11 +153,6 @@ pub flat-flat {ℓ ℓ′} : {A : Type ℓ} {B : Type ℓ′} (g : A → List (L
 unfolding flat
 flat-flat g h e [] = refl
 flat-flat g h e (x ∷ xs) = rw (flat-append (g x) (flat (map g xs)), e x, flat-flat g h e xs)
-
-all-flat : (P : ℕ → Type 0) (xss : List (List ℕ)) → All (All P) xss → All P (flat xss)
-unfolding flat
-all-flat P [] h = tt
-all-flat P (xs ∷ xss) h = all-append P xs (flat xss) (h .0) (all-flat P xss (h .1))
 
 -- the uses that a listing shows
 abbrev pub listingPart : Content → ℕ → List ℕ

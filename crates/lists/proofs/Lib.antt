@@ -5,3 +5,4 @@ pub mod Sets
 pub mod Split
 pub mod Count
 pub mod Alike
+pub mod Parts

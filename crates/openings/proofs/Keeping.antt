@@ -8,6 +8,7 @@ use native.Mathlib.Numerals.{add-one}
 use native.Mathlib.Omega.{arith}
 use lib.ListN.{drop, drop-of-length-le, getD, length, length-set, set}
 use lib.Seq.{drop-cons}
+use Rattle.lists.proofs.Parts.{only-append}
 use Rattle.lists.specs.Lists.{only, pick}
 use Rattle.edge.specs.Uses.{backOf, edgeNumber, frontOf}
 use Rattle.shell.specs.Openings.{Kept, keep}
@@ -19,11 +20,6 @@ keep-append : (front back : ℕ → ℕ) (us vs : List ℕ) (kept : Kept) → ke
 unfolding keep
 keep-append front back [] vs kept = refl
 keep-append front back (u ∷ us) vs kept = keep-append front back us vs (set kept (front u) (some u))
-
-only-append : (q : ℕ → Bool) (us vs : List ℕ) → only q (us ++ vs) ≡ only q us ++ only q vs
-unfolding only
-only-append q [] vs = refl
-only-append q (u ∷ us) vs = rw (only-append q us vs) (sym (append-assoc (pick (q u) (u ∷ []) []) (only q us) (only q vs)))
 
 -- several parts in sequence are one
 pub keep-parts : (front back : ℕ → ℕ) (q : ℕ → Bool) (us vs : List ℕ) (kept : Kept)

@@ -7,6 +7,7 @@ use mathlib.Core.Path.{_∙_, _≡_, ap, refl}
 use native.Mathlib.Nat.{le-of-suc-le-suc}
 use native.Mathlib.Omega.{arith}
 use lib.ListN.{getD, length, length-append, length-replicate, length-set, replicate, set}
+use Rattle.lists.proofs.Parts.{only-same}
 use Rattle.lists.specs.Lists.{only}
 use Rattle.lists.proofs.Count.{All, all-only}
 use Rattle.edge.specs.Uses.{backOf, frontOf}
@@ -126,11 +127,6 @@ module _ (front back : ℕ → ℕ) where
       add-replicate : (a b : ℕ) → replicate {A = Option ℕ} (a + b) none ≡ wide b (replicate a none)
       add-replicate zero b = let e : 0 + b ≡ b = omega arith in rw e
       add-replicate (suc a) b = let e : suc a + b ≡ suc (a + b) = omega arith in rw (e, add-replicate a b)
-
-only-same : (q r : ℕ → Bool) (us : List ℕ) → All (λ (u : ℕ). q u ≡ r u) us → only q us ≡ only r us
-unfolding only
-only-same q r [] h = refl
-only-same q r (u ∷ us) h = rw (h .0, only-same q r us (h .1))
 
 -- the arrays: where the odd edges are those of the free uses and all parts were kept, the pass over all parts is the walk of the shell
 pub walk-on-arrays : (fronts backs odd us kept : List ℕ) (points : ℕ) → points ≤ 2048 → All (λ (u : ℕ). frontOf fronts backs u < points) us

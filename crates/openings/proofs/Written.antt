@@ -5,16 +5,12 @@ use mathlib.Core.Path.{_≡_, refl}
 use native.Mathlib.Omega.{arith}
 use lib.ListN.{drop, length, length-map, take}
 use lib.Seq.{drop-append-seam, sets, sets-eq, take-append-seam}
+use Rattle.lists.proofs.Parts.{split-flat}
 use Rattle.lists.specs.Lists.{flat, split}
 use Rattle.shell.specs.Openings.{Walk}
 use Rattle.openings.specs.declared.Walked.{Walked}
 use Rattle.openings.specs.Passes.{Passed, Ready}
 use Rattle.openings.proofs.Passes.{passed-lens, passed-out}
-
-split-flat : (os : List (List ℕ)) → split (map length os) (flat os) ≡ os
-unfolding split flat
-split-flat [] = refl
-split-flat (o ∷ os) = rw (take-append-seam o (flat os), drop-append-seam o (flat os), split-flat os)
 
 take-sets : (l vs : List ℕ) → length vs ≤ length l → take (length vs) (sets l 0 vs) ≡ vs
 take-sets l vs h = rw (sets-eq vs l 0 (omega arith)) (take-append-seam vs (drop (0 + length vs) l))

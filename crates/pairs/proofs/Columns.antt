@@ -8,6 +8,7 @@ use native.Mathlib.Omega.{arith}
 use lib.Dec.{leb}
 use lib.ListN.{drop, getD, length, length-replicate, replicate, take}
 use lib.Seq.{length-sets, sets, sets-eq, take-append-seam}
+use Rattle.lists.proofs.Parts.{all-place}
 use Rattle.lists.proofs.Count.{All, all-each}
 use Rattle.lists.proofs.Laws.{drop-replicate}
 use Rattle.lists.specs.Lists.{flat, only, padded, pick}
@@ -24,17 +25,12 @@ sets-padded n xs h =
     let e : 0 + length xs ≡ length xs = omega arith in
     sets-eq xs (replicate n 0) 0 (omega (arith, length-replicate {A = ℕ} n 0)) ∙ rw (e, drop-replicate {A = ℕ} (length xs) n 0)
 
-all-inside : (P : ℕ → Type 0) (xs : List ℕ) → All P xs → (k : ℕ) → k < length xs → P (getD xs k 0)
-all-inside P [] h k l = absurd (omega arith)
-all-inside P (x ∷ xs) h zero l = h .0
-all-inside P (x ∷ xs) h (suc k) l = all-inside P xs (h .1) k (omega arith)
-
 rows-parted : {uses turned starts : List ℕ} {faces most : ℕ} → Rows uses turned starts faces most → most < 65536 → (ls : List ℕ) → All (Of faces) ls
     → Parted uses turned starts ls
 rows-parted {faces = faces} r h ls a =
     record {
-      shows = λ k l. rows-shows r (getD ls k 0) (all-inside (Of faces) ls a k l .0);
-      short = λ k l. omega (arith, rows-short r (getD ls k 0) (all-inside (Of faces) ls a k l .0));
+      shows = λ k l. rows-shows r (getD ls k 0) (all-place (Of faces) 0 ls a k l .0);
+      short = λ k l. omega (arith, rows-short r (getD ls k 0) (all-place (Of faces) 0 ls a k l .0));
     }
 
 -- the wires of a face are the same for both signs

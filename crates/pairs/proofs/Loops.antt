@@ -8,6 +8,7 @@ use native.Mathlib.Omega.{arith}
 use lib.Dec.{eqb}
 use lib.ListN.{drop, getD, length, length-append, length-replicate, length-set, replicate, set, take, take-append-drop}
 use lib.Seq.{getD-take, length-sets, length-take-le, sets, take-all, take-suc}
+use Rattle.lists.proofs.Parts.{length-only, only-append}
 use Rattle.lists.proofs.Count.{All, all-each, all-only}
 use Rattle.lists.proofs.Laws.{Filling, filling-next, filling-padded, filling-start, flat-append, map-tabulate, tabulate-getD}
 use Rattle.lists.proofs.Marks.{AllBelow, Holds, below-zeros, holds-fresh, holds-stamped}
@@ -15,7 +16,7 @@ use Rattle.lists.proofs.Sets.{flat-next, sets-then}
 use Rattle.lists.specs.Lists.{flat, has, once, only, padded, pick, tabulate, unless}
 use Rattle.lists.specs.Marks.{stamped}
 use Rattle.listing.specs.Parts.{partAt, partsOf}
-use Rattle.pairs.proofs.Once.{all-once, has-once, length-once, length-only, once-snoc, only-append}
+use Rattle.pairs.proofs.Once.{all-once, has-once, length-once, once-snoc}
 use Rattle.pairs.proofs.Room.{Small, has-marks}
 use Rattle.pairs.specs.Pairs.{Listed, hasWiresAt, isNew, markOf, newPair, pairsIn}
 

@@ -8,18 +8,11 @@ use native.Mathlib.Omega.{arith}
 use lib.Dec.{eqb}
 use lib.ListN.{length}
 use borrow.Author.Tests.{eq-eqb, eqb-true}
+use Rattle.lists.proofs.Parts.{length-only, only-append}
 use Rattle.lists.proofs.Alike.{count-noDup, noDup-count}
 use Rattle.lists.proofs.Count.{All, all-only, count-length, count-only-le}
 use Rattle.lists.proofs.Laws.{cases, eqb-sym, has-append}
 use Rattle.lists.specs.Lists.{has, noDup, once, only, pick, unless}
-
-pub only-append : (q : ℕ → Bool) (xs ys : List ℕ) → only q (xs ++ ys) ≡ only q xs ++ only q ys
-unfolding only
-only-append q [] ys = refl
-only-append q (x ∷ xs) ys = rw (only-append q xs ys) (sym (append-assoc (pick (q x) (x ∷ []) []) (only q xs) (only q ys)))
-
-pub length-only : (q : ℕ → Bool) (xs : List ℕ) → length (only q xs) ≤ length xs
-length-only q xs = omega (arith, count-length (only q xs), count-length xs, count-only-le (λ (x : ℕ). true) q xs)
 
 -- one number that passes the test, or not
 has-here : (y : ℕ) (b : Bool) → has y (pick b (y ∷ []) []) ≡ (b && true)

@@ -15,6 +15,7 @@ use Rattle.errors.specs.declared.Check.the-variants.{Accepted as Check·Accepte
 use Rattle.errors.specs.declared.Refusal.{Refusal}
 use Rattle.lines.specs.Lines.{shellLines}
 use Rattle.lines.specs.Parts.{Fits}
+use Rattle.lists.proofs.Parts.{flat-numbers, split-flat}
 use Rattle.lists.proofs.Laws.{flat-append, map-tabulate, tabulate-suc}
 use Rattle.lists.proofs.Sets.{put-then}
 use Rattle.lists.specs.Lists.{flat, numbers, padded, split, sum, tabulate}
@@ -31,7 +32,6 @@ use Rattle.reader.specs.declared.Reading.{Reading}
 use Rattle.report_text.specs.Report.{reportOf, reportText, shellReport, solidText, textFor}
 use Rattle.report_text.specs.Texts.{OfAll, Patterned, Shelled, arrayLines}
 use Rattle.report_text.specs.declared.ShellText.{ShellText}
-use Rattle.reports.proofs.Faces.{split-flat}
 use Rattle.reports.proofs.Groups.{components-bound, first-in, members-are, pairs-bound, singular-bound, sum-lengths}
 use Rattle.reports.specs.Figures.{Columned, groupsFound, openingsFound}
 use Rattle.reports.specs.declared.ShellGroups.{ShellGroups}
@@ -155,14 +155,6 @@ module _ (p : Pattern) (s : Sound p) (n : ℕ) (here : n < getD (p .counts) 5 0)
   }
 
 -- ---- shell by shell
-flat-one : {A : Type 0} (xs : List A) → flat (xs ∷ []) ≡ xs
-unfolding flat
-flat-one xs = append-nil xs
-
-flat-numbers : {A : Type 0} (f : ℕ → List A) (n : ℕ) → flat (map f (numbers (suc n))) ≡ flat (map f (numbers n)) ++ f n
-flat-numbers f n =
-    rw (map-tabulate f (suc n) (λ (i : ℕ). i), map-tabulate f n (λ (i : ℕ). i), tabulate-suc n f, flat-append (tabulate n f) (f n ∷ []), flat-one (f n))
-
 abbrev pub linesTo : Content → ℕ → List ℕ
 linesTo c n = flat (map (λ (i : ℕ). shellLines i (shellReport c i)) (numbers n))
 

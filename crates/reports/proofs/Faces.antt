@@ -9,12 +9,13 @@ use lib.Dec.{leb, ltb}
 use lib.ListN.{drop, getD, length, length-append, length-drop, length-map, length-take, take}
 use lib.Seq.{drop-append-seam, length-take-le, take-append-seam}
 use borrow.Author.Tests.{le-ltb, lt-ltb, ltb-false, ltb-true}
-use Rattle.columns.proofs.Shells.{between-first, first-is, map-same, firsts-long, part-is, records-fine, shell-named, start-is, starts-long, turned-full}
+use Rattle.columns.proofs.Shells.{between-first, first-is, firsts-long, part-is, records-fine, shell-named, start-is, starts-long, turned-full}
 use Rattle.columns.specs.Columns.{columnsIn, firstUse, firstWire}
 use Rattle.columns.specs.Sound.{Sound}
 use Rattle.face.specs.Faces.{wireCount}
 use Rattle.listing.proofs.Laws.{shown-keeps, starts-inside, starts-rise}
 use Rattle.listing.specs.Parts.{between, partAt}
+use Rattle.lists.proofs.Parts.{map-drop, map-same, only-same, split-flat}
 use Rattle.lists.proofs.Count.{All, all-only, all-weaker}
 use Rattle.lists.proofs.Laws.{cases, flat-append, map-take, sum-next, sum-take-drop}
 use Rattle.lists.proofs.Split.{getD-split}
@@ -29,11 +30,6 @@ use Rattle.pattern.specs.declared.Pattern.{Pattern}
 use Rattle.shell.specs.Components.{hasWires, shellPairs}
 use Rattle.shell.specs.Shells.{faceNumber, listingsOf, shownWire, shownWires}
 
-map-drop : {A B : Type 0} (f : A → B) (n : ℕ) (xs : List A) → map f (drop n xs) ≡ drop n (map f xs)
-map-drop f zero xs = refl
-map-drop f (suc n) [] = refl
-map-drop f (suc n) (x ∷ xs) = map-drop f n xs
-
 -- the lengths of the parts that a list is cut into
 lengths-split : {A : Type 0} (ns : List ℕ) (xs : List A) → sum ns ≤ length xs → map length (split ns xs) ≡ ns
 unfolding split sum
@@ -45,11 +41,6 @@ lengths-same : {A : Type 0} (f : List A → List A) → ((us : List A) → lengt
 lengths-same f h [] = refl
 lengths-same f h (xs ∷ xss) = rw (h xs, lengths-same f h xss)
 
-only-same : (q r : ℕ → Bool) (xs : List ℕ) → All (λ (x : ℕ). q x ≡ r x) xs → only q xs ≡ only r xs
-unfolding only
-only-same q r [] h = refl
-only-same q r (x ∷ xs) h = rw (h .0, only-same q r xs (h .1))
-
 test-rest : (a b : ℕ) → ltb a b ≡ ltb 0 (b - a)
 test-rest a b =
     ⊎-elim
@@ -58,11 +49,6 @@ test-rest a b =
     (cases (ltb a b))
 
 -- ---- lists of faces in columns
-pub split-flat : {A : Type 0} (xss : List (List A)) → split (map length xss) (flat xss) ≡ xss
-unfolding split flat
-split-flat [] = refl
-split-flat (xs ∷ xss) = rw (take-append-seam xs (flat xss), drop-append-seam xs (flat xss), split-flat xss)
-
 -- the lengths of all wires, face after face
 pub flat-lengths : {A : Type 0} (faces : List (List (List A))) → flat (map (map length) faces) ≡ map length (flat faces)
 unfolding flat

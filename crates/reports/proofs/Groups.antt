@@ -20,11 +20,11 @@ use Rattle.face.specs.Faces.{wireCount}
 use Rattle.groups.proofs.Alike.{Within, within-flat-map, within-map}
 use Rattle.listing.proofs.Laws.{Placed, starts-inside, starts-rise}
 use Rattle.listing.specs.Parts.{partAt}
+use Rattle.lists.proofs.Parts.{all-place, length-only, split-flat}
 use Rattle.lists.proofs.Count.{All, all-flat-map, all-map, all-weaker}
 use Rattle.lists.proofs.Laws.{drop-replicate, length-tabulate, sum-next, sum-take-drop}
 use Rattle.lists.specs.Lists.{flat, numbers, once, only, padded, split, sum}
 use Rattle.pairs.proofs.Columns.{lens-room, sets-padded, showing-few, uses-room}
-use Rattle.pairs.proofs.Once.{length-only}
 use Rattle.pairs.specs.Pairs.{Pairs, Rows, Showing, lensAt, pairsIn, pairsOf}
 use Rattle.pattern.proofs.Counts.{edges-counted, faces-counted, points-counted, uses-counted, wires-counted}
 use Rattle.pattern.proofs.Named.{faces-summed, wires-summed}
@@ -32,8 +32,8 @@ use Rattle.pattern.specs.Checks.{outlines}
 use Rattle.pattern.specs.Contents.{content}
 use Rattle.pattern.specs.declared.Pattern.{Pattern}
 use Rattle.reports.proofs.Alike.{flat-only, in-once, no-wires, of-once}
-use Rattle.reports.proofs.Faces.{Held, flat-lengths, flat-uses, held-faces, held-parts, held-wires, split-flat, pair-lens, pair-parts, pairFaces, pairs-are, pairs-named}
-use Rattle.reports.proofs.Ready.{Some, all-index, listing-some, listings-placed, use-back, use-edge, use-front}
+use Rattle.reports.proofs.Faces.{Held, flat-lengths, flat-uses, held-faces, held-parts, held-wires, pair-lens, pair-parts, pairFaces, pairs-are, pairs-named}
+use Rattle.reports.proofs.Ready.{Some, listing-some, listings-placed, use-back, use-edge, use-front}
 use Rattle.reports.specs.Figures.{Figured, figuresOf, groupsFound}
 use Rattle.shell.specs.Components.{components, componentsOf, hasWires, shellPairs}
 use Rattle.shell.specs.Connected.{connected, connectedOf, faceLinks}
@@ -135,7 +135,7 @@ module _ (p : Pattern) (s : Sound p) where
       faces = getD (p .counts) 4 0;
       low = s .limits .faces;
       named = λ k h.
-          let m = all-index (λ (l : ℕ). faceNumber l < length (content p .faces)) 0 (listingsOf (content p) n) (shell-named p s n) k h in
+          let m = all-place (λ (l : ℕ). faceNumber l < length (content p .faces)) 0 (listingsOf (content p) n) (shell-named p s n) k h in
           omega (arith, m, faces-counted p (s .limits) (s .full));
       small = listing-small;
       shown = uses-rows;
@@ -230,7 +230,7 @@ module _ (p : Pattern) (s : Sound p) where
       summed = sum-lengths (flat F)
 
       some-uses : (k : ℕ) → k < length (map length (flat F)) → 0 < getD (map length (flat F)) k 0
-      some-uses k h = all-index (λ (m : ℕ). 0 < m) 0 (map length (flat F)) (all-map Some (λ (m : ℕ). 0 < m) length (λ us o. o) (flat F) all-some) k h
+      some-uses k h = all-place (λ (m : ℕ). 0 < m) 0 (map length (flat F)) (all-map Some (λ (m : ℕ). 0 < m) length (λ us o. o) (flat F) all-some) k h
 
       faces-wired : Wired (flat (flat F)) (map length (flat F)) (map length F) fs bs (length (content p .points))
       faces-wired = record {

@@ -19,6 +19,7 @@ use Rattle.face.proofs.Laws.{none-mapped}
 use Rattle.face.specs.Faces.{faceFaults, faceRule, outlineFaults, sharedFaults, wireCount}
 use Rattle.listing.proofs.Laws.{Placed, flat-flat, shown-keeps}
 use Rattle.listing.specs.Parts.{partAt, partsOf}
+use Rattle.lists.proofs.Parts.{all-place}
 use Rattle.lists.proofs.Count.{All, all-append, all-at, all-flat-map, all-map, all-weaker}
 use Rattle.lists.specs.Lists.{flat}
 use Rattle.pattern.proofs.Counts.{edges-counted, points-counted}
@@ -28,11 +29,6 @@ use Rattle.pattern.specs.declared.Pattern.{Pattern}
 use Rattle.shell.specs.Shells.{faceNumber, listingsOf, shellUses, shellWires, shownWire, shownWires}
 use Rattle.wire.proofs.Laws.{faultless-sound}
 use Rattle.wire.specs.Wires.{Named, wireFaults}
-
-pub all-index : {A : Type 0} (P : A → Type 0) (d : A) (xs : List A) → All P xs → (k : ℕ) → k < length xs → P (getD xs k d)
-all-index P d [] h k l = absurd (omega arith)
-all-index P d (x ∷ xs) h zero l = h .0
-all-index P d (x ∷ xs) h (suc k) l = all-index P d xs (h .1) k (omega arith)
 
 -- ---- a face without fault has no wire without uses
 abbrev pub Some : List ℕ → Type 0
@@ -81,16 +77,16 @@ module _ (p : Pattern) (s : Sound p) where
   -- a part of uses that are placed, place by place
   module _ (us : List ℕ) (h : All (Placed (content p)) us) where
     pub use-edge : (k : ℕ) → k < length us → edgeNumber (getD us k 0) < length (content p .edges)
-    use-edge k l = all-index (Placed (content p)) 0 us h k l .0 .1
+    use-edge k l = all-place (Placed (content p)) 0 us h k l .0 .1
 
     pub use-small : (k : ℕ) → k < length us → getD us k 0 < 65536
-    use-small k l = all-index (Placed (content p)) 0 us h k l .0 .0
+    use-small k l = all-place (Placed (content p)) 0 us h k l .0 .0
 
     pub use-front : (k : ℕ) → k < length us → frontOf fs bs (getD us k 0) < length (content p .points)
-    use-front k l = all-index (Placed (content p)) 0 us h k l .1
+    use-front k l = all-place (Placed (content p)) 0 us h k l .1
 
     pub use-back : (k : ℕ) → k < length us → backOf fs bs (getD us k 0) < length (content p .points)
-    use-back k l = all-index (Placed (content p)) 0 us h k l .2
+    use-back k l = all-place (Placed (content p)) 0 us h k l .2
 
     begins : Named fs bs us
     begins = record {
@@ -119,7 +115,7 @@ module _ (p : Pattern) (s : Sound p) where
     ls = listingsOf (content p) n
 
     named : (k : ℕ) → k < length (listingsOf (content p) n) → faceNumber (getD (listingsOf (content p) n) k 0) < length (content p .faces)
-    named k h = all-index (λ (l : ℕ). faceNumber l < length (content p .faces)) 0 (listingsOf (content p) n) (shell-named p s n) k h
+    named k h = all-place (λ (l : ℕ). faceNumber l < length (content p .faces)) 0 (listingsOf (content p) n) (shell-named p s n) k h
 
     pub all-tally : AllTally (p .uses) (columnsIn p .turned) (columnsIn p .starts) (listingsOf (content p) n)
     all-tally k h = let l = getD (listingsOf (content p) n) k 0 in record { shows = shows p s l (named k h); edges = tallies l (named k h) }

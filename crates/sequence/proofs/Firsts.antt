@@ -10,11 +10,12 @@ use lib.Dec.{eqb}
 use lib.ListN.{getD, length, length-append, length-map, take}
 use lib.Seq.{getD-take, length-take-le, take-length, take-suc}
 use borrow.Author.Tests.{eq-eqb, eqb-true, ne-eqb}
+use Rattle.lists.proofs.Parts.{length-only, only-same}
 use Rattle.lists.proofs.Count.{all-each, count-halves, count-length, count-map, count-none}
 use Rattle.lists.proofs.Flat.{tabulate-of}
 use Rattle.lists.proofs.Laws.{cases, eqb-sym, flat-append, has-append, length-tabulate, map-tabulate, tabulate-suc}
 use Rattle.lists.specs.Lists.{count, flat, has, numbers, only, pick, tabulate}
-use Rattle.sequence.proofs.Only.{all-tabulate, length-only, only-same, only-snoc}
+use Rattle.sequence.proofs.Only.{all-tabulate, only-snoc}
 use Rattle.sequence.proofs.Places.{length-places, members-only}
 use Rattle.sequence.specs.Keys.{membersOf, sameKey}
 use Rattle.shell.specs.Components.{groupsOf}

@@ -15,10 +15,10 @@ use Rattle.groups.proofs.Laws.{inside-links}
 use Rattle.groups.proofs.Meaning.{of-each}
 use Rattle.groups.specs.Forest.{joined, joinedAll, trees}
 use Rattle.groups.specs.Groups.{Inside}
+use Rattle.lists.proofs.Parts.{all-place}
 use Rattle.lists.proofs.Count.{All, all-append, all-each, all-map}
 use Rattle.lists.proofs.Laws.{cases}
 use Rattle.shell.specs.Singular.{corners, firstEnd, lastEnd}
-use Rattle.singular.proofs.Lists.{all-place}
 use Rattle.singular.specs.Ends.{EdgesBelow, nextEnds, rotated}
 
 -- the ends of the edges below n are the members below 2n

@@ -8,41 +8,12 @@ use native.Mathlib.Numerals.{add-one}
 use native.Mathlib.Omega.{arith}
 use lib.ListN.{drop, getD, length, length-drop, take-append-drop}
 use lib.Seq.{length-sets, sets}
+use Rattle.lists.proofs.Parts.{only-append, only-same}
 use Rattle.lists.proofs.Count.{All, all-append, all-each}
 use Rattle.lists.proofs.Flat.{getD-tabulate}
 use Rattle.lists.proofs.Laws.{length-tabulate, tabulate-suc}
 use Rattle.lists.proofs.Sets.{Put, put-then}
 use Rattle.lists.specs.Lists.{flat, numbers, only, pick, split, sum, tabulate}
-
-module _ {ℓ} {A : Type ℓ} where
-  -- the parts, one after the other, are the list
-  pub flat-split : (ns : List ℕ) (xs : List A) → sum ns ≡ length xs → flat (split ns xs) ≡ xs
-  unfolding split sum flat
-  flat-split [] [] e = refl
-  flat-split [] (x ∷ xs) e = absurd (omega arith)
-  flat-split (n ∷ ns) xs e = rw (flat-split ns (drop n xs) (omega (arith, length-drop n xs))) (take-append-drop n xs)
-
-  only-append : (q : A → Bool) (xs ys : List A) → only q (xs ++ ys) ≡ only q xs ++ only q ys
-  unfolding only
-  only-append q [] ys = refl
-  only-append q (x ∷ xs) ys = rw (only-append q xs ys) (sym (append-assoc (pick (q x) (x ∷ []) []) (only q xs) (only q ys)))
-
-  only-same : (q r : A → Bool) (xs : List A) → All (λ (x : A). q x ≡ r x) xs → only q xs ≡ only r xs
-  unfolding only
-  only-same q r [] h = refl
-  only-same q r (x ∷ xs) h = rw (h .0, only-same q r xs (h .1))
-
-  -- what holds of every element holds at every place
-  pub all-place : (P : A → Type 0) (d : A) (xs : List A) → All P xs → (k : ℕ) → k < length xs → P (getD xs k d)
-  all-place P d [] h k l = absurd (not-suc-le-zero l)
-  all-place P d (x ∷ xs) h zero l = h .0
-  all-place P d (x ∷ xs) h (suc k) l = all-place P d xs (h .1) k (le-of-suc-le-suc l)
-
-  -- what holds of every element of every list
-  pub all-flat : (P : A → Type 0) (xss : List (List A)) → All (All P) xss → All P (flat xss)
-  unfolding flat
-  all-flat P [] h = tt
-  all-flat P (xs ∷ xss) h = all-append P xs (flat xss) (h .0) (all-flat P xss (h .1))
 
 -- the numbers that pass, of one more
 only-next : (q : ℕ → Bool) (p : ℕ) → only q (numbers (suc p)) ≡ only q (numbers p) ++ pick (q p) (p ∷ []) []

@@ -14,12 +14,13 @@ use Rattle.groups.proofs.Meaning.{of-each}
 use Rattle.groups.proofs.Rooting.{one-root-is}
 use Rattle.groups.specs.Forest.{Forest, Grouped, Trees, joinedAll, started, trees}
 use Rattle.groups.specs.Groups.{Inside}
+use Rattle.lists.proofs.Parts.{all-flat, all-place, flat-split}
 use Rattle.lists.proofs.Count.{All, all-append, all-each, all-map, all-weaker}
 use Rattle.lists.proofs.Split.{getD-split}
 use Rattle.lists.specs.Lists.{flat, numbers, only, pick, split, sum}
 use Rattle.shell.specs.Singular.{corners, endsAt, endsOf, firstEnd, isSingular, lastEnd, singularOf}
 use Rattle.singular.proofs.Ends.{Member, Named, below-part, corners-below, first-below, last-below}
-use Rattle.singular.proofs.Lists.{all-flat, all-place, flat-split, only-alike}
+use Rattle.singular.proofs.Lists.{only-alike}
 use Rattle.singular.proofs.Noting.{Rooted, noted-none, noted-uses}
 use Rattle.singular.specs.Ends.{Cornered, Wired, endParents}
 use Rattle.singular.specs.Noted.{Noteable, marked, noneNoted, usesNoted}

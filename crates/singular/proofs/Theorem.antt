@@ -9,11 +9,12 @@ use Rattle.groups.proofs.Alike.{Within, in-flat, member-at, of-flat-map, one-gr
 use Rattle.groups.proofs.Laws.{inside-links}
 use Rattle.groups.proofs.Meaning.{of-each}
 use Rattle.groups.specs.Groups.{Inside}
+use Rattle.lists.proofs.Parts.{all-place}
 use Rattle.lists.proofs.Count.{All, all-each}
 use Rattle.lists.specs.Lists.{flat}
 use Rattle.shell.specs.Singular.{corners, endsAt, endsOf, isSingular, lastEnd, singularOf}
 use Rattle.singular.proofs.Ends.{Member, Named, all-lasts, all-nexts}
-use Rattle.singular.proofs.Lists.{all-place, only-alike}
+use Rattle.singular.proofs.Lists.{only-alike}
 use Rattle.singular.proofs.Singular.{endsAt-below}
 use Rattle.singular.specs.Ends.{nextEnds}
 

@@ -5,6 +5,7 @@ use mathlib.Core.List.{List, [], _++_, _∷_, append-nil, map}
 use mathlib.Core.Path.{_∙_, _≡_, ap, refl, sym}
 use native.Mathlib.Omega.{arith}
 use borrow.Author.Tests.{eq-eqb, le-ltb, lt-ltb, ne-eqb, not-false, not-true}
+use Rattle.lists.proofs.Parts.{flat-numbers}
 use Rattle.lists.proofs.Laws.{flat-append, map-tabulate, tabulate-suc}
 use Rattle.lists.specs.Lists.{flat, numbers, tabulate}
 use Rattle.solid.specs.Solid.{andThen, errorsOf, firstError, firstOfSolid, inShell, inSolid}
@@ -43,20 +44,10 @@ first-append : (xs ys : List SolidError) → firstOfSolid (xs ++ ys) ≡ andThen
 first-append [] ys = refl
 first-append (x ∷ xs) ys = refl
 
-flat-one : (xs : List SolidError) → flat (xs ∷ []) ≡ xs
-unfolding flat
-flat-one xs = append-nil xs
-
 module _ (g : ℕ → List ShellError) where
   abbrev shellErrorsTo : ℕ → List SolidError
   shellErrorsTo n = flat (map (λ (i : ℕ). inShell i (g i)) (numbers n))
 
-  errors-next : (n : ℕ) → shellErrorsTo (suc n) ≡ shellErrorsTo n ++ inShell n (g n)
-  errors-next n =
-      let f : ℕ → List SolidError = λ (i : ℕ). inShell i (g i) in
-      rw (map-tabulate f (suc n) (λ (i : ℕ). i), map-tabulate f n (λ (i : ℕ). i), tabulate-suc n f)
-      (flat-append (tabulate n f) (f n ∷ []) ∙ ap (λ (r : List SolidError). flat (tabulate n f) ++ r) (flat-one (f n)))
-
   -- one shell more
   pub solid-next : (n : ℕ) → firstOfSolid (shellErrorsTo (suc n)) ≡ andThen (firstOfSolid (shellErrorsTo n)) (inSolid n (firstError (g n)))
-  solid-next n = rw (errors-next n, in-solid n (g n)) (first-append (shellErrorsTo n) (inShell n (g n)))
+  solid-next n = rw (flat-numbers (λ (i : ℕ). inShell i (g i)) n, in-solid n (g n)) (first-append (shellErrorsTo n) (inShell n (g n)))
