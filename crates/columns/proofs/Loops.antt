@@ -6,7 +6,7 @@ use native.Mathlib.Numerals.{add-one}
 use native.Mathlib.Omega.{arith}
 use lib.ListN.{getD, length, length-replicate, replicate, set, take}
 use lib.Seq.{getD-take, length-take-le}
-use Rattle.lists.proofs.Laws.{Filling, filling-next, filling-padded, filling-start}
+use Rattle.lists.proofs.Laws.{Filling, filling-long, filling-next, filling-padded, filling-start}
 use Rattle.lists.proofs.Split.{Walk, walk-next, walk-start}
 use Rattle.lists.specs.Lists.{padded, sum, tabulate}
 
@@ -20,16 +20,19 @@ pub record Firsting (counts : List ℕ) (n : ℕ) (out : List ℕ) (k at : ℕ) 
   pub low : at ≤ 65536 * k
   pub filling : Filling (sumTo (take n counts)) (replicate 257 0) out k
 
-pub firsting-start : (counts : List ℕ) (n : ℕ) → n ≤ 256 → n ≤ length counts → Firsting counts n (replicate 257 0) 0 0
-firsting-start counts n h l = record {
+pub firsting-start : (counts : List ℕ) (n : ℕ) → n ≤ 256 → n ≤ length counts → (out : List ℕ) → out ≡ replicate 257 0 → Firsting counts n out 0 0
+firsting-start counts n h l out z = record {
   few = h;
   counted = l;
   walk = walk-start (take n counts);
   low = omega arith;
-  filling = filling-start (sumTo (take n counts)) (replicate 257 0);
+  filling = rw z (filling-start (sumTo (take n counts)) (replicate 257 0));
 }
 
 module _ {counts : List ℕ} {n : ℕ} {out : List ℕ} {k at : ℕ} (s : Firsting counts n out k at) where
+  pub firsting-long : length out ≡ 257
+  firsting-long = filling-long (sumTo (take n counts)) (replicate 257 0) out k (s .filling) ∙ length-replicate {A = ℕ} 257 0
+
   written : k < 257 → Filling (sumTo (take n counts)) (replicate 257 0) (set out k at) (k + 1)
   written h =
       filling-next (sumTo (take n counts)) 0 (replicate 257 0) out k at (s .filling) (omega (arith, length-replicate {A = ℕ} 257 0)) (s .walk .here)

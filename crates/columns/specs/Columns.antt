@@ -1,7 +1,8 @@
 -- The columns of a pattern: what the reports on its shells work on.
-use Prim.Native.Nat.{ℕ, suc}
-use mathlib.Core.List.{map}
-use lib.ListN.{getD, take}
+use Prim.Native.Nat.{ℕ, _≤_, suc}
+use mathlib.Core.List.{List, map}
+use mathlib.Core.Path.{_≡_}
+use lib.ListN.{getD, length, take}
 use Rattle.lists.specs.Lists.{padded, sum, tabulate}
 use Rattle.edge.specs.Edges.{backNumber, frontNumber}
 use Rattle.face.specs.Faces.{wireCount}
@@ -36,3 +37,23 @@ columnsIn p = record {
   places = padded 257 0 (tabulate (suc (getD (p .counts) 5 0)) (firstListing p));
   listings = p .listings;
 }
+
+-- tables with so many records; the faces are given by their numbers of wires
+pub record Summed (counts uses wires faces shells : List ℕ) : Type 0 where
+  pub uses-few : getD counts 2 0 ≤ 4096
+  pub uses-long : getD counts 2 0 ≤ length uses
+  pub wires-few : getD counts 3 0 ≤ 1024
+  pub wires-long : getD counts 3 0 ≤ length wires
+  pub faces-few : getD counts 4 0 ≤ 256
+  pub faces-long : getD counts 4 0 ≤ length faces
+  pub shells-few : getD counts 5 0 ≤ 256
+  pub shells-long : getD counts 5 0 ≤ length shells
+  pub wires-summed : sum (take (getD counts 3 0) wires) ≡ getD counts 2 0
+  pub faces-summed : sum (take (getD counts 4 0) faces) ≡ getD counts 3 0
+
+-- the columns that are made of them
+pub record Made (counts uses wires faces shells turned starts firsts places : List ℕ) : Type 0 where
+  pub turned-are : turned ≡ padded 4096 0 (turnedUses (take (getD counts 3 0) wires) (take (getD counts 2 0) uses))
+  pub starts-are : starts ≡ padded 257 0 (tabulate (suc (getD counts 4 0)) (faceStart (take (getD counts 4 0) faces) (take (getD counts 3 0) wires)))
+  pub firsts-are : firsts ≡ padded 257 0 (tabulate (suc (getD counts 4 0)) (λ (f : ℕ). sum (take f (take (getD counts 4 0) faces))))
+  pub places-are : places ≡ padded 257 0 (tabulate (suc (getD counts 5 0)) (λ (n : ℕ). sum (take n (take (getD counts 5 0) shells))))

@@ -3,15 +3,15 @@
 ghost use mathlib.Core.Path.{_≡_};
 ghost use mathlib.Core.List.{[]};
 ghost use Prim.Native.Nat.{_<_, _≤_, suc, ℕ};
-ghost use lib.ListN.{getD, length, take};
+ghost use lib.ListN.{getD, length, replicate, take};
 ghost use Rattle.lists.specs.Lists.{padded, sum, tabulate};
 ghost use Rattle.listing.specs.Parts.{faceStart, turnedUses};
 ghost use Rattle.pattern.specs.Checks.{patternFaults};
-ghost use Rattle.columns.specs.Columns.{columnsIn};
+ghost use Rattle.columns.specs.Columns.{columnsIn, Made, Summed};
 ghost use Rattle.columns.specs.Sound.{Sound};
 use face::wire_counts;
-use listing::face_starts;
-use listing::turned_uses;
+use listing::put_face_starts;
+use listing::put_turned_uses;
 use pattern::Pattern;
 use words::index;
 
@@ -29,38 +29,44 @@ pub struct Columns {
     pub listings: [u16; 512],
 }
 
-// The turned uses of the first wires. Uses and listings are numbers of two bytes.
-fn turned_of<'a>(
+// Writes the turned uses of the first wires. Uses and listings are numbers of two bytes.
+fn put_turned<'a>(
     uses: &'a [u16],
     ucount: usize,
     wires: &'a [u16],
     wcount: usize,
     listings: &'a [u16],
-) -> [u16; 4096]
+    out: &mut [u16],
+)
     requires { ⌜ (ucount ≤ 4096) × (ucount ≤ length (now uses)) × (wcount ≤ 1024) × (wcount ≤ length (now wires)) ⌝ }
-    requires { ⌜ sum (take wcount (now wires)) ≡ ucount ⌝ }
-    ensures { λ r. ⌜ r ≡ padded 4096 0 (turnedUses (take wcount (now (wires .entry))) (take ucount (now (uses .entry)))) ⌝ }
+    requires { ⌜ (sum (take wcount (now wires)) ≡ ucount) × (now out ≡ replicate 4096 0) ⌝ }
+    ensures { λ _. ⌜ now (out .exit) ≡ padded 4096 0 (turnedUses (take wcount (now (wires .entry))) (take ucount (now (uses .entry)))) ⌝ }
     ensures { λ _. ⌜ ((k : ℕ) → (getD (now (uses .entry)) k 0 < 65536) × (getD (now (listings .entry)) k 0 < 65536)) ⌝ }
 {
-    turned_uses(&uses[0..ucount], &wires[0..wcount])
+    put_turned_uses(&uses[0..ucount], &wires[0..wcount], out);
 }
 
-// Where the uses of the first faces begin.
-fn starts_of(wires: &[u16], wcount: usize, counts: &[u16], fcount: usize) -> [usize; 257]
+// Writes where the uses of the first faces begin.
+fn put_starts<'a>(
+    wires: &'a [u16],
+    wcount: usize,
+    counts: &'a [u16],
+    fcount: usize,
+    out: &mut [usize],
+)
     requires { ⌜ (wcount ≤ 1024) × (wcount ≤ length (now wires)) × (fcount ≤ 256) × (fcount ≤ length (now counts)) ⌝ }
-    requires { ⌜ sum (take fcount (now counts)) ≡ wcount ⌝ }
-    ensures { λ r. ⌜ r ≡ padded 257 0 (tabulate (suc fcount) (faceStart (take fcount (now (counts .entry))) (take wcount (now (wires .entry))))) ⌝ }
+    requires { ⌜ (sum (take fcount (now counts)) ≡ wcount) × (now out ≡ replicate 257 0) ⌝ }
+    ensures { λ _. ⌜ now (out .exit) ≡ padded 257 0 (tabulate (suc fcount) (faceStart (take fcount (now (counts .entry))) (take wcount (now (wires .entry))))) ⌝ }
 {
-    face_starts(&wires[0..wcount], counts, fcount)
+    put_face_starts(&wires[0..wcount], counts, fcount, out);
 }
 
-// Where the wires of each of the first n faces begin, and where the last one's end; or the listings
-// of shells. The rest is 0.
-fn firsts_of(counts: &[u16], n: usize) -> [usize; 257]
-    requires { ⌜ (n ≤ 256) × (n ≤ length (now counts)) ⌝ }
-    ensures { λ r. ⌜ r ≡ padded 257 0 (tabulate (suc n) (λ (f : ℕ). sum (take f (take n (now (counts .entry)))))) ⌝ }
+// Writes where the wires of each of the first n faces begin, and where the last one's end; or the
+// listings of shells.
+fn put_firsts(counts: &[u16], n: usize, out: &mut [usize])
+    requires { ⌜ (n ≤ 256) × (n ≤ length (now counts)) × (now out ≡ replicate 257 0) ⌝ }
+    ensures { λ _. ⌜ now (out .exit) ≡ padded 257 0 (tabulate (suc n) (λ (f : ℕ). sum (take f (take n (now (counts .entry)))))) ⌝ }
 {
-    let mut out = [0usize; 257];
     let mut at: usize = 0;
     let mut k: usize = 0;
     while k < n {
@@ -69,7 +75,32 @@ fn firsts_of(counts: &[u16], n: usize) -> [usize; 257]
         k += 1;
     }
     out[n] = at;
-    out
+}
+
+// Writes the columns that are made of the tables of a pattern without fault: its uses turned, where
+// the uses and the wires of each face begin, and the listings of each shell. The tables are lent one
+// by one: a struct given by value would be copied. `faces` has the faces' numbers of wires.
+pub fn put_columns<'a>(
+    counts: [usize; 7],
+    uses: &'a [u16],
+    wires: &'a [u16],
+    faces: &'a [u16],
+    shells: &'a [u16],
+    listings: &'a [u16],
+    turned: &mut [u16],
+    starts: &mut [usize],
+    firsts: &mut [usize],
+    places: &mut [usize],
+)
+    requires { ⌜ Summed counts (now uses) (now wires) (now faces) (now shells) ⌝ }
+    requires { ⌜ (now turned ≡ replicate 4096 0) × (now starts ≡ replicate 257 0) × (now firsts ≡ replicate 257 0) × (now places ≡ replicate 257 0) ⌝ }
+    ensures { λ _. ⌜ Made counts (now (uses .entry)) (now (wires .entry)) (now (faces .entry)) (now (shells .entry)) (now (turned .exit)) (now (starts .exit)) (now (firsts .exit)) (now (places .exit)) ⌝ }
+    ensures { λ _. ⌜ ((k : ℕ) → (getD (now (uses .entry)) k 0 < 65536) × (getD (now (listings .entry)) k 0 < 65536)) ⌝ }
+{
+    put_turned(uses, counts[2], wires, counts[3], listings, turned);
+    put_starts(wires, counts[3], faces, counts[4], starts);
+    put_firsts(faces, counts[4], firsts);
+    put_firsts(shells, counts[5], places);
 }
 
 // The columns of a pattern without fault.
@@ -86,24 +117,31 @@ pub fn columns_of(p: Pattern) -> Columns
         backs[i] = p.edges[i].back.0;
         i += 1;
     }
-    let points = p.counts[0];
-    let ecount = p.counts[1];
-    let ucount = p.counts[2];
-    let wcount = p.counts[3];
-    let fcount = p.counts[4];
-    let scount = p.counts[5];
+    let counts = p.counts;
     let faces = p.faces;
-    let counts = wire_counts(faces);
-    let turned = turned_of(&p.uses, ucount, &p.wires, wcount, &p.listings);
-    let starts = starts_of(&p.wires, wcount, &counts, fcount);
-    let firsts = firsts_of(&counts, fcount);
-    let places = firsts_of(&p.shells, scount);
+    let wire_numbers = wire_counts(faces);
+    let mut turned = [0u16; 4096];
+    let mut starts = [0usize; 257];
+    let mut firsts = [0usize; 257];
+    let mut places = [0usize; 257];
+    put_columns(
+        counts,
+        &p.uses,
+        &p.wires,
+        &wire_numbers,
+        &p.shells,
+        &p.listings,
+        &mut turned,
+        &mut starts,
+        &mut firsts,
+        &mut places,
+    );
     let uses = p.uses;
     let wires = p.wires;
     let listings = p.listings;
     Columns {
-        points,
-        edges: ecount,
+        points: counts[0],
+        edges: counts[1],
         uses,
         turned,
         starts,

@@ -15,6 +15,7 @@ use Rattle.edge.specs.Uses.{edgeNumber}
 use Rattle.groups.proofs.Alike.{in-flat-map, member-at, of-flat-map}
 use Rattle.groups.proofs.Meaning.{of-each}
 use Rattle.groups.specs.Groups.{Link, link, links}
+use Rattle.lists.proofs.Count.{All}
 use Rattle.lists.proofs.Flat.{getD-tabulate}
 use Rattle.lists.proofs.Laws.{length-tabulate}
 use Rattle.lists.specs.Lists.{disjoint, has, numbers, only, pick, split, sum}
@@ -133,7 +134,7 @@ unfoldable edgeLinks : ℕ → List (List ℕ) → List Link
 edgeLinks b [] = []
 edgeLinks b (us ∷ parts) = map (λ (x : ℕ). link x b) (map edgeNumber us) ++ edgeLinks (suc b) parts
 
-links-append : (xs xs′ ys ys′ : List ℕ) → length xs ≡ length ys → links (xs ++ xs′) (ys ++ ys′) ≡ links xs ys ++ links xs′ ys′
+pub links-append : (xs xs′ ys ys′ : List ℕ) → length xs ≡ length ys → links (xs ++ xs′) (ys ++ ys′) ≡ links xs ys ++ links xs′ ys′
 unfolding links
 links-append [] xs′ [] ys′ e = refl
 links-append [] xs′ (y ∷ ys) ys′ e = absurd (omega arith)
@@ -190,3 +191,13 @@ module _ (b : ℕ) (spans uses : List ℕ) (e : sum spans ≡ length uses) where
 
   pub in-use-links : (k x : ℕ) → k < length (split spans uses) → List·Memᴰ x (edgesOf (split spans uses) k) → List·Memᴰ (link x (b + k)) (useLinks b spans uses)
   in-use-links k x h m = rw (use-links b spans uses e) (in-edge-links b (split spans uses) k x h m)
+
+-- ---- what holds of all
+pub all-member : (P : ℕ → Type 0) (xs : List ℕ) → All P xs → (x : ℕ) → List·Memᴰ x xs → P x
+all-member P [] h x m = absurd (List·Memᴰ·not-nil m)
+all-member P (y ∷ ys) h x m =
+    ⊎-elim (λ (e : x ≡ y). rw e (h .0)) (λ (o : List·Memᴰ x ys). all-member P ys (h .1) x o) (List·Memᴰ·cases-cons m)
+
+pub all-replicate : (P : ℕ → Type 0) (n v : ℕ) → P v → All P (replicate n v)
+all-replicate P zero v h = tt
+all-replicate P (suc n) v h = (h, all-replicate P n v h)

@@ -7,9 +7,9 @@ use native.Mathlib.Omega.{arith}
 use lib.ListN.{List·getD-map, drop, getD, length, length-append, length-drop, length-map, length-replicate, replicate, take}
 use lib.Seq.{getD-take, length-sets, sets}
 use Rattle.components.proofs.Loops.{length-owners, roots-long, take-sets}
-use Rattle.components.proofs.Members.{edgesOf, of-use-links}
+use Rattle.components.proofs.Members.{all-member, edgesOf, of-use-links}
 use Rattle.components.proofs.Theorem.{roots-same}
-use Rattle.components.specs.Pairs.{Joinable, Linkable, Paired, Rooted, owners, pairRoots, useLinks, useTrees}
+use Rattle.components.specs.Pairs.{Linkable, Paired, Rooted, owners, pairRoots, useLinks, useTrees}
 use Rattle.edge.specs.Uses.{edgeNumber}
 use Rattle.groups.proofs.All.{joined-all-long}
 use Rattle.groups.proofs.Climbing.{root-below}
@@ -24,22 +24,6 @@ use Rattle.sequence.proofs.Loops.{key-groups-few, key-groups-long}
 use Rattle.sequence.proofs.Only.{groups-same}
 use Rattle.sequence.specs.Keys.{Keyed, keyGroups, named, sameKey}
 use Rattle.shell.specs.Components.{componentsOf, groupsOf, pairLinks}
-
-all-member : (P : ℕ → Type 0) (xs : List ℕ) → All P xs → (x : ℕ) → List·Memᴰ x xs → P x
-all-member P [] h x m = absurd (List·Memᴰ·not-nil m)
-all-member P (y ∷ ys) h x m =
-    ⊎-elim (λ (e : x ≡ y). rw e (h .0)) (λ (o : List·Memᴰ x ys). all-member P ys (h .1) x o) (List·Memᴰ·cases-cons m)
-
-all-replicate : (P : ℕ → Type 0) (n v : ℕ) → P v → All P (replicate n v)
-all-replicate P zero v h = tt
-all-replicate P (suc n) v h = (h, all-replicate P n v h)
-
-owners-low : (m b : ℕ) (ns : List ℕ) → b + length ns ≤ m → All (λ (x : ℕ). x < m) (owners b ns)
-unfolding owners
-owners-low m b [] h = tt
-owners-low m b (n ∷ ns) h =
-    all-append (λ (x : ℕ). x < m) (replicate n b) (owners (suc b) ns) (all-replicate (λ (x : ℕ). x < m) n b (omega arith))
-    (owners-low m (suc b) ns (omega arith))
 
 module _ (spans uses : List ℕ) (edges : ℕ) (u : Linkable spans uses edges) where
   abbrev parts : List (List ℕ)
@@ -64,47 +48,6 @@ module _ (spans uses : List ℕ) (edges : ℕ) (u : Linkable spans uses edges) w
 
   use-grouped : (ps ss : List ℕ) → Grouped n (useLinks edges spans uses) (useTrees edges spans uses ps ss .parents) (useTrees edges spans uses ps ss .sizes)
   use-grouped ps ss = grouped-all n [] (useLinks edges spans uses) (started n ps ss) (grouped-start n ps ss few) inside
-
-  -- ---- the columns
-  abbrev Edges : List ℕ → Type 0
-  Edges a = a ≡ sets (replicate 8192 0) 0 (map edgeNumber uses)
-
-  abbrev Owners : List ℕ → Type 0
-  Owners b = b ≡ sets (replicate 8192 0) 0 (owners edges spans)
-
-  edges-part : (a : List ℕ) → Edges a → take (length uses) a ≡ map edgeNumber uses
-  edges-part a e =
-      ap (take (length uses)) e
-      ∙ take-sets (replicate 8192 0) (map edgeNumber uses) (length uses) (length-map uses edgeNumber) (omega (arith, u .short, length-replicate {A = ℕ} 8192 0))
-
-  owners-part : (b : List ℕ) → Owners b → take (length uses) b ≡ owners edges spans
-  owners-part b e =
-      ap (take (length uses)) e
-      ∙ take-sets (replicate 8192 0) (owners edges spans) (length uses) (length-owners edges spans ∙ u .summed) (omega (arith, u .short, length-replicate {A = ℕ} 8192 0))
-
-  module _ (ps ss ps′ ss′ : List ℕ) (begun : (ps′ ≡ started n ps ss .parents) × (ss′ ≡ started n ps ss .sizes)) (a b : List ℕ) (ea : Edges a) (eb : Owners b) where
-    pub columns-join : Joinable n ps′ ss′ a b (length uses)
-    columns-join = record {
-      forest = rw (begun .0, begun .1) (grouped-start n ps ss few .forest);
-      left = omega (arith, ap length ea, length-sets {A = ℕ} (replicate 8192 0) 0 (map edgeNumber uses), length-replicate {A = ℕ} 8192 0, u .short);
-      right = omega (arith, ap length eb, length-sets {A = ℕ} (replicate 8192 0) 0 (owners edges spans), length-replicate {A = ℕ} 8192 0, u .short);
-      below = λ k h. (
-        omega (arith, u .within k h, sym (getD-take (length uses) a k 0 h) ∙ ap (λ (r : List ℕ). getD r k 0) (edges-part a ea) ∙ List·getD-map edgeNumber uses k 0),
-        rw (sym (getD-take (length uses) b k 0 h) ∙ ap (λ (r : List ℕ). getD r k 0) (owners-part b eb)) (owner-low k h),
-      );
-    }
-      where
-        owner-low : (k : ℕ) → k < length uses → getD (owners edges spans) k 0 < n
-        owner-low k h = all-at (λ (x : ℕ). x < n) 0 (omega (arith, spans-some)) (owners edges spans) (owners-low n edges spans (omega arith)) k
-          where
-            spans-some : 0 < n
-            spans-some = omega (arith, u .within k h)
-
-    pub columns-joined : {ps″ ss″ : List ℕ}
-        → (ps″ ≡ joinedAll (trees ps′ ss′) (links (take (length uses) a) (take (length uses) b)) .parents)
-        × (ss″ ≡ joinedAll (trees ps′ ss′) (links (take (length uses) a) (take (length uses) b)) .sizes)
-        → (ps″ ≡ useTrees edges spans uses ps ss .parents) × (ss″ ≡ useTrees edges spans uses ps ss .sizes)
-    columns-joined o = rw (edges-part a ea, owners-part b eb, begun .0, begun .1) at o
 
   -- ---- the roots
   module _ (ps ss ps′ : List ℕ) (made : ps′ ≡ useTrees edges spans uses ps ss .parents) where

@@ -4,7 +4,7 @@ use mathlib.Core.List.{List, [], _++_, _∷_, map}
 use mathlib.Core.Path.{_≡_}
 use lib.ListN.{getD, length, replicate}
 use Rattle.edge.specs.Uses.{edgeNumber}
-use Rattle.groups.specs.Forest.{Climbs, Forest, Trees, joinedAll, rootOf, started}
+use Rattle.groups.specs.Forest.{Climbs, Trees, joinedAll, rootOf, started}
 use Rattle.groups.specs.Groups.{Link, links}
 use Rattle.lists.specs.Lists.{sum, tabulate}
 
@@ -17,6 +17,14 @@ owners b (n ∷ ns) = replicate n b ++ owners (suc b) ns
 abbrev pub useLinks : ℕ → List ℕ → List ℕ → List Link
 useLinks edges spans uses = links (map edgeNumber uses) (owners edges spans)
 
+-- each use of a part links its edge with the member
+abbrev pub memberLinks : ℕ → List ℕ → List Link
+memberLinks member part = links (map edgeNumber part) (replicate (length part) member)
+
+-- the uses are of edges among n members
+abbrev pub Within : ℕ → List ℕ → Type 0
+Within n us = (k : ℕ) → k < length us → edgeNumber (getD us k 0) < n
+
 -- the forest of these links
 abbrev pub useTrees : ℕ → List ℕ → List ℕ → List ℕ → List ℕ → Trees
 useTrees edges spans uses parents sizes = joinedAll (started (edges + length spans) parents sizes) (useLinks edges spans uses)
@@ -28,13 +36,6 @@ rootsOf parents first n = tabulate n (λ (k : ℕ). rootOf parents (first + k))
 -- the root of each pair
 abbrev pub pairRoots : ℕ → List ℕ → List ℕ → List ℕ
 pairRoots edges spans uses = rootsOf (useTrees edges spans uses (replicate 1536 0) (replicate 1536 0) .parents) edges (length spans)
-
--- columns whose first m members can be joined one by one
-pub record Joinable (n : ℕ) (parents sizes a b : List ℕ) (m : ℕ) : Type 0 where
-  pub forest : Forest n parents sizes
-  pub left : m ≤ length a
-  pub right : m ≤ length b
-  pub below : (k : ℕ) → k < m → (getD a k 0 < n) × (getD b k 0 < n)
 
 -- members whose roots can be written
 pub record Rooted (parents : List ℕ) (first n : ℕ) (out : List ℕ) : Type 0 where

@@ -3,68 +3,31 @@
 // pair; pairs with the same root are a component.
 ghost use mathlib.Core.Path.{_≡_};
 ghost use mathlib.Core.List.{map};
-ghost use Prim.Native.Nat.{_+_, _≤_};
-ghost use lib.ListN.{length, replicate, take};
+ghost use Prim.Native.Nat.{_<_, _≤_};
+ghost use lib.ListN.{length, take};
 ghost use lib.Seq.{sets};
-ghost use Rattle.lists.specs.Lists.{flat, split, sum};
-ghost use Rattle.edge.specs.Uses.{edgeNumber};
-ghost use Rattle.groups.specs.Forest.{joinedAll, trees};
-ghost use Rattle.groups.specs.Groups.{links};
+ghost use Rattle.lists.specs.Lists.{flat, split};
+ghost use Rattle.groups.specs.Forest.{Forest, joinedAll, trees};
 ghost use Rattle.sequence.specs.Keys.{Keyed, keyGroups};
 ghost use Rattle.shell.specs.Components.{componentsOf};
-ghost use Rattle.components.specs.Pairs.{Joinable, Linkable, Paired, Rooted, owners, pairRoots, rootsOf, useTrees};
+ghost use Rattle.components.specs.Pairs.{Linkable, memberLinks, Paired, pairRoots, Rooted, rootsOf, useTrees, Within};
 use groups::find;
-use groups::join_all;
+use groups::join;
 use groups::start;
 use sequence::groups_by;
 use words::index;
 
-// Writes the edge of each use.
-fn put_edges(out: &mut [u16], uses: &[u16])
-    requires { ⌜ length (now uses) ≤ length (now out) ⌝ }
-    ensures { λ _. ⌜ now (out .exit) ≡ sets (now (out .entry)) 0 (map edgeNumber (now (uses .entry))) ⌝ }
+// Joins the edge of each use of a part with a member.
+fn join_part(parents: &mut [u16], sizes: &mut [u16], n: usize, part: &[u16], member: usize)
+    requires { ⌜ Forest n (now parents) (now sizes) × Within n (now part) × (member < n) ⌝ }
+    ensures { λ _. ⌜ now (parents .exit) ≡ joinedAll (trees (now (parents .entry)) (now (sizes .entry))) (memberLinks member (now (part .entry))) .parents ⌝ }
+    ensures { λ _. ⌜ now (sizes .exit) ≡ joinedAll (trees (now (parents .entry)) (now (sizes .entry))) (memberLinks member (now (part .entry))) .sizes ⌝ }
 {
     let mut i: usize = 0;
-    while i < uses.len() {
-        out[i] = uses[i] % 32768;
+    while i < part.len() {
+        join(parents, sizes, index(part[i] % 32768), member);
         i += 1;
     }
-}
-
-// Writes a member n times from `at` on.
-fn put_run(out: &mut [u16], at: usize, n: usize, member: u16)
-    requires { ⌜ at + n ≤ length (now out) ⌝ }
-    ensures { λ _. ⌜ now (out .exit) ≡ sets (now (out .entry)) at (replicate n member) ⌝ }
-{
-    let mut i: usize = 0;
-    while i < n {
-        out[at + i] = member;
-        i += 1;
-    }
-}
-
-// Writes the member of each use's pair; the first pair's is `first`.
-fn put_owners(out: &mut [u16], spans: &[u16], first: usize)
-    requires { ⌜ (length (now out) ≡ 8192) × (sum (now spans) ≤ 8192) × (first + length (now spans) ≤ 1536) ⌝ }
-    ensures { λ _. ⌜ now (out .exit) ≡ sets (now (out .entry)) 0 (owners first (now (spans .entry))) ⌝ }
-{
-    let mut at: usize = 0;
-    let mut k: usize = 0;
-    while k < spans.len() {
-        let n = index(spans[k]);
-        put_run(out, at, n, (first + k) as u16);
-        at += n;
-        k += 1;
-    }
-}
-
-// Joins the groups of the first m members of two columns, one by one.
-fn join_first(parents: &mut [u16], sizes: &mut [u16], n: usize, a: &[u16], b: &[u16], m: usize)
-    requires { ⌜ Joinable n (now parents) (now sizes) (now a) (now b) m ⌝ }
-    ensures { λ _. ⌜ now (parents .exit) ≡ joinedAll (trees (now (parents .entry)) (now (sizes .entry))) (links (take m (now (a .entry))) (take m (now (b .entry)))) .parents ⌝ }
-    ensures { λ _. ⌜ now (sizes .exit) ≡ joinedAll (trees (now (parents .entry)) (now (sizes .entry))) (links (take m (now (a .entry))) (take m (now (b .entry)))) .sizes ⌝ }
-{
-    join_all(parents, sizes, n, &a[0..m], &b[0..m]);
 }
 
 // Makes the forest of the edges and the pairs, where each use joins its edge and its pair.
@@ -75,11 +38,14 @@ fn link_uses(parents: &mut [u16], sizes: &mut [u16], spans: &[u16], uses: &[u16]
 {
     let n = edges + spans.len();
     start(parents, sizes, n);
-    let mut a = [0u16; 8192];
-    let mut b = [0u16; 8192];
-    put_edges(&mut a, uses);
-    put_owners(&mut b, spans, edges);
-    join_first(parents, sizes, n, &a, &b, uses.len());
+    let mut at: usize = 0;
+    let mut k: usize = 0;
+    while k < spans.len() {
+        let m = index(spans[k]);
+        join_part(parents, sizes, n, &uses[at..at + m], edges + k);
+        at += m;
+        k += 1;
+    }
 }
 
 // Writes the roots of n members, from member `first` on.

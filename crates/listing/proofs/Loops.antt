@@ -14,7 +14,7 @@ use borrow.Author.Tests.{ltb-false, ltb-true}
 use Rattle.edge.specs.Uses.{turned}
 use Rattle.listing.proofs.Laws.{shown-first, turned-keeps, turned-long}
 use Rattle.listing.specs.Parts.{faceStart, turnedUses}
-use Rattle.lists.proofs.Laws.{Filling, cases, drop-replicate, filling-next, filling-padded, filling-start, length-split, sum-append, sum-take-drop}
+use Rattle.lists.proofs.Laws.{Filling, cases, drop-replicate, filling-long, filling-next, filling-padded, filling-start, length-split, sum-append, sum-take-drop}
 use Rattle.lists.proofs.Sets.{flat-next, sets-next, sets-then}
 use Rattle.lists.proofs.Split.{Walk, walk-fits, walk-next, walk-part, walk-start}
 use Rattle.lists.specs.Lists.{flat, padded, split, sum, tabulate}
@@ -52,9 +52,9 @@ pub record Turning (wires uses out : List ℕ) (k at : ℕ) : Type 0 where
   pub summed : sum wires ≡ length uses
   pub is : out ≡ sets (replicate 4096 0) 0 (flat (map turnedWire (take k (split wires uses))))
 
-pub turning-start : (wires uses : List ℕ) → length uses ≤ 4096 → sum wires ≡ length uses → Turning wires uses (replicate 4096 0) 0 0
+pub turning-start : (wires uses out : List ℕ) → length uses ≤ 4096 → sum wires ≡ length uses → out ≡ replicate 4096 0 → Turning wires uses out 0 0
 unfolding flat
-turning-start wires uses h e = record { walk = walk-start wires; few = h; summed = e; is = refl }
+turning-start wires uses out h e z = record { walk = walk-start wires; few = h; summed = e; is = z }
 
 module _ {wires uses out : List ℕ} {k at : ℕ} (s : Turning wires uses out k at) where
   pub turning-long : length out ≡ 4096
@@ -105,19 +105,22 @@ pub record Starting (wires counts : List ℕ) (n : ℕ) (out : List ℕ) (k at s
   pub here : start ≡ sum (take at wires)
   pub filling : Filling (faceStart (take n counts) wires) (replicate 257 0) out k
 
-pub starting-start : (wires counts : List ℕ) (n : ℕ) → n ≤ 256 → n ≤ length counts → sum (take n counts) ≡ length wires
-    → Starting wires counts n (replicate 257 0) 0 0 0
+pub starting-start : (wires counts : List ℕ) (n : ℕ) (out : List ℕ) → n ≤ 256 → n ≤ length counts → sum (take n counts) ≡ length wires → out ≡ replicate 257 0
+    → Starting wires counts n out 0 0 0
 unfolding sum
-starting-start wires counts n h l e = record {
+starting-start wires counts n out h l e z = record {
   few = h;
   counted = l;
   summed = e;
   walk = walk-start (take n counts);
   here = refl;
-  filling = filling-start (faceStart (take n counts) wires) (replicate 257 0);
+  filling = rw z (filling-start (faceStart (take n counts) wires) (replicate 257 0));
 }
 
 module _ {wires counts : List ℕ} {n : ℕ} {out : List ℕ} {k at start : ℕ} (s : Starting wires counts n out k at start) where
+  pub starting-long : length out ≡ 257
+  starting-long = filling-long (faceStart (take n counts) wires) (replicate 257 0) out k (s .filling) ∙ length-replicate {A = ℕ} 257 0
+
   written : k < 257 → Filling (faceStart (take n counts) wires) (replicate 257 0) (set out k start) (k + 1)
   written h =
       filling-next (faceStart (take n counts) wires) 0 (replicate 257 0) out k start (s .filling) (omega (arith, length-replicate {A = ℕ} 257 0))

@@ -3,7 +3,7 @@
 ghost use mathlib.Core.Path.{_≡_};
 ghost use mathlib.Core.List.{map, reverse};
 ghost use Prim.Native.Nat.{_+_, _-_, _≤_, suc};
-ghost use lib.ListN.{drop, length, take};
+ghost use lib.ListN.{drop, length, replicate, take};
 ghost use lib.Seq.{sets};
 ghost use Rattle.lists.specs.Lists.{padded, pick, sum, tabulate};
 ghost use Rattle.edge.specs.Uses.{turned};
@@ -33,30 +33,27 @@ fn put_turned(out: &mut [u16], at: usize, wire: &[u16])
     }
 }
 
-// The uses of each wire in reverse order and turned, wire after wire; the rest is 0.
-pub fn turned_uses(uses: &[u16], wires: &[u16]) -> [u16; 4096]
-    requires { ⌜ (length (now uses) ≤ 4096) × (length (now wires) ≤ 1024) × (sum (now wires) ≡ length (now uses)) ⌝ }
-    ensures { λ r. ⌜ r ≡ padded 4096 0 (turnedUses (now (wires .entry)) (now (uses .entry))) ⌝ }
+// Writes the uses of each wire in reverse order and turned, wire after wire.
+pub fn put_turned_uses(uses: &[u16], wires: &[u16], out: &mut [u16])
+    requires { ⌜ (length (now uses) ≤ 4096) × (length (now wires) ≤ 1024) × (sum (now wires) ≡ length (now uses)) × (now out ≡ replicate 4096 0) ⌝ }
+    ensures { λ _. ⌜ now (out .exit) ≡ padded 4096 0 (turnedUses (now (wires .entry)) (now (uses .entry))) ⌝ }
 {
-    let mut out = [0u16; 4096];
     let mut at: usize = 0;
     let mut k: usize = 0;
     while k < wires.len() {
         let n = index(wires[k]);
-        put_turned(&mut out, at, &uses[at..at + n]);
+        put_turned(out, at, &uses[at..at + n]);
         at += n;
         k += 1;
     }
-    out
 }
 
-// Where the uses of each of the first n faces begin, and where the last one's end; the rest is 0.
-// The first n of `counts` are the faces' numbers of wires, `wires` has the wires' lengths.
-pub fn face_starts(wires: &[u16], counts: &[u16], n: usize) -> [usize; 257]
-    requires { ⌜ (n ≤ 256) × (n ≤ length (now counts)) × (sum (take n (now counts)) ≡ length (now wires)) × (length (now wires) ≤ 1024) ⌝ }
-    ensures { λ r. ⌜ r ≡ padded 257 0 (tabulate (suc n) (faceStart (take n (now (counts .entry))) (now (wires .entry)))) ⌝ }
+// Writes where the uses of each of the first n faces begin, and where the last one's end. The first n
+// of `counts` are the faces' numbers of wires, `wires` has the wires' lengths.
+pub fn put_face_starts(wires: &[u16], counts: &[u16], n: usize, out: &mut [usize])
+    requires { ⌜ (n ≤ 256) × (n ≤ length (now counts)) × (sum (take n (now counts)) ≡ length (now wires)) × (length (now wires) ≤ 1024) × (now out ≡ replicate 257 0) ⌝ }
+    ensures { λ _. ⌜ now (out .exit) ≡ padded 257 0 (tabulate (suc n) (faceStart (take n (now (counts .entry))) (now (wires .entry)))) ⌝ }
 {
-    let mut out = [0usize; 257];
     let mut at: usize = 0;
     let mut start: usize = 0;
     let mut k: usize = 0;
@@ -68,7 +65,6 @@ pub fn face_starts(wires: &[u16], counts: &[u16], n: usize) -> [usize; 257]
         k += 1;
     }
     out[n] = start;
-    out
 }
 
 // The uses that a listing shows, from `start` to `end`: of the column of uses, or, reversed, of that

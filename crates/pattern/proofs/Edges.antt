@@ -8,7 +8,7 @@ use lib.Seq.{length-take-le}
 use Rattle.edge.proofs.Laws.{noEdge}
 use Rattle.edge.specs.Edges.{backNumber, frontNumber}
 use Rattle.edge.specs.declared.Edge.{Edge}
-use Rattle.errors.proofs.Laws.{Passed, accepted-none, passed-start, refused-first, taken-all, taken-next, taken-stop}
+use Rattle.errors.proofs.Laws.{Passed, passed-start, refused-first, taken-all, taken-next, taken-stop}
 use Rattle.errors.specs.Faults.{andThen, each, first}
 use Rattle.errors.specs.declared.Check.{Check}
 use Rattle.errors.specs.declared.Check.the-variants.{Accepted, Refused}
@@ -104,11 +104,5 @@ module _ (p : Pattern) where
     edge-refused f h = refused-first (recordFaults (content p)) rule f (records-first p s full ∙ ap (λ (r : Check). andThen r (first list-faults)) h)
 
     module _ (edges : edge-faults ≡ []) where
-      records-are : first (recordFaults (content p)) ≡ first list-faults
+      pub records-are : first (recordFaults (content p)) ≡ first list-faults
       records-are = records-first p s full ∙ ap (λ (fs : List Refusal). andThen (first fs) (first list-faults)) edges
-
-      pub list-refused : (f : Refusal) → first list-faults ≡ Refused f → first (contentFaults (content p)) ≡ Refused f
-      list-refused f h = refused-first (recordFaults (content p)) rule f (records-are ∙ h)
-
-      pub lists-passed : first list-faults ≡ Accepted → recordFaults (content p) ≡ []
-      lists-passed h = accepted-none (recordFaults (content p)) (records-are ∙ h)

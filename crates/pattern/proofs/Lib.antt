@@ -1,3 +1,4 @@
+pub mod Columns
 pub mod Laws
 pub mod Counts
 pub mod Named

@@ -19,7 +19,7 @@ use Rattle.errors.specs.declared.Refusal.the-variants.{SameVertex, Span, Unname
 use Rattle.face.specs.Faces.{faceRule, wireCount}
 use Rattle.lists.proofs.Laws.{cases, eqb-sym, left-true, map-take, right-true}
 use Rattle.lists.specs.Lists.{split, sum, unless}
-use Rattle.pattern.proofs.Counts.{Full, Limited, points-counted, uses-counted, wires-counted}
+use Rattle.pattern.proofs.Counts.{Full, Limited, uses-counted, wires-counted}
 use Rattle.pattern.specs.Checks.{edgeFaults, nameFaults, outlines, recordFaults, sumFaults}
 use Rattle.pattern.specs.Contents.{Content, content}
 use Rattle.pattern.specs.declared.Pattern.{Pattern}
@@ -32,6 +32,23 @@ first-four a b c d e f h =
     let three = none-left (a ++ b ++ c) d four in
     let two = none-left (a ++ b) c three in
     (none-left a b two, none-right a b two, none-right (a ++ b) c three, none-right (a ++ b ++ c) d four)
+
+module _ (c : Content) (fine : each (edgeFaults (length (c .points))) 0 (c .edges) ≡ []) where
+  edge-named : (k : ℕ) → k < length (c .edges) → (frontNumber (getD (c .edges) k noEdge) < length (c .points)) × (backNumber (getD (c .edges) k noEdge) < length (c .points))
+  edge-named k h =
+      let e = getD (c .edges) k noEdge in
+      let n = length (c .points) in
+      let both = unless-passes (ltb (frontNumber e) n && ltb (backNumber e) n) (Unnamed 1 (0 + k)) (none-left (unless (ltb (frontNumber e) n && ltb (backNumber e) n) (Unnamed 1 (0 + k))) (unless (not (eqb (frontNumber e) (backNumber e))) (SameVertex (0 + k))) (none-left _ (unless (isSpan (e .curve)) (Span (0 + k))) (each-record (edgeFaults n) noEdge 0 (c .edges) fine k h))) in (
+        ltb-true (frontNumber e) n (left-true (ltb (frontNumber e) n) (ltb (backNumber e) n) both),
+        ltb-true (backNumber e) n (right-true (ltb (frontNumber e) n) (ltb (backNumber e) n) both),
+      )
+
+  -- the ends of the edges, as columns, name points too
+  pub front-named : (e : ℕ) → e < length (c .edges) → getD (map frontNumber (c .edges)) e 0 < length (c .points)
+  front-named e h = rw (List·getD-map frontNumber (c .edges) e noEdge) (edge-named e h .0)
+
+  pub back-named : (e : ℕ) → e < length (c .edges) → getD (map backNumber (c .edges)) e 0 < length (c .points)
+  back-named e h = rw (List·getD-map backNumber (c .edges) e noEdge) (edge-named e h .1)
 
 module _ (c : Content) (ok : recordFaults c ≡ []) where
   abbrev edges-checked : List Refusal
@@ -60,28 +77,12 @@ module _ (c : Content) (ok : recordFaults c ≡ []) where
       ltb-true (edgeNumber u) (length (c .edges))
       (unless-passes (ltb (edgeNumber u) (length (c .edges))) (Unnamed 2 (0 + k)) (each-record (nameFaults 2 (length (c .edges))) 0 0 (c .uses) (passed .1) k h))
 
-  edge-named : (k : ℕ) → k < length (c .edges) → (frontNumber (getD (c .edges) k noEdge) < length (c .points)) × (backNumber (getD (c .edges) k noEdge) < length (c .points))
-  edge-named k h =
-      let e = getD (c .edges) k noEdge in
-      let n = length (c .points) in
-      let both = unless-passes (ltb (frontNumber e) n && ltb (backNumber e) n) (Unnamed 1 (0 + k)) (none-left (unless (ltb (frontNumber e) n && ltb (backNumber e) n) (Unnamed 1 (0 + k))) (unless (not (eqb (frontNumber e) (backNumber e))) (SameVertex (0 + k))) (none-left _ (unless (isSpan (e .curve)) (Span (0 + k))) (each-record (edgeFaults n) noEdge 0 (c .edges) (passed .0) k h))) in (
-        ltb-true (frontNumber e) n (left-true (ltb (frontNumber e) n) (ltb (backNumber e) n) both),
-        ltb-true (backNumber e) n (right-true (ltb (frontNumber e) n) (ltb (backNumber e) n) both),
-      )
-
-  -- the ends of the edges, as columns, name points too
-  front-named : (e : ℕ) → e < length (c .edges) → getD (map frontNumber (c .edges)) e 0 < length (c .points)
-  front-named e h = rw (List·getD-map frontNumber (c .edges) e noEdge) (edge-named e h .0)
-
-  back-named : (e : ℕ) → e < length (c .edges) → getD (map backNumber (c .edges)) e 0 < length (c .points)
-  back-named e h = rw (List·getD-map backNumber (c .edges) e noEdge) (edge-named e h .1)
-
   pub point-named : (u : ℕ) → edgeNumber u < length (c .edges) → frontOf (map frontNumber (c .edges)) (map backNumber (c .edges)) u < length (c .points)
   unfolding frontOf
   point-named u h =
       ⊎-elim
-      (λ (r : leb 32768 u ≡ true). rw r (back-named (edgeNumber u) h))
-      (λ (r : leb 32768 u ≡ false). rw r (front-named (edgeNumber u) h))
+      (λ (r : leb 32768 u ≡ true). rw r (back-named c (passed .0) (edgeNumber u) h))
+      (λ (r : leb 32768 u ≡ false). rw r (front-named c (passed .0) (edgeNumber u) h))
       (cases (leb 32768 u))
 
   edge-apart : (k : ℕ) → k < length (c .edges) → eqb (frontNumber (getD (c .edges) k noEdge)) (backNumber (getD (c .edges) k noEdge)) ≡ false
@@ -114,11 +115,6 @@ module _ (c : Content) (ok : recordFaults c ≡ []) where
 
 -- the same of the tables in storage, as the code lends them
 module _ (p : Pattern) (s : Limited (p .counts)) (full : Full p) (ok : recordFaults (content p) ≡ []) where
-  pub tables-named : Named (take (getD (p .counts) 1 0) (map frontNumber (p .edges))) (take (getD (p .counts) 1 0) (map backNumber (p .edges))) (content p .uses)
-  tables-named =
-      rw (← map-take frontNumber (getD (p .counts) 1 0) (p .edges), ← map-take backNumber (getD (p .counts) 1 0) (p .edges))
-      (named (content p) ok (omega (arith, points-counted p s full, s .points)))
-
   pub tables-faces : sum (take (getD (p .counts) 4 0) (map wireCount (p .faces))) ≡ getD (p .counts) 3 0
   tables-faces = rw (← map-take wireCount (getD (p .counts) 4 0) (p .faces)) (faces-summed (content p) ok ∙ wires-counted p s full)
 

@@ -8,7 +8,7 @@ ghost use Rattle.errors.specs.Faults.{first as firstFault, each};
 ghost use Rattle.wire.specs.Wires.{Named};
 ghost use Rattle.face.specs.Faces.{faceRule};
 ghost use Rattle.pattern.specs.Contents.{layout, content};
-ghost use Rattle.pattern.specs.Checks.{countFaults, edgeFaults, nameFaults, sumFaults, listFaults, contentFaults, patternFaults};
+ghost use Rattle.pattern.specs.Checks.{Checkable, countFaults, edgeFaults, nameFaults, sumFaults, listFaults, columnFaults, contentFaults, patternFaults};
 ghost use Rattle.pattern.specs.Outlines.{placeNumber, wirePlace};
 use edge::Edge;
 use errors::Check;
@@ -65,7 +65,7 @@ pub fn check_counts(counts: [usize; 7]) -> Check
 }
 
 // One edge for its points, ends and span: 3, 5, 4.
-fn check_edge(e: Edge, k: usize, points: usize) -> Check
+pub fn check_edge(e: Edge, k: usize, points: usize) -> Check
     ensures { λ r. ⌜ r ≡ firstFault (edgeFaults points k e) ⌝ }
 {
     let front = index(e.front.0);
@@ -165,6 +165,56 @@ fn check_tables<'a>(
     )
 }
 
+// The reading checks after those of the edges, on columns: the other records, the face rule. Of each
+// column the first numbers count; `faces` has the faces' numbers of wires.
+pub fn check_columns<'a>(
+    counts: [usize; 7],
+    fronts: &'a [u16],
+    backs: &'a [u16],
+    uses: &'a [u16],
+    wires: &'a [u16],
+    faces: &'a [u16],
+    shells: &'a [u16],
+    listings: &'a [u16],
+) -> Check
+    requires { ⌜ Checkable counts (now fronts) (now backs) (now uses) (now wires) (now faces) (now shells) (now listings) ⌝ }
+    ensures { λ r. ⌜ r ≡ firstFault (columnFaults (take (getD counts 1 0) (now (fronts .entry))) (take (getD counts 1 0) (now (backs .entry))) (take (getD counts 2 0) (now (uses .entry))) (take (getD counts 3 0) (now (wires .entry))) (take (getD counts 4 0) (now (faces .entry))) (take (getD counts 5 0) (now (shells .entry))) (take (getD counts 6 0) (now (listings .entry)))) ⌝ }
+{
+    let ecount = counts[1];
+    let ucount = counts[2];
+    let wcount = counts[3];
+    let fcount = counts[4];
+    let scount = counts[5];
+    let lcount = counts[6];
+    let records = check_lists(
+        uses,
+        ucount,
+        ecount,
+        wires,
+        wcount,
+        faces,
+        fcount,
+        shells,
+        scount,
+        listings,
+        lcount,
+    );
+    match records {
+        Check::Refused(f) => Check::Refused(f),
+        Check::Accepted => check_tables(
+            uses,
+            ucount,
+            wires,
+            wcount,
+            faces,
+            fcount,
+            fronts,
+            backs,
+            ecount,
+        ),
+    }
+}
+
 // The reading checks after the counts: edges, other records, the face rule. The edges are read in
 // place, and their ends kept.
 pub fn check_content(p: Pattern) -> Check
@@ -189,40 +239,19 @@ pub fn check_content(p: Pattern) -> Check
         backs[k] = e.back.0;
         k += 1;
     }
-    let ucount = p.counts[2];
-    let wcount = p.counts[3];
-    let fcount = p.counts[4];
-    let scount = p.counts[5];
-    let lcount = p.counts[6];
+    let counts = p.counts;
     let faces = p.faces;
-    let counts = wire_counts(faces);
-    let records = check_lists(
+    let wire_numbers = wire_counts(faces);
+    check_columns(
+        counts,
+        &fronts,
+        &backs,
         &p.uses,
-        ucount,
-        ecount,
         &p.wires,
-        wcount,
-        &counts,
-        fcount,
+        &wire_numbers,
         &p.shells,
-        scount,
         &p.listings,
-        lcount,
-    );
-    match records {
-        Check::Refused(f) => Check::Refused(f),
-        Check::Accepted => check_tables(
-            &p.uses,
-            ucount,
-            &p.wires,
-            wcount,
-            &counts,
-            fcount,
-            &fronts,
-            &backs,
-            ecount,
-        ),
-    }
+    )
 }
 
 // The reading checks of a pattern in storage, which every call on a pattern makes first.

@@ -6,13 +6,17 @@ use native.Mathlib.Numerals.{add-one}
 use native.Mathlib.Omega.{arith}
 use lib.ListN.{drop, getD, length, length-append, length-drop, length-map, length-take, replicate, take}
 use lib.Seq.{sets, take-append-seam}
+use Rattle.columns.proofs.Made.{columns-made, summed}
 use Rattle.columns.proofs.Shells.{listings-are, listings-inside}
-use Rattle.columns.specs.Columns.{columnsIn}
+use Rattle.columns.specs.Columns.{Made, Summed, columnsIn}
 use Rattle.columns.specs.Sound.{Sound}
 use Rattle.columns.specs.declared.Columns.{Columns}
-use Rattle.errors.proofs.Laws.{none-both, none-left, none-right}
+use Rattle.edge.specs.Edges.{backNumber, frontNumber}
+use Rattle.errors.proofs.Laws.{accepted-none, none-both, none-left, none-right, refused-first}
+use Rattle.errors.specs.Faults.{first}
 use Rattle.errors.specs.declared.Check.the-variants.{Accepted as Check·Accepted, Refused as Check·Refused}
 use Rattle.errors.specs.declared.Refusal.{Refusal}
+use Rattle.face.specs.Faces.{faceRule}
 use Rattle.lines.specs.Lines.{shellLines}
 use Rattle.lines.specs.Parts.{Fits}
 use Rattle.lists.proofs.Parts.{flat-numbers, split-flat}
@@ -20,20 +24,19 @@ use Rattle.lists.proofs.Laws.{flat-append, map-tabulate, tabulate-suc}
 use Rattle.lists.proofs.Sets.{put-then}
 use Rattle.lists.specs.Lists.{flat, numbers, padded, split, sum, tabulate}
 use Rattle.output.specs.Text.{refusalLine}
-use Rattle.pattern.proofs.Counts.{shells-counted}
-use Rattle.pattern.specs.Checks.{contentFaults, countFaults, patternFaults}
+use Rattle.pattern.proofs.Counts.{Full, Limited, shells-counted}
+use Rattle.pattern.specs.Checks.{contentFaults, countFaults, outlines, patternFaults, recordFaults}
 use Rattle.pattern.specs.Contents.{Content, content, countsOf, stored}
 use Rattle.pattern.specs.declared.Pattern.{Pattern}
 use Rattle.pattern_file.proofs.RoundTrip.{content-of-stored}
-use Rattle.pattern_file.specs.File.{fileContent, fileFaults, tableFaults}
-use Rattle.reader.proofs.Laws.{counts-of-content, table-counts}
-use Rattle.reader.specs.Reading.{reading, readingOf, refusal}
-use Rattle.reader.specs.declared.Reading.{Reading}
+use Rattle.pattern_file.specs.File.{fileContent, fileCounts, fileFaults, tableFaults}
+use Rattle.reader.proofs.Laws.{counts-of-content, full, limits, table-counts}
+use Rattle.reader.specs.Reading.{Tables}
 use Rattle.report_text.specs.Report.{reportOf, reportText, shellReport, solidText, textFor}
-use Rattle.report_text.specs.Texts.{OfAll, Patterned, Shelled, arrayLines}
+use Rattle.report_text.specs.Texts.{OfAll, Patterned, Shelled, Tabled, arrayLines}
 use Rattle.report_text.specs.declared.ShellText.{ShellText}
 use Rattle.reports.proofs.Groups.{components-bound, first-in, members-are, pairs-bound, singular-bound, sum-lengths}
-use Rattle.reports.specs.Figures.{Columned, groupsFound, openingsFound}
+use Rattle.reports.specs.Figures.{Columned, groupsFound, lent, openingsFound}
 use Rattle.reports.specs.declared.ShellGroups.{ShellGroups}
 use Rattle.reports.specs.declared.ShellOpenings.{ShellOpenings}
 use Rattle.shell.specs.Components.{components, shellPairs}
@@ -218,35 +221,6 @@ module _ {k : Columns} {shells : ℕ} {out₀ : List ℕ} where
         let done : (out′ ≡ sets out₀ 0 (linesTo (content p) (length (content p .shells)) ++ solidText (wrongTo (content p) (length (content p .shells))))) × (r ≡ 0 + length (linesTo (content p) (length (content p .shells)) ++ solidText (wrongTo (content p) (length (content p .shells))))) = rw m at put in
         (done .0, omega (arith, done .1))
 
--- ---- a file
-pub text-refused : (fs : List Refusal) (c : Content) (f : Refusal) → readingOf fs c .answer ≡ Check·Refused f → refusalLine f ≡ textFor fs c
-unfolding readingOf refusal
-text-refused [] c f h = cc
-text-refused (g ∷ fs) c f h = let e : f ≡ g = cc in ap refusalLine e
-
-accepted-none : (fs : List Refusal) (c : Content) → readingOf fs c .answer ≡ Check·Accepted → fs ≡ []
-unfolding readingOf refusal
-accepted-none [] c h = refl
-accepted-none (f ∷ fs) c h = cc
-
-module _ (s : List ℕ) (h : readingOf (fileFaults s) (fileContent s) .answer ≡ Check·Accepted) where
-  none : fileFaults s ≡ []
-  none = accepted-none (fileFaults s) (fileContent s) h
-
-  stored-is : readingOf (fileFaults s) (fileContent s) .pattern ≡ stored (fileContent s)
-  unfolding readingOf
-  stored-is = rw none
-
-  pub read-passes : patternFaults (readingOf (fileFaults s) (fileContent s) .pattern) ≡ []
-  read-passes =
-      rw stored-is
-      (none-both (countFaults (countsOf (fileContent s))) (contentFaults (content (stored (fileContent s))))
-      (ap countFaults (sym (counts-of-content s)) ∙ table-counts s (none-left (tableFaults s) (contentFaults (fileContent s)) none))
-      (ap contentFaults (content-of-stored (fileContent s)) ∙ none-right (tableFaults s) (contentFaults (fileContent s)) none))
-
-  pub text-read : reportText (content (readingOf (fileFaults s) (fileContent s) .pattern)) ≡ textFor (fileFaults s) (fileContent s)
-  text-read = rw (stored-is, none, content-of-stored (fileContent s))
-
 -- ---- the solid's line
 pub reason-low : (e : ShellError) → reasonNumber e < 100
 reason-low EmptyShell = omega arith
@@ -254,19 +228,74 @@ reason-low NotConnected = omega arith
 reason-low NotClosedShell = omega arith
 reason-low NotManifold = omega arith
 
--- ---- what `read` answers
-module _ (s : List ℕ) (r : Reading) (e : r ≡ reading s) where
-  pub report-refused : (f : Refusal) → r .answer ≡ Check·Refused f → refusalLine f ≡ reportOf s
+-- ---- the tables of a pattern
+records-fine : (p : Pattern) → patternFaults p ≡ [] → recordFaults (content p) ≡ []
+records-fine p ok =
+    let c = content p in
+    none-left (recordFaults c) (faceRule (map frontNumber (c .edges)) (map backNumber (c .edges)) 0 (outlines c)) (none-right (countFaults (p .counts)) (contentFaults c) ok)
+
+module _ {counts fronts backs uses wires faces shells listings : List ℕ} where
+  pub tabled-summed : Tabled counts fronts backs uses wires faces shells listings → Summed counts uses wires faces shells
+  tabled-summed t =
+      rw (t .counted, t .tables .uses-are, t .tables .wires-are, t .tables .shells-are)
+      (summed (t .pattern) (t .limits) (t .full) (records-fine (t .pattern) (t .ok)) faces (t .tables .faces-are))
+
+  module _ {turned starts firsts places : List ℕ} (m : Made counts uses wires faces shells turned starts firsts places) (small : (k : ℕ) → (getD uses k 0 < 65536) × (getD listings k 0 < 65536)) where
+    module _ (p : Pattern) (ok : patternFaults p ≡ []) (l : Limited (p .counts)) (f : Full p) (e : counts ≡ p .counts) (t : Tables p fronts backs uses wires faces shells listings) where
+      pub tables-sound : Sound p
+      tables-sound = record { ok = ok; limits = l; full = f; uses = λ k. rw (t .uses-are) at (small k .0); listings = λ k. rw (t .listings-are) at (small k .1) }
+
+      pub tables-columns : lent (getD counts 0 0) (getD counts 1 0) uses turned starts wires firsts fronts backs places listings ≡ columnsIn p
+      tables-columns =
+          rw (e, t .uses-are, t .wires-are, t .listings-are)
+          (columns-made p faces turned starts firsts places fronts backs (t .faces-are) (rw (e, t .uses-are, t .wires-are, t .shells-are) at m) (t .fronts-are) (t .backs-are))
+
+    pub tabled-patterned : Tabled counts fronts backs uses wires faces shells listings
+        → Patterned (lent (getD counts 0 0) (getD counts 1 0) uses turned starts wires firsts fronts backs places listings) (getD counts 5 0)
+    tabled-patterned t = record {
+      pattern = t .pattern;
+      sound = tables-sound (t .pattern) (t .ok) (t .limits) (t .full) (t .counted) (t .tables);
+      columns = tables-columns (t .pattern) (t .ok) (t .limits) (t .full) (t .counted) (t .tables);
+      count = ap (λ (l : List ℕ). getD l 5 0) (t .counted);
+    }
+
+-- ---- a file
+text-refused : (fs : List Refusal) (c : Content) (f : Refusal) → first fs ≡ Check·Refused f → refusalLine f ≡ textFor fs c
+text-refused [] c f h = cc
+text-refused (g ∷ fs) c f h = let e : f ≡ g = cc in ap refusalLine e
+
+module _ (s : List ℕ) where
+  pub table-refused : (f : Refusal) → first (tableFaults s) ≡ Check·Refused f → refusalLine f ≡ reportOf s
   unfolding reportOf
-  report-refused f h = text-refused (fileFaults s) (fileContent s) f (ap (λ (x : Reading). x .answer) (sym e) ∙ h)
+  table-refused f h = text-refused (fileFaults s) (fileContent s) f (refused-first (tableFaults s) (contentFaults (fileContent s)) f h)
 
-  module _ (h : r .answer ≡ Check·Accepted) where
-    answered : readingOf (fileFaults s) (fileContent s) .answer ≡ Check·Accepted
-    answered = ap (λ (x : Reading). x .answer) (sym e) ∙ h
-
-    pub report-passes : patternFaults (r .pattern) ≡ []
-    report-passes = rw e (read-passes s answered)
-
-    pub report-accepted : reportText (content (r .pattern)) ≡ reportOf s
+  module _ (ok : tableFaults s ≡ []) where
+    pub content-refused : (f : Refusal) → first (contentFaults (fileContent s)) ≡ Check·Refused f → refusalLine f ≡ reportOf s
     unfolding reportOf
-    report-accepted = rw e (text-read s answered)
+    content-refused f h = text-refused (fileFaults s) (fileContent s) f (rw ok h)
+
+    module _ (right : first (contentFaults (fileContent s)) ≡ Check·Accepted) where
+      none : contentFaults (fileContent s) ≡ []
+      none = accepted-none (contentFaults (fileContent s)) right
+
+      pub content-passes : patternFaults (stored (fileContent s)) ≡ []
+      content-passes =
+          none-both (countFaults (countsOf (fileContent s))) (contentFaults (content (stored (fileContent s))))
+          (ap countFaults (sym (counts-of-content s)) ∙ table-counts s ok)
+          (ap contentFaults (content-of-stored (fileContent s)) ∙ none)
+
+      pub content-accepted : reportText (content (stored (fileContent s))) ≡ reportOf s
+      unfolding reportOf
+      content-accepted = rw (none-both (tableFaults s) (contentFaults (fileContent s)) ok none, content-of-stored (fileContent s))
+
+      -- the columns that were read
+      pub file-tabled : (counts fronts backs uses wires faces shells listings : List ℕ) → counts ≡ fileCounts s → Tables (stored (fileContent s)) fronts backs uses wires faces shells listings
+          → Tabled counts fronts backs uses wires faces shells listings
+      file-tabled counts fronts backs uses wires faces shells listings e t = record {
+        pattern = stored (fileContent s);
+        ok = content-passes;
+        limits = limits s ok;
+        full = full s ok;
+        counted = e ∙ counts-of-content s;
+        tables = t;
+      }

@@ -1,7 +1,7 @@
 -- The lines of a shell as the code has its figures, and the columns that the code writes from.
 use Prim.Native.Nat.{ℕ, _+_, _<_}
 use mathlib.Core.Bool.{Bool}
-use mathlib.Core.List.{List}
+use mathlib.Core.List.{List, []}
 use mathlib.Core.Path.{_≡_}
 use lib.ListN.{getD, length}
 use lib.Seq.{sets}
@@ -10,8 +10,11 @@ use Rattle.columns.specs.Columns.{columnsIn}
 use Rattle.columns.specs.Sound.{Sound}
 use Rattle.columns.specs.declared.Columns.{Columns}
 use Rattle.lines.specs.Lines.{shellLines}
+use Rattle.pattern.proofs.Counts.{Full, Limited}
+use Rattle.pattern.specs.Checks.{patternFaults}
 use Rattle.pattern.specs.Contents.{Content, content}
 use Rattle.pattern.specs.declared.Pattern.{Pattern}
+use Rattle.reader.specs.Reading.{Tables}
 use Rattle.report_text.specs.Report.{shellReport}
 use Rattle.report_text.specs.declared.ShellText.{ShellText}
 use Rattle.solid.specs.Solid.{firstError, shellErrors}
@@ -42,3 +45,17 @@ pub record Patterned (k : Columns) (shells : ℕ) : Type 0 where
 -- what holds of that pattern
 abbrev pub OfAll : Columns → ℕ → (Pattern → Type 0) → Type 0
 OfAll k shells P = (p : Pattern) → Sound p → k ≡ columnsIn p → shells ≡ getD (p .counts) 5 0 → P p
+
+-- the tables are those of a pattern without fault
+pub record Tabled (counts fronts backs uses wires faces shells listings : List ℕ) : Type 0 where
+  pub pattern : Pattern
+  pub ok : patternFaults pattern ≡ []
+  pub limits : Limited (pattern .counts)
+  pub full : Full pattern
+  pub counted : counts ≡ pattern .counts
+  pub tables : Tables pattern fronts backs uses wires faces shells listings
+
+-- what holds of that pattern
+abbrev pub OfTables : List ℕ → List ℕ → List ℕ → List ℕ → List ℕ → List ℕ → List ℕ → List ℕ → (Pattern → Type 0) → Type 0
+OfTables counts fronts backs uses wires faces shells listings P =
+    (p : Pattern) → patternFaults p ≡ [] → Limited (p .counts) → Full p → counts ≡ p .counts → Tables p fronts backs uses wires faces shells listings → P p

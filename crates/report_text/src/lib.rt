@@ -1,21 +1,25 @@
 // What `report` prints, as bytes: for every file its whole text.
 ghost use mathlib.Core.Path.{_≡_};
+ghost use mathlib.Core.List.{[]};
 ghost use Prim.Native.Nat.{_+_, _<_, _≤_};
 ghost use lib.ListN.{length, take};
 ghost use lib.Seq.{sets};
 ghost use Rattle.lines.specs.Parts.{Fits};
 ghost use Rattle.pattern.specs.Contents.{content};
+ghost use Rattle.pattern_file.specs.File.{tableFaults};
 ghost use Rattle.reports.specs.Figures.{Columned, lent, Of};
 ghost use Rattle.solid.specs.Solid.{solidShell};
 ghost use Rattle.report_text.specs.Report.{reportOf, reportText, solidText};
-ghost use Rattle.report_text.specs.Texts.{arrayLines, OfAll, Patterned, Shelled};
-use columns::Columns;
-use columns::columns_of;
+ghost use Rattle.report_text.specs.Texts.{arrayLines, OfAll, OfTables, Patterned, Shelled, Tabled};
+use columns::put_columns;
 use errors::Check;
 use lines::put_shell;
 use lines::put_solid;
 use output::put_refusal;
-use reader::read;
+use reader::check_file;
+use reader::check_table;
+use reader::counts_of;
+use reader::read_columns;
 use reports::put_groups;
 use reports::put_openings;
 use solid::ShellCheck;
@@ -172,26 +176,40 @@ fn solid_text(out: &mut [u8], at: usize, a: SolidCheck) -> usize
 }
 
 // Writes the text of a pattern with these columns and so many shells.
-fn columns_text(k: Columns, shells: usize, out: &mut [u8]) -> usize
-    requires { ⌜ Patterned k shells × (1126400 ≤ length (now out)) ⌝ }
-    ensures { λ r. ⌜ OfAll k shells (λ p. (now (out .exit) ≡ sets (now (out .entry)) 0 (reportText (content p))) × (r ≡ length (reportText (content p)))) ⌝ }
+fn columns_text<'a>(
+    points: usize,
+    edges: usize,
+    uses: &'a [u16],
+    turned: &'a [u16],
+    starts: &'a [usize],
+    wires: &'a [u16],
+    firsts: &'a [usize],
+    fronts: &'a [u16],
+    backs: &'a [u16],
+    places: &'a [usize],
+    listings: &'a [u16],
+    shells: usize,
+    out: &mut [u8],
+) -> usize
+    requires { ⌜ Patterned (lent points edges (now uses) (now turned) (now starts) (now wires) (now firsts) (now fronts) (now backs) (now places) (now listings)) shells × (1126400 ≤ length (now out)) ⌝ }
+    ensures { λ r. ⌜ OfAll (lent points edges (now (uses .entry)) (now (turned .entry)) (now (starts .entry)) (now (wires .entry)) (now (firsts .entry)) (now (fronts .entry)) (now (backs .entry)) (now (places .entry)) (now (listings .entry))) shells (λ p. (now (out .exit) ≡ sets (now (out .entry)) 0 (reportText (content p))) × (r ≡ length (reportText (content p)))) ⌝ }
 {
     let mut solid = SolidCheck::Accepted;
     let mut at: usize = 0;
     let mut n: usize = 0;
     while n < shells {
         let s = shell_text(
-            k.points,
-            k.edges,
-            &k.uses,
-            &k.turned,
-            &k.starts,
-            &k.wires,
-            &k.firsts,
-            &k.fronts,
-            &k.backs,
-            &k.places,
-            &k.listings,
+            points,
+            edges,
+            uses,
+            turned,
+            starts,
+            wires,
+            firsts,
+            fronts,
+            backs,
+            places,
+            listings,
             n,
             out,
             at,
@@ -204,19 +222,111 @@ fn columns_text(k: Columns, shells: usize, out: &mut [u8]) -> usize
     solid_text(out, at, solid)
 }
 
+// Writes the text of a pattern without fault that has these tables, lent as columns.
+fn pattern_text<'a>(
+    counts: [usize; 7],
+    fronts: &'a [u16],
+    backs: &'a [u16],
+    uses: &'a [u16],
+    wires: &'a [u16],
+    faces: &'a [u16],
+    shells: &'a [u16],
+    listings: &'a [u16],
+    out: &mut [u8],
+) -> usize
+    requires { ⌜ Tabled counts (now fronts) (now backs) (now uses) (now wires) (now faces) (now shells) (now listings) × (1126400 ≤ length (now out)) ⌝ }
+    ensures { λ r. ⌜ OfTables counts (now (fronts .entry)) (now (backs .entry)) (now (uses .entry)) (now (wires .entry)) (now (faces .entry)) (now (shells .entry)) (now (listings .entry)) (λ p. (now (out .exit) ≡ sets (now (out .entry)) 0 (reportText (content p))) × (r ≡ length (reportText (content p)))) ⌝ }
+{
+    let mut turned = [0u16; 4096];
+    let mut starts = [0usize; 257];
+    let mut firsts = [0usize; 257];
+    let mut places = [0usize; 257];
+    put_columns(
+        counts,
+        uses,
+        wires,
+        faces,
+        shells,
+        listings,
+        &mut turned,
+        &mut starts,
+        &mut firsts,
+        &mut places,
+    );
+    columns_text(
+        counts[0],
+        counts[1],
+        uses,
+        &turned,
+        &starts,
+        wires,
+        &firsts,
+        fronts,
+        backs,
+        &places,
+        listings,
+        counts[5],
+        out,
+    )
+}
+
+// Writes the text of a file whose contents table is right. Its tables are read as columns: a pattern
+// would be copied at each call.
+fn file_text(bytes: &[u8], out: &mut [u8]) -> usize
+    requires { ⌜ (tableFaults (now bytes) ≡ []) × (1126400 ≤ length (now out)) ⌝ }
+    ensures { λ r. ⌜ (now (out .exit) ≡ sets (now (out .entry)) 0 (reportOf (now (bytes .entry)))) × (r ≡ length (reportOf (now (bytes .entry)))) ⌝ }
+{
+    let mut fronts = [0u16; 1024];
+    let mut backs = [0u16; 1024];
+    let mut uses = [0u16; 4096];
+    let mut wires = [0u16; 1024];
+    let mut faces = [0u16; 256];
+    let mut shells = [0u16; 16];
+    let mut listings = [0u16; 512];
+    read_columns(
+        bytes,
+        &mut fronts,
+        &mut backs,
+        &mut uses,
+        &mut wires,
+        &mut faces,
+        &mut shells,
+        &mut listings,
+    );
+    let answer = check_file(
+        bytes,
+        &fronts,
+        &backs,
+        &uses,
+        &wires,
+        &faces,
+        &shells,
+        &listings,
+    );
+    match answer {
+        Check::Refused(f) => put_refusal(f, out),
+        Check::Accepted => pattern_text(
+            counts_of(bytes),
+            &fronts,
+            &backs,
+            &uses,
+            &wires,
+            &faces,
+            &shells,
+            &listings,
+            out,
+        ),
+    }
+}
+
 // Writes all that `report` prints for a file, from the first place on, and returns its length. The
 // longest text has 16 shells of at most 70,300 bytes each and a line for the solid.
 pub fn report(bytes: &[u8], out: &mut [u8; 1126400]) -> usize
     ensures { λ r. ⌜ (now (out .exit) ≡ sets (now (out .entry)) 0 (reportOf (now (bytes .entry)))) × (r ≡ length (reportOf (now (bytes .entry)))) ⌝ }
 {
-    let reading = read(bytes);
-    let answer = reading.answer;
-    match answer {
+    let table = check_table(bytes);
+    match table {
         Check::Refused(f) => put_refusal(f, out),
-        Check::Accepted => {
-            let p = reading.pattern;
-            let shells = p.counts[5];
-            columns_text(columns_of(p), shells, out)
-        }
+        Check::Accepted => file_text(bytes, out),
     }
 }

@@ -1,21 +1,20 @@
--- The loop writes the columns of ends; each other column is what its function ensures. The storage's types say that the tables are full.
+-- The loop writes the columns of ends; the others are what `put_columns` ensures. The storage's types say that the tables are full.
 use Prim.Native.Nat.{_-_, _≤_}
 use mathlib.Core.List.{[], map}
 use mathlib.Core.Path.{_≡_, _∙_, sym}
 use native.Mathlib.Omega.{arith}
 use lib.ListN.{length, length-map}
 use borrow.Author.Needs.{needs}
-use Rattle.columns.proofs.Made.{columns-made}
-use Rattle.columns.proofs.columns_of.Statement.{statement}
+use Rattle.columns.proofs.Made.{columns-made, summed}
 use Rattle.errors.proofs.Laws.{none-left, none-right}
 use Rattle.edge.proofs.Laws.{noEdge}
 use Rattle.edge.specs.Edges.{backNumber, frontNumber}
 use Rattle.face.specs.Faces.{faceRule}
 use Rattle.lists.proofs.Laws.{Column, column-all, column-next, column-start}
 use Rattle.pattern.proofs.Counts.{Full, Limited, limited}
-use Rattle.pattern.proofs.Named.{tables-faces, tables-wires}
 use Rattle.pattern.specs.Checks.{contentFaults, countFaults, outlines, recordFaults}
 use Rattle.pattern.specs.Contents.{content}
+use Rattle.columns.proofs.columns_of.Statement.{statement}
 use Rattle.columns.proofs.columns_of.Tie as tie
 
 abbrev Inv-loop : tie.InvT-loop
@@ -45,9 +44,6 @@ fine s =
     let c = content (s .args .t1) in
     none-left (recordFaults c) (faceRule (map frontNumber (c .edges)) (map backNumber (c .edges)) 0 (outlines c))
     (none-right (countFaults (s .args .t1 .counts)) (contentFaults c) (s .pre))
-
-counts-long : (s : tie.After-wire-counts Inv-loop μ-loop) → length (s .wire-counts .result) ≡ 256
-counts-long s = search needs
 
 loop-holds : tie.Need-loop-holds Inv-loop μ-loop
 loop-holds c = (full c .edges, column-start frontNumber noEdge (c .args .t1 .edges) _ (sym (full c .edges)), column-start backNumber noEdge (c .args .t1 .edges) _ (sym (full c .edges)))
@@ -91,65 +87,40 @@ loop-again c =
       column-next backNumber noEdge es (c .before .loop .backs) (c .before .loop .i) (v .2) (omega (arith, v .0)),
     )
 
-element-copy-out-points : tie.Need-element-copy-out-points Inv-loop μ-loop
-element-copy-out-points c = search needs
-
-element-copy-out-ecount : tie.Need-element-copy-out-ecount Inv-loop μ-loop
-element-copy-out-ecount c = search needs
-
-element-copy-out-ucount : tie.Need-element-copy-out-ucount Inv-loop μ-loop
-element-copy-out-ucount c = search needs
-
-element-copy-out-wcount : tie.Need-element-copy-out-wcount Inv-loop μ-loop
-element-copy-out-wcount c = search needs
-
-element-copy-out-fcount : tie.Need-element-copy-out-fcount Inv-loop μ-loop
-element-copy-out-fcount c = search needs
-
-element-copy-out-scount : tie.Need-element-copy-out-scount Inv-loop μ-loop
-element-copy-out-scount c = search needs
-
 wire-counts-requires : tie.Need-wire-counts-requires Inv-loop μ-loop
 wire-counts-requires c κs = search needs
 
-turned-of-requires : tie.Need-turned-of-requires Inv-loop μ-loop
-turned-of-requires c κs =
-    let s = c .before .before .before .before .before .before .before .before .before .before .before .before .before .before .before .before .before in
-    let l = limits s in
-    let f = full s in
-    ((l .uses, omega (arith, l .uses, f .uses), l .wires, omega (arith, l .wires, f .wires)), tables-wires (s .args .t1) l f (fine s))
+slice-aggregate-put-columns : tie.Need-slice-aggregate-put-columns Inv-loop μ-loop
+slice-aggregate-put-columns c = search needs
 
-slice-aggregate-starts-of : tie.Need-slice-aggregate-starts-of Inv-loop μ-loop
-slice-aggregate-starts-of c = search needs
+slice-aggregate-put-columns-2 : tie.Need-slice-aggregate-put-columns-2 Inv-loop μ-loop
+slice-aggregate-put-columns-2 c = search needs
 
-starts-of-requires : tie.Need-starts-of-requires Inv-loop μ-loop
-starts-of-requires c κs =
-    let s = c .before .before .before .before .before .before .before .before .before .before .before .before .before .before .before .before .before .before .before .before .before .before in
-    let w = c .before .before .before .before .before .before .before .before .before .before .before .before in
-    let l = limits s in
-    let f = full s in
-    ((l .wires, omega (arith, l .wires, f .wires), l .faces, omega (arith, l .faces, counts-long w)), rw (w .wire-counts .ensures) (tables-faces (s .args .t1) l f (fine s)))
+slice-aggregate-put-columns-3 : tie.Need-slice-aggregate-put-columns-3 Inv-loop μ-loop
+slice-aggregate-put-columns-3 c = search needs
 
-slice-aggregate-firsts-of : tie.Need-slice-aggregate-firsts-of Inv-loop μ-loop
-slice-aggregate-firsts-of c = search needs
+slice-aggregate-put-columns-4 : tie.Need-slice-aggregate-put-columns-4 Inv-loop μ-loop
+slice-aggregate-put-columns-4 c = search needs
 
-firsts-of-requires : tie.Need-firsts-of-requires Inv-loop μ-loop
-firsts-of-requires c κs =
-    let s = c .before .before .before .before .before .before .before .before .before .before .before .before .before .before .before .before .before .before .before .before .before .before .before .before in
-    (limits s .faces, omega (arith, limits s .faces, counts-long (c .before .before .before .before .before .before .before .before .before .before .before .before .before .before)))
+slice-aggregate-put-columns-5 : tie.Need-slice-aggregate-put-columns-5 Inv-loop μ-loop
+slice-aggregate-put-columns-5 c = search needs
 
-firsts-of-requires-2 : tie.Need-firsts-of-requires-2 Inv-loop μ-loop
-firsts-of-requires-2 c κs =
-    let s = c .before .before .before .before .before .before .before .before .before .before .before .before .before .before .before .before .before .before .before .before .before .before .before .before .before .before .before .before in
-    (omega (arith, limits s .shells), omega (arith, limits s .shells, full s .shells))
+put-columns-requires : tie.Need-put-columns-requires Inv-loop μ-loop
+put-columns-requires c κs = (summed (c .before .before .before .before .before .before .before .before .before .before .before .before .before .before .before .before .before .before .before .args .t1) (limits (c .before .before .before .before .before .before .before .before .before .before .before .before .before .before .before .before .before .before .before)) (full (c .before .before .before .before .before .before .before .before .before .before .before .before .before .before .before .before .before .before .before)) (fine (c .before .before .before .before .before .before .before .before .before .before .before .before .before .before .before .before .before .before .before)) _ (c .before .before .before .before .before .before .before .before .before .before .before .before .before .before .wire-counts .ensures), search needs)
+
+array-read-t51 : tie.Need-array-read-t51 Inv-loop μ-loop
+array-read-t51 c = search needs
+
+array-read-t54 : tie.Need-array-read-t54 Inv-loop μ-loop
+array-read-t54 c = search needs
 
 returns : tie.Need-returns Inv-loop μ-loop
 returns c =
-    let s = c .before .before .before .before .before .before .before .before .before .before .before .before .before .before .before .before .before .before .before .before .before .before .before .before .before .before .before .before .before .before .before .before in
-    let l = c .before .before .before .before .before .before .before .before .before .before .before .before .before .before .before .before .before .before .before .before .before .before .before .before .before .before .before .before .before .before .before .loop in
-    let t = c .before .before .before .before .before .before .before .before .before .before .before .before .before .before .turned-of .ensures in
-    let past : length (s .args .t1 .edges) ≤ l .i = omega (arith, l .inv .0, c .before .before .before .before .before .before .before .before .before .before .before .before .before .before .before .before .before .before .before .before .before .before .before .before .before .before .before .before .before .before .loop-test .left) in (
-      columns-made (s .args .t1) _ _ _ _ _ _ _ (c .before .before .before .before .before .before .before .before .before .before .before .before .before .before .before .before .before .before .before .before .before .before .wire-counts .ensures) (t .0) (c .before .before .before .before .before .before .before .before .before .starts-of .ensures) (c .before .before .before .before .before .before .before .firsts-of .ensures) (c .before .before .before .firsts-of2 .ensures)
+    let s = c .before .before .before .before .before .before .before .before .before .before .before .before .before .before .before .before .before .before .before .before .before .before .before .before .before .before .before in
+    let l = c .before .before .before .before .before .before .before .before .before .before .before .before .before .before .before .before .before .before .before .before .before .before .before .before .before .before .loop in
+    let t = c .before .before .before .before .before .before .before .put-columns .ensures in
+    let past : length (s .args .t1 .edges) ≤ l .i = omega (arith, l .inv .0, c .before .before .before .before .before .before .before .before .before .before .before .before .before .before .before .before .before .before .before .before .before .before .before .before .before .loop-test .left) in (
+      columns-made (s .args .t1) _ _ _ _ _ _ _ (c .before .before .before .before .before .before .before .before .before .before .before .before .before .before .before .before .before .before .before .before .before .before .wire-counts .ensures) (t .0)
           (column-all frontNumber noEdge (s .args .t1 .edges) (l .fronts) (l .i) (l .inv .1) past) (column-all backNumber noEdge (s .args .t1 .edges) (l .backs) (l .i) (l .inv .2) past),
       record { ok = s .pre; limits = limits s; full = full s; uses = λ k. t .1 k .0; listings = λ k. t .1 k .1 },
     )
@@ -172,17 +143,13 @@ columns-of-spec =
     add-i
     loop-less
     loop-again
-    element-copy-out-points
-    element-copy-out-ecount
-    element-copy-out-ucount
-    element-copy-out-wcount
-    element-copy-out-fcount
-    element-copy-out-scount
     wire-counts-requires
-    turned-of-requires
-    slice-aggregate-starts-of
-    starts-of-requires
-    slice-aggregate-firsts-of
-    firsts-of-requires
-    firsts-of-requires-2
+    slice-aggregate-put-columns
+    slice-aggregate-put-columns-2
+    slice-aggregate-put-columns-3
+    slice-aggregate-put-columns-4
+    slice-aggregate-put-columns-5
+    put-columns-requires
+    array-read-t51
+    array-read-t54
     returns)

@@ -1,58 +1,101 @@
--- The columns are the edges and the pairs of the uses.
+-- After k turns the uses of the first k pairs are joined.
+use Prim.Native.Nat.{_-_}
+use native.Mathlib.Omega.{arith}
+use lib.ListN.{length}
 use borrow.Author.Needs.{needs}
-use Rattle.components.proofs.Roots.{columns-join, columns-joined}
+use Rattle.components.proofs.Linking.{Linking, linking-all, linking-fits, linking-next, linking-start, linking-within}
 use Rattle.components.proofs.link_uses.Statement.{statement}
 use Rattle.components.proofs.link_uses.Tie as tie
 
-add-n : tie.Need-add-n
+abbrev Inv-loop : tie.InvT-loop
+Inv-loop parents₀ sizes₀ spans uses edges n at₀ k₀ parents sizes at k = Linking edges spans uses parents₀ sizes₀ parents sizes k at
+
+abbrev μ-loop : tie.MeasureT-loop
+μ-loop parents₀ sizes₀ spans uses edges n at₀ k₀ parents sizes at k = length spans - k
+
+add-n : tie.Need-add-n Inv-loop μ-loop
 add-n c = search needs
 
-start-requires : tie.Need-start-requires
+start-requires : tie.Need-start-requires Inv-loop μ-loop
 start-requires c κs = search needs
 
-slice-aggregate-put-edges : tie.Need-slice-aggregate-put-edges
-slice-aggregate-put-edges c = search needs
+loop-holds : tie.Need-loop-holds Inv-loop μ-loop
+loop-holds c = linking-start _ _ _ (c .before .before .before .before .before .before .before .before .before .before .before .pre .0) _ _ _ _ (c .before .before .before .before .start .ensures)
 
-put-edges-requires : tie.Need-put-edges-requires
-put-edges-requires c κs = search needs
+mul-index : tie.Need-mul-index Inv-loop μ-loop
+mul-index c = search needs
 
-slice-aggregate-put-owners : tie.Need-slice-aggregate-put-owners
-slice-aggregate-put-owners c = search needs
+shared-slice-read-index : tie.Need-shared-slice-read-index Inv-loop μ-loop
+shared-slice-read-index c = search needs
 
-put-owners-requires : tie.Need-put-owners-requires
-put-owners-requires c κs = search needs
+index-requires : tie.Need-index-requires Inv-loop μ-loop
+index-requires c κs = search needs
 
-slice-aggregate-join-first : tie.Need-slice-aggregate-join-first
-slice-aggregate-join-first c = search needs
+add-join-part : tie.Need-add-join-part Inv-loop μ-loop
+add-join-part c = omega (arith, linking-fits (c .before .before .before .before .before .before .before .before .before .before .before .before .before .before .before .before .before .args .edges) (c .before .before .before .before .before .before .before .before .before .before .before .before .before .before .before .before .before .args .spans .now) (c .before .before .before .before .before .before .before .before .before .before .before .before .before .before .before .before .before .args .uses .now) (c .before .before .before .before .before .before .before .before .before .before .before .before .before .before .before .before .before .pre .0) (c .before .before .before .before .before .loop .inv) (omega arith) (c .before .before .index .ensures .0))
 
-slice-aggregate-join-first-2 : tie.Need-slice-aggregate-join-first-2
-slice-aggregate-join-first-2 c = search needs
+mul-join-part : tie.Need-mul-join-part Inv-loop μ-loop
+mul-join-part c = omega (arith, linking-fits (c .before .before .before .before .before .before .before .before .before .before .before .before .before .before .before .before .before .args .edges) (c .before .before .before .before .before .before .before .before .before .before .before .before .before .before .before .before .before .args .spans .now) (c .before .before .before .before .before .before .before .before .before .before .before .before .before .before .before .before .before .args .uses .now) (c .before .before .before .before .before .before .before .before .before .before .before .before .before .before .before .before .before .pre .0) (c .before .before .before .before .before .loop .inv) (omega arith) (c .before .before .index .ensures .0))
 
-join-first-requires : tie.Need-join-first-requires
-join-first-requires c κs = columns-join _ _ _ (c .before .before .before .before .before .before .before .before .before .before .before .before .before .before .before .before .before .before .before .before .before .pre .0) _ _ _ _ (c .before .before .before .before .before .before .before .before .before .before .before .before .before .before .start .ensures) _ _ (c .before .before .before .before .before .before .before .before .put-edges .ensures) (c .before .before .before .before .before .put-owners .ensures)
+sub-join-part : tie.Need-sub-join-part Inv-loop μ-loop
+sub-join-part c = search needs
 
-same-length : tie.Need-same-length
+part-join-part-start : tie.Need-part-join-part-start Inv-loop μ-loop
+part-join-part-start c = search needs
+
+part-join-part-end : tie.Need-part-join-part-end Inv-loop μ-loop
+part-join-part-end c = linking-fits (c .before .before .before .before .before .before .before .before .before .before .before .before .before .before .before .before .before .args .edges) (c .before .before .before .before .before .before .before .before .before .before .before .before .before .before .before .before .before .args .spans .now) (c .before .before .before .before .before .before .before .before .before .before .before .before .before .before .before .before .before .args .uses .now) (c .before .before .before .before .before .before .before .before .before .before .before .before .before .before .before .before .before .pre .0) (c .before .before .before .before .before .loop .inv) (omega arith) (c .before .before .index .ensures .0)
+
+add-join-part-2 : tie.Need-add-join-part-2 Inv-loop μ-loop
+add-join-part-2 c = search needs
+
+join-part-requires : tie.Need-join-part-requires Inv-loop μ-loop
+join-part-requires c κs = (c .before .before .before .before .before .before .loop .inv .forest, linking-within (c .before .before .before .before .before .before .before .before .before .before .before .before .before .before .before .before .before .before .args .edges) (c .before .before .before .before .before .before .before .before .before .before .before .before .before .before .before .before .before .before .args .spans .now) (c .before .before .before .before .before .before .before .before .before .before .before .before .before .before .before .before .before .before .args .uses .now) (c .before .before .before .before .before .before .before .before .before .before .before .before .before .before .before .before .before .before .pre .0) (c .before .before .before .before .before .before .loop .inv) (omega arith) (c .before .before .before .index .ensures .0), omega arith)
+
+add-at : tie.Need-add-at Inv-loop μ-loop
+add-at c = omega (arith, linking-fits (c .before .before .before .before .before .before .before .before .before .before .before .before .before .before .before .before .before .before .before .before .before .before .before .args .edges) (c .before .before .before .before .before .before .before .before .before .before .before .before .before .before .before .before .before .before .before .before .before .before .before .args .spans .now) (c .before .before .before .before .before .before .before .before .before .before .before .before .before .before .before .before .before .before .before .before .before .before .before .args .uses .now) (c .before .before .before .before .before .before .before .before .before .before .before .before .before .before .before .before .before .before .before .before .before .before .before .pre .0) (c .before .before .before .before .before .before .before .before .before .before .before .loop .inv) (omega arith) (c .before .before .before .before .before .before .before .before .index .ensures .0))
+
+add-k : tie.Need-add-k Inv-loop μ-loop
+add-k c = search needs
+
+loop-less : tie.Need-loop-less Inv-loop μ-loop
+loop-less c = search needs
+
+loop-again : tie.Need-loop-again Inv-loop μ-loop
+loop-again c = linking-next (c .before .before .before .before .before .before .before .before .before .before .before .before .before .before .before .before .before .before .before .before .before .before .before .args .edges) (c .before .before .before .before .before .before .before .before .before .before .before .before .before .before .before .before .before .before .before .before .before .before .before .args .spans .now) (c .before .before .before .before .before .before .before .before .before .before .before .before .before .before .before .before .before .before .before .before .before .before .before .args .uses .now) (c .before .before .before .before .before .before .before .before .before .before .before .before .before .before .before .before .before .before .before .before .before .before .before .pre .0) (c .before .before .before .before .before .before .before .before .before .before .before .loop .inv) (omega arith) (c .before .before .before .before .before .before .before .before .index .ensures .0) (c .before .before .before .before .join-part .ensures)
+
+same-length : tie.Need-same-length Inv-loop μ-loop
 same-length c = search needs
 
-same-length-2 : tie.Need-same-length-2
+same-length-2 : tie.Need-same-length-2 Inv-loop μ-loop
 same-length-2 c = search needs
 
-returns : tie.Need-returns
-returns c = columns-joined _ _ _ (c .before .before .before .before .before .before .before .before .before .before .before .before .before .before .before .before .before .before .before .before .before .before .before .before .before .before .pre .0) _ _ _ _ (c .before .before .before .before .before .before .before .before .before .before .before .before .before .before .before .before .before .before .before .start .ensures) _ _ (c .before .before .before .before .before .before .before .before .before .before .before .before .before .put-edges .ensures) (c .before .before .before .before .before .before .before .before .before .before .put-owners .ensures) (c .before .before .before .before .join-first .ensures)
+returns : tie.Need-returns Inv-loop μ-loop
+returns c = linking-all (c .before .before .before .before .before .before .before .before .before .before .before .before .before .args .edges) (c .before .before .before .before .before .before .before .before .before .before .before .before .before .args .spans .now) (c .before .before .before .before .before .before .before .before .before .before .before .before .before .args .uses .now) (c .before .before .before .before .before .before .before .before .before .before .before .before .before .pre .0) (c .before .loop .inv) (omega arith) _ _ (c .before .before .before .before .before .before .start .ensures)
 
 pub link-uses-spec : {M : Type 1} → statement M
 link-uses-spec =
     tie.close
     (tie.spec
+    Inv-loop
+    μ-loop
     add-n
     start-requires
-    slice-aggregate-put-edges
-    put-edges-requires
-    slice-aggregate-put-owners
-    put-owners-requires
-    slice-aggregate-join-first
-    slice-aggregate-join-first-2
-    join-first-requires
+    loop-holds
+    mul-index
+    shared-slice-read-index
+    index-requires
+    add-join-part
+    mul-join-part
+    sub-join-part
+    part-join-part-start
+    part-join-part-end
+    add-join-part-2
+    join-part-requires
+    add-at
+    add-k
+    loop-less
+    loop-again
     same-length
     same-length-2
     returns)

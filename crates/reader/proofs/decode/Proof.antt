@@ -47,7 +47,7 @@ slice-aggregate-read-u16s : tie.Need-slice-aggregate-read-u16s
 slice-aggregate-read-u16s c = search needs
 
 read-u16s-requires : tie.Need-read-u16s-requires
-read-u16s-requires c κs = room (c .before .before .before) 2 (omega arith)
+read-u16s-requires c κs = let r = room (c .before .before .before) 2 (omega arith) in (omega (arith, r .0), r .1)
 
 array-read-read-u16s-3 : tie.Need-array-read-read-u16s-3
 array-read-read-u16s-3 c = search needs
@@ -59,7 +59,7 @@ slice-aggregate-read-u16s-2 : tie.Need-slice-aggregate-read-u16s-2
 slice-aggregate-read-u16s-2 c = search needs
 
 read-u16s-requires-2 : tie.Need-read-u16s-requires-2
-read-u16s-requires-2 c κs = room (c .before .before .before .before .before .before) 3 (omega arith)
+read-u16s-requires-2 c κs = let r = room (c .before .before .before .before .before .before) 3 (omega arith) in (omega (arith, r .0), r .1)
 
 array-read-read-faces : tie.Need-array-read-read-faces
 array-read-read-faces c = search needs
@@ -80,7 +80,7 @@ slice-aggregate-read-u16s-3 : tie.Need-slice-aggregate-read-u16s-3
 slice-aggregate-read-u16s-3 c = search needs
 
 read-u16s-requires-3 : tie.Need-read-u16s-requires-3
-read-u16s-requires-3 c κs = room (c .before .before .before .before .before .before .before .before .before .before) 5 (omega arith)
+read-u16s-requires-3 c κs = let r = room (c .before .before .before .before .before .before .before .before .before .before) 5 (omega arith) in (omega (arith, r .0), r .1)
 
 array-read-read-u16s-7 : tie.Need-array-read-read-u16s-7
 array-read-read-u16s-7 c = search needs
@@ -92,7 +92,7 @@ slice-aggregate-read-u16s-4 : tie.Need-slice-aggregate-read-u16s-4
 slice-aggregate-read-u16s-4 c = search needs
 
 read-u16s-requires-4 : tie.Need-read-u16s-requires-4
-read-u16s-requires-4 c κs = room (c .before .before .before .before .before .before .before .before .before .before .before .before .before) 6 (omega arith)
+read-u16s-requires-4 c κs = let r = room (c .before .before .before .before .before .before .before .before .before .before .before .before .before) 6 (omega arith) in (omega (arith, r .0), r .1)
 
 returns : tie.Need-returns
 returns c =

@@ -4,27 +4,28 @@ use mathlib.Core.Path.{_≡_}
 use native.Mathlib.Omega.{arith}
 use borrow.Author.Needs.{needs}
 use Rattle.lists.proofs.Laws.{Filling, filling-long, filling-next, filling-start}
+use Rattle.reader.proofs.Laws.{step-inside}
 use Rattle.reader.proofs.read_u16s.Statement.{statement}
 use Rattle.words.specs.Words.{le16}
 use Rattle.reader.proofs.read_u16s.Tie as tie
 
 abbrev Inv-loop : tie.InvT-loop
-Inv-loop s at n out₀ k₀ out k = (k ≤ n) × Filling (λ (j : ℕ). le16 s (at + 2 * j)) out₀ out k
+Inv-loop s at step n out₀ k₀ out k = (k ≤ n) × Filling (λ (j : ℕ). le16 s (at + step * j)) out₀ out k
 
 abbrev μ-loop : tie.MeasureT-loop
-μ-loop s at n out₀ k₀ out k = n - k
+μ-loop s at step n out₀ k₀ out k = n - k
 
 loop-holds : tie.Need-loop-holds Inv-loop μ-loop
 loop-holds c = (omega arith, filling-start _ _)
 
 mul-u16-at : tie.Need-mul-u16-at Inv-loop μ-loop
-mul-u16-at c = search needs
+mul-u16-at c = omega (arith, step-inside _ _ _ _ _ (c .loop-test .taken) (c .before .before .before .before .pre .0))
 
 add-u16-at : tie.Need-add-u16-at Inv-loop μ-loop
-add-u16-at c = search needs
+add-u16-at c = omega (arith, step-inside _ _ _ _ _ (c .loop-test .taken) (c .before .before .before .before .pre .0))
 
 u16-at-requires : tie.Need-u16-at-requires Inv-loop μ-loop
-u16-at-requires c κs = search needs
+u16-at-requires c κs = omega (arith, step-inside _ _ _ _ _ (c .loop-test .taken) (c .before .before .before .before .pre .0))
 
 mul-out : tie.Need-mul-out Inv-loop μ-loop
 mul-out c = search needs

@@ -1,10 +1,12 @@
 -- After k turns the first k places are stored.
-use Prim.Native.Nat.{_-_}
+use Prim.Native.Nat.{_-_, ℕ}
+use mathlib.Core.Path.{_∙_, ap, sym}
 use native.Mathlib.Omega.{arith}
+use lib.ListN.{length, length-replicate, length-set}
 use borrow.Author.Needs.{needs}
-use Rattle.columns.proofs.Loops.{Firsting, firsting-all, firsting-next, firsting-start}
-use Rattle.columns.proofs.firsts_of.Statement.{statement}
-use Rattle.columns.proofs.firsts_of.Tie as tie
+use Rattle.columns.proofs.Loops.{Firsting, firsting-all, firsting-long, firsting-next, firsting-start}
+use Rattle.columns.proofs.put_firsts.Statement.{statement}
+use Rattle.columns.proofs.put_firsts.Tie as tie
 
 abbrev Inv-loop : tie.InvT-loop
 Inv-loop counts n out₀ at₀ k₀ out at k = Firsting counts n out k at
@@ -13,13 +15,13 @@ abbrev μ-loop : tie.MeasureT-loop
 μ-loop counts n out₀ at₀ k₀ out at k = n - k
 
 loop-holds : tie.Need-loop-holds Inv-loop μ-loop
-loop-holds c = firsting-start (c .before .args .counts .now) (c .before .args .n) (c .before .pre .0) (c .before .pre .1)
+loop-holds c = firsting-start _ _ (c .before .before .pre .0) (c .before .before .pre .1) _ (c .before .before .pre .2)
 
 mul-out : tie.Need-mul-out Inv-loop μ-loop
 mul-out c = search needs
 
-array-write-out : tie.Need-array-write-out Inv-loop μ-loop
-array-write-out c = search needs
+slice-write-out : tie.Need-slice-write-out Inv-loop μ-loop
+slice-write-out c = omega (arith, firsting-long (c .before .loop .inv), c .before .before .before .before .pre .0)
 
 mul-index : tie.Need-mul-index Inv-loop μ-loop
 mul-index c = search needs
@@ -45,21 +47,24 @@ loop-again c = firsting-next (c .before .before .before .loop .inv) (omega arith
 mul-out-2 : tie.Need-mul-out-2 Inv-loop μ-loop
 mul-out-2 c = search needs
 
-array-write-out-2 : tie.Need-array-write-out-2 Inv-loop μ-loop
-array-write-out-2 c = search needs
+slice-write-out-2 : tie.Need-slice-write-out-2 Inv-loop μ-loop
+slice-write-out-2 c = omega (arith, firsting-long (c .before .loop .inv), c .before .before .before .before .pre .0)
+
+same-length : tie.Need-same-length Inv-loop μ-loop
+same-length c = simp length-set (firsting-long (c .before .loop .inv) ∙ sym (ap length (c .before .before .before .before .pre .2) ∙ length-replicate {A = ℕ} 257 0))
 
 returns : tie.Need-returns Inv-loop μ-loop
 returns c = firsting-all (c .before .loop .inv) (omega arith)
 
-pub firsts-of-spec : {M : Type 1} → statement M
-firsts-of-spec =
+pub put-firsts-spec : {M : Type 1} → statement M
+put-firsts-spec =
     tie.close
     (tie.spec
     Inv-loop
     μ-loop
     loop-holds
     mul-out
-    array-write-out
+    slice-write-out
     mul-index
     shared-slice-read-index
     index-requires
@@ -68,5 +73,6 @@ firsts-of-spec =
     loop-less
     loop-again
     mul-out-2
-    array-write-out-2
+    slice-write-out-2
+    same-length
     returns)

@@ -1,12 +1,13 @@
--- After k turns the first k wires are stored turned.
-use Prim.Native.Nat.{_+_, _-_, _≤_}
-use mathlib.Core.Path.{sym}
+-- After k turns the first k wires are written.
+use Prim.Native.Nat.{_-_}
+use mathlib.Core.Path.{_∙_, ap, sym}
 use native.Mathlib.Omega.{arith}
-use lib.ListN.{length}
+use lib.ListN.{length, length-replicate}
 use borrow.Author.Needs.{needs}
+use Prim.Native.Nat.{ℕ}
 use Rattle.listing.proofs.Loops.{Turning, turning-all, turning-fits, turning-long, turning-next, turning-room, turning-start}
-use Rattle.listing.proofs.turned_uses.Statement.{statement}
-use Rattle.listing.proofs.turned_uses.Tie as tie
+use Rattle.listing.proofs.put_turned_uses.Statement.{statement}
+use Rattle.listing.proofs.put_turned_uses.Tie as tie
 
 abbrev Inv-loop : tie.InvT-loop
 Inv-loop uses wires out₀ at₀ k₀ out at k = Turning wires uses out k at
@@ -14,12 +15,8 @@ Inv-loop uses wires out₀ at₀ k₀ out at k = Turning wires uses out k at
 abbrev μ-loop : tie.MeasureT-loop
 μ-loop uses wires out₀ at₀ k₀ out at k = length wires - k
 
--- wire k ends inside the list
-fits : (c : tie.After-index Inv-loop μ-loop) → c .before .before .before .loop .at + c .index .result ≤ length (c .before .before .before .before .before .before .args .uses .now)
-fits c = turning-fits (c .before .before .before .loop .inv) (omega arith) (c .index .ensures .0)
-
 loop-holds : tie.Need-loop-holds Inv-loop μ-loop
-loop-holds c = turning-start (c .before .before .args .wires .now) (c .before .before .args .uses .now) (c .before .before .pre .0) (c .before .before .pre .2)
+loop-holds c = turning-start _ _ _ (c .before .before .before .pre .0) (c .before .before .before .pre .2) (c .before .before .before .pre .3)
 
 mul-index : tie.Need-mul-index Inv-loop μ-loop
 mul-index c = search needs
@@ -30,14 +27,11 @@ shared-slice-read-index c = search needs
 index-requires : tie.Need-index-requires Inv-loop μ-loop
 index-requires c κs = search needs
 
-slice-aggregate-put-turned : tie.Need-slice-aggregate-put-turned Inv-loop μ-loop
-slice-aggregate-put-turned c = sym (turning-long (c .before .before .before .before .loop .inv))
-
 add-put-turned : tie.Need-add-put-turned Inv-loop μ-loop
-add-put-turned c = omega (arith, fits (c .before))
+add-put-turned c = omega (arith, turning-fits (c .before .before .before .before .loop .inv) (omega arith) (c .before .index .ensures .0))
 
 mul-put-turned : tie.Need-mul-put-turned Inv-loop μ-loop
-mul-put-turned c = omega (arith, fits (c .before))
+mul-put-turned c = omega (arith, turning-fits (c .before .before .before .before .loop .inv) (omega arith) (c .before .index .ensures .0))
 
 sub-put-turned : tie.Need-sub-put-turned Inv-loop μ-loop
 sub-put-turned c = search needs
@@ -46,13 +40,13 @@ part-put-turned-start : tie.Need-part-put-turned-start Inv-loop μ-loop
 part-put-turned-start c = search needs
 
 part-put-turned-end : tie.Need-part-put-turned-end Inv-loop μ-loop
-part-put-turned-end c = fits (c .before)
+part-put-turned-end c = turning-fits (c .before .before .before .before .loop .inv) (omega arith) (c .before .index .ensures .0)
 
 put-turned-requires : tie.Need-put-turned-requires Inv-loop μ-loop
 put-turned-requires c κs = turning-room (c .before .before .before .before .before .loop .inv) (omega arith) (c .before .before .index .ensures .0)
 
 add-at : tie.Need-add-at Inv-loop μ-loop
-add-at c = omega (arith, fits (c .before .before .before .before))
+add-at c = omega (arith, turning-fits (c .before .before .before .before .before .before .before .before .loop .inv) (omega arith) (c .before .before .before .before .before .index .ensures .0))
 
 add-k : tie.Need-add-k Inv-loop μ-loop
 add-k c = search needs
@@ -61,13 +55,16 @@ loop-less : tie.Need-loop-less Inv-loop μ-loop
 loop-less c = search needs
 
 loop-again : tie.Need-loop-again Inv-loop μ-loop
-loop-again c = turning-next (c .before .before .before .before .before .before .before .loop .inv) (omega arith) (c .before .before .before .before .index .ensures .0) (c .before .put-turned .last .0) (c .before .put-turned .ensures)
+loop-again c = turning-next (c .before .before .before .before .before .before .before .before .loop .inv) (omega arith) (c .before .before .before .before .before .index .ensures .0) _ (c .before .before .put-turned .ensures)
+
+same-length : tie.Need-same-length Inv-loop μ-loop
+same-length c = turning-long (c .before .loop .inv) ∙ sym (ap length (c .before .before .before .before .before .pre .3) ∙ length-replicate {A = ℕ} 4096 0)
 
 returns : tie.Need-returns Inv-loop μ-loop
 returns c = turning-all (c .before .loop .inv) (omega arith)
 
-pub turned-uses-spec : {M : Type 1} → statement M
-turned-uses-spec =
+pub put-turned-uses-spec : {M : Type 1} → statement M
+put-turned-uses-spec =
     tie.close
     (tie.spec
     Inv-loop
@@ -76,7 +73,6 @@ turned-uses-spec =
     mul-index
     shared-slice-read-index
     index-requires
-    slice-aggregate-put-turned
     add-put-turned
     mul-put-turned
     sub-put-turned
@@ -87,4 +83,5 @@ turned-uses-spec =
     add-k
     loop-less
     loop-again
+    same-length
     returns)

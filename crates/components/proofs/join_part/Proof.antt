@@ -1,0 +1,70 @@
+-- After i turns the edges of the first i uses are joined with the member.
+use Prim.Native.Nat.{_-_}
+use mathlib.Core.List.{map}
+use mathlib.Core.Path.{_∙_}
+use native.Mathlib.Omega.{arith}
+use lib.ListN.{length, replicate}
+use borrow.Author.Needs.{needs}
+use Rattle.components.proofs.Linking.{member-all, member-next}
+use Rattle.edge.specs.Uses.{edgeNumber}
+use Rattle.groups.proofs.All.{Joins, joins-start}
+use Rattle.groups.proofs.Laws.{ready}
+use Rattle.components.proofs.join_part.Statement.{statement}
+use Rattle.components.proofs.join_part.Tie as tie
+
+abbrev Inv-loop : tie.InvT-loop
+Inv-loop parents₀ sizes₀ n part member i₀ parents sizes i = Joins n (map edgeNumber part) (replicate (length part) member) parents₀ sizes₀ parents sizes i
+
+abbrev μ-loop : tie.MeasureT-loop
+μ-loop parents₀ sizes₀ n part member i₀ parents sizes i = length part - i
+
+loop-holds : tie.Need-loop-holds Inv-loop μ-loop
+loop-holds c = joins-start _ _ _ _ _ (c .before .before .before .pre .0)
+
+mul-index : tie.Need-mul-index Inv-loop μ-loop
+mul-index c = search needs
+
+shared-slice-read-index : tie.Need-shared-slice-read-index Inv-loop μ-loop
+shared-slice-read-index c = search needs
+
+index-requires : tie.Need-index-requires Inv-loop μ-loop
+index-requires c κs = search needs
+
+join-requires : tie.Need-join-requires Inv-loop μ-loop
+join-requires c κs = ready _ _ _ (c .before .before .before .before .before .loop .inv .forest) _ _ (omega (arith, c .before .before .before .before .before .before .before .before .before .pre .1 (c .before .before .before .before .before .loop .i) (omega arith), c .index .ensures .0)) (c .before .before .before .before .before .before .before .before .before .pre .2)
+
+add-i : tie.Need-add-i Inv-loop μ-loop
+add-i c = search needs
+
+loop-less : tie.Need-loop-less Inv-loop μ-loop
+loop-less c = search needs
+
+loop-again : tie.Need-loop-again Inv-loop μ-loop
+loop-again c = member-next (c .before .before .before .before .before .before .before .before .before .before .before .before .before .before .args .n) (c .before .before .before .before .before .before .before .before .before .before .before .before .before .before .args .part .now) (c .before .before .before .before .before .before .before .before .before .before .before .before .before .before .args .member) (c .before .before .before .before .before .before .before .before .before .before .before .before .before .before .pre .1) (c .before .before .before .before .before .before .before .before .before .before .before .before .before .before .pre .2) (c .before .before .before .before .before .before .before .before .before .before .loop .inv) (omega arith) (c .before .before .before .before .before .index .ensures .0) (c .before .before .before .before .join .ensures)
+
+same-length : tie.Need-same-length Inv-loop μ-loop
+same-length c = search needs
+
+same-length-2 : tie.Need-same-length-2 Inv-loop μ-loop
+same-length-2 c = search needs
+
+returns : tie.Need-returns Inv-loop μ-loop
+returns c = member-all (c .before .before .before .before .before .args .n) (c .before .before .before .before .before .args .part .now) (c .before .before .before .before .before .args .member) (c .before .before .before .before .before .pre .1) (c .before .before .before .before .before .pre .2) (c .before .loop .inv) (omega arith)
+
+pub join-part-spec : {M : Type 1} → statement M
+join-part-spec =
+    tie.close
+    (tie.spec
+    Inv-loop
+    μ-loop
+    loop-holds
+    mul-index
+    shared-slice-read-index
+    index-requires
+    join-requires
+    add-i
+    loop-less
+    loop-again
+    same-length
+    same-length-2
+    returns)
