@@ -1,5 +1,5 @@
 -- The loops that join each use's edge and its pair.
-use Prim.Native.Nat.{_+_, _-_, _<_, _≤_, suc, ℕ}
+use Prim.Native.Nat.{_+_, _-_, _<_, _≤_, ℕ}
 use mathlib.Core.List.{List, _++_, map, map-append}
 use mathlib.Core.Path.{_∙_, _≡_, ap, refl, sym}
 use native.Mathlib.Numerals.{add-one}
@@ -8,12 +8,12 @@ use lib.ListN.{List·getD-map, drop, getD, getD-replicate, length, length-drop, 
 use lib.Seq.{getD-drop, getD-take, length-take-le, take-add, take-all}
 use Rattle.components.proofs.Loops.{length-owners, owners-next}
 use Rattle.components.proofs.Members.{all-member, all-replicate, links-append}
-use Rattle.components.specs.Pairs.{Linkable, Within, memberLinks, owners, useLinks, useTrees}
+use Rattle.components.specs.Pairs.{Linkable, Within, memberLinks, owners, useTrees}
 use Rattle.edge.specs.Uses.{edgeNumber}
 use Rattle.groups.proofs.All.{Joins, Pairs, forest-all, joined-all-long, joined-append, joins-end, joins-next}
 use Rattle.groups.proofs.Laws.{grouped-start, inside-links}
 use Rattle.groups.specs.Forest.{Forest, Trees, joined, joinedAll, started, trees}
-use Rattle.groups.specs.Groups.{Inside, Link, links}
+use Rattle.groups.specs.Groups.{Inside, links}
 use Rattle.lists.proofs.Count.{all-each, all-map}
 use Rattle.lists.proofs.Split.{Walk, walk-fits, walk-next, walk-start}
 use Rattle.lists.specs.Lists.{sum}

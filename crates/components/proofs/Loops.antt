@@ -1,20 +1,17 @@
 -- The members of the pairs, and the loop that writes the roots.
-use Prim.Native.Nat.{_%_, _+_, _-_, _<_, _≤_, suc, zero, ℕ}
-use mathlib.Core.List.{List, [], _++_, _∷_, append-assoc, append-nil, map}
+use Prim.Native.Nat.{_+_, _-_, _<_, _≤_, suc, zero, ℕ}
+use mathlib.Core.List.{List, [], _++_, _∷_, append-assoc, append-nil}
 use mathlib.Core.Path.{_∙_, _≡_, ap, refl, sym}
 use native.Mathlib.Nat.{le-of-suc-le-suc, not-suc-le-zero}
-use native.Mathlib.Numerals.{add-one}
 use native.Mathlib.Omega.{arith}
-use lib.ListN.{List·getD-map, drop, getD, getD-replicate, length, length-append, length-replicate, replicate, set, take}
-use lib.Seq.{getD-take, length-sets, length-take-le, sets, sets-eq, take-all, take-append-seam}
+use lib.ListN.{drop, getD, length, length-append, length-replicate, replicate, set, take}
+use lib.Seq.{length-sets, sets, take-all}
 use Rattle.components.specs.Pairs.{Rooted, owners, rootsOf}
-use Rattle.edge.specs.Uses.{edgeNumber}
 use Rattle.groups.proofs.Climbing.{climbs-in}
 use Rattle.groups.specs.Forest.{rootOf}
 use Rattle.lists.proofs.Flat.{getD-tabulate}
 use Rattle.lists.proofs.Laws.{length-tabulate}
-use Rattle.lists.proofs.Sets.{sets-next, sets-then}
-use Rattle.lists.proofs.Split.{Walk, walk-fits, walk-next, walk-start}
+use Rattle.lists.proofs.Sets.{sets-next}
 use Rattle.lists.specs.Lists.{sum}
 
 -- ---- a list stored from `at` on: i of its elements are
@@ -38,10 +35,6 @@ module _ (xs l : List ℕ) (at : ℕ) (out : List ℕ) (i : ℕ) (s : Putting xs
 
   pub putting-all : length xs ≤ i → out ≡ sets l at xs
   putting-all h = s .is ∙ ap (sets l at) (take-all i xs h)
-
--- what was stored from the front on
-pub take-sets : (l xs : List ℕ) (n : ℕ) → length xs ≡ n → n ≤ length l → take n (sets l 0 xs) ≡ xs
-take-sets l xs n e h = rw (← e) (ap (take (length xs)) (sets-eq xs l 0 (omega arith)) ∙ take-append-seam xs (drop (0 + length xs) l))
 
 -- ---- the members of the pairs
 pub length-owners : (b : ℕ) (ns : List ℕ) → length (owners b ns) ≡ sum ns

@@ -1,24 +1,24 @@
 -- The forest of the uses' links: what the code leaves in the arrays, and that its roots are the keys of the components.
-use Prim.Native.Nat.{_+_, _<_, _≤_, suc, zero, ℕ}
-use mathlib.Core.List.{List, List·Memᴰ, List·Memᴰ·cases-cons, List·Memᴰ·not-nil, [], _∷_, map}
-use mathlib.Core.Logic.{⊎-elim}
+use Prim.Native.Nat.{_+_, _<_, _≤_, ℕ}
+use mathlib.Core.List.{List, List·Memᴰ, [], _∷_, map}
 use mathlib.Core.Path.{_∙_, _≡_, ap, sym}
 use native.Mathlib.Omega.{arith}
-use lib.ListN.{List·getD-map, drop, getD, length, length-append, length-drop, length-map, length-replicate, replicate, take}
-use lib.Seq.{getD-take, length-sets, sets}
-use Rattle.components.proofs.Loops.{length-owners, roots-long, take-sets}
+use lib.ListN.{drop, getD, length, length-append, length-drop, length-replicate, replicate, take}
+use lib.Seq.{length-sets, sets}
+use Rattle.components.proofs.Loops.{roots-long}
 use Rattle.components.proofs.Members.{all-member, edgesOf, of-use-links}
 use Rattle.components.proofs.Theorem.{roots-same}
-use Rattle.components.specs.Pairs.{Linkable, Paired, Rooted, owners, pairRoots, useLinks, useTrees}
+use Rattle.components.specs.Pairs.{Linkable, Paired, Rooted, pairRoots, useLinks, useTrees}
 use Rattle.edge.specs.Uses.{edgeNumber}
 use Rattle.groups.proofs.All.{joined-all-long}
 use Rattle.groups.proofs.Climbing.{root-below}
 use Rattle.groups.proofs.Laws.{grouped-all, grouped-climbs, grouped-start}
-use Rattle.groups.specs.Forest.{Grouped, joinedAll, rootOf, started, trees}
+use Rattle.groups.specs.Forest.{Grouped, rootOf, started}
 use Rattle.groups.specs.Groups.{Inside, links, sameGroup}
-use Rattle.lists.proofs.Count.{All, all-append, all-at, all-each, all-map, all-split}
+use Rattle.lists.proofs.Count.{All, all-at, all-each, all-map, all-split}
 use Rattle.lists.proofs.Flat.{getD-tabulate}
 use Rattle.lists.proofs.Laws.{length-split, length-tabulate}
+use Rattle.lists.proofs.Sets.{take-sets}
 use Rattle.lists.specs.Lists.{flat, split, tabulate}
 use Rattle.sequence.proofs.Loops.{key-groups-few, key-groups-long}
 use Rattle.sequence.proofs.Only.{groups-same}

@@ -5,7 +5,7 @@ ghost use mathlib.Core.Path.{_≡_};
 ghost use Prim.Native.Nat.{ℕ, _+_, _<_, _≤_};
 ghost use lib.Dec.{eqb};
 ghost use lib.ListN.{length, getD};
-ghost use Rattle.groups.specs.Forest.{Climbs, Forest, Ready, joined, joinedAll, oneRoot, rootOf, started, trees, under};
+ghost use Rattle.groups.specs.Forest.{Climbs, Forest, Ready, joined, joinedAll, rootOf, started, trees, under};
 ghost use Rattle.groups.specs.Groups.{links};
 
 // Makes each of n members a group of its own.
@@ -44,25 +44,6 @@ pub fn same(parents: &[u16], i: usize, j: usize) -> bool
     ensures { λ r. ⌜ r ≡ eqb (rootOf (now (parents .entry)) i) (rootOf (now (parents .entry)) j) ⌝ }
 {
     find(parents, i) == find(parents, j)
-}
-
-// Whether all of the members are in one group.
-pub fn one_group(parents: &[u16], members: &[u16]) -> bool
-    requires { ⌜ ((k : ℕ) → k < length (now members) → Climbs (now parents) (getD (now members) k 0)) ⌝ }
-    ensures { λ r. ⌜ r ≡ oneRoot (now (parents .entry)) (now (members .entry)) ⌝ }
-{
-    if members.len() == 0 {
-        return true;
-    }
-    let root = find(parents, members[0] as usize);
-    let mut i: usize = 1;
-    while i < members.len() {
-        if find(parents, members[i] as usize) != root {
-            return false;
-        }
-        i += 1;
-    }
-    true
 }
 
 // Puts root b under root a.

@@ -116,6 +116,13 @@ module _ {ℓ ℓ′} {A : Type ℓ} {B : Type ℓ′} where
   map-tabulate g zero f = refl
   map-tabulate g (suc n) f = ap (λ (r : List B). g (f 0) ∷ r) (map-tabulate g n (λ (k : ℕ). f (suc k)))
 
+  -- g of the first i elements
+  pub tabulate-map : (g : A → B) (d : A) (i : ℕ) (xs : List A) → i ≤ length xs → tabulate i (λ (k : ℕ). g (getD xs k d)) ≡ take i (map g xs)
+  unfolding tabulate
+  tabulate-map g d zero xs h = refl
+  tabulate-map g d (suc i) [] h = absurd (omega arith)
+  tabulate-map g d (suc i) (x ∷ xs) h = ap (λ (r : List B). g x ∷ r) (tabulate-map g d i xs (omega arith))
+
   -- a loop that writes g of each element of a list of records: what it holds after i turns
   pub record Column (g : A → B) (d : A) (xs : List A) (out : List B) (i : ℕ) : Type (ℓ ⊔ ℓ′) where
     pub low : i ≤ length xs

@@ -5,12 +5,16 @@ use mathlib.Core.Path.{_∙_, _≡_, ap, refl, sym}
 use native.Mathlib.Nat.{add-zero, le-of-suc-le-suc, mul-le-mul-left, mul-suc, not-suc-le-zero}
 use native.Mathlib.Numerals.{add-one}
 use native.Mathlib.Omega.{arith}
-use lib.ListN.{getD, length, length-append, set, take}
-use lib.Seq.{length-sets, length-take-le, sets, take-suc}
+use lib.ListN.{drop, getD, length, length-append, set, take}
+use lib.Seq.{length-sets, length-take-le, sets, sets-eq, take-append-seam, take-suc}
 use Rattle.lists.proofs.Flat.{length-flat}
 use Rattle.lists.specs.Lists.{flat}
 
 module _ {ℓ} {A : Type ℓ} where
+  -- what was stored from the front on
+  pub take-sets : (l xs : List A) (n : ℕ) → length xs ≡ n → n ≤ length l → take n (sets l 0 xs) ≡ xs
+  take-sets l xs n e h = rw (← e) (ap (take (length xs)) (sets-eq xs l 0 (omega arith)) ∙ take-append-seam xs (drop (0 + length xs) l))
+
   -- a list stored, and another after it
   pub sets-append : (l : List A) (i : ℕ) (xs ys : List A) → sets (sets l i xs) (i + length xs) ys ≡ sets l i (xs ++ ys)
   sets-append l i [] ys = rw add-zero

@@ -2,18 +2,18 @@
 use Prim.Native.Nat.{_+_, _<_, _≤_, suc, zero, ℕ}
 use mathlib.Core.Bool.{Bool, _&&_, false, not, true}
 use mathlib.Core.List.{List, [], _++_, _∷_, append-nil, map, map-append}
-use mathlib.Core.Path.{_∙_, _≡_, ap, refl, sym}
+use mathlib.Core.Path.{_∙_, _≡_, ap, refl}
 use native.Mathlib.Numerals.{add-one}
 use native.Mathlib.Omega.{arith}
 use lib.Dec.{eqb}
-use lib.ListN.{drop, getD, length, length-append, length-replicate, length-set, replicate, set, take, take-append-drop}
+use lib.ListN.{drop, getD, length, length-append, length-map, length-replicate, length-set, replicate, set, take, take-append-drop}
 use lib.Seq.{getD-take, length-sets, length-take-le, sets, take-all, take-suc}
 use Rattle.lists.proofs.Parts.{length-only, only-append}
 use Rattle.lists.proofs.Count.{All, all-each, all-only}
-use Rattle.lists.proofs.Laws.{Filling, filling-next, filling-padded, filling-start, flat-append, map-tabulate, tabulate-getD}
+use Rattle.lists.proofs.Laws.{Filling, filling-next, filling-padded, filling-start, flat-append, tabulate-map}
 use Rattle.lists.proofs.Marks.{AllBelow, Holds, below-zeros, holds-fresh, holds-stamped}
 use Rattle.lists.proofs.Sets.{flat-next, sets-then}
-use Rattle.lists.specs.Lists.{flat, has, once, only, padded, pick, tabulate, unless}
+use Rattle.lists.specs.Lists.{flat, has, once, only, padded, pick, unless}
 use Rattle.lists.specs.Marks.{stamped}
 use Rattle.listing.specs.Parts.{partAt, partsOf}
 use Rattle.pairs.proofs.Once.{all-once, has-once, length-once, once-snoc}
@@ -128,9 +128,6 @@ module _ {listings firsts out₀ marks out : List ℕ} {at k : ℕ} (s : Pairing
           is = rw (add-one, grown) (sets-then out₀ 0 ps more at (omega (arith, s .here)) (s .is) o);
         }
 
-tabulate-map : (g : ℕ → ℕ) (xs : List ℕ) → tabulate (length xs) (λ (k : ℕ). g (getD xs k 0)) ≡ map g xs
-tabulate-map g xs = sym (map-tabulate g (length xs) (λ (k : ℕ). getD xs k 0)) ∙ ap (map g) (tabulate-getD xs 0)
-
 module _ (uses turned starts ps : List ℕ) where
   -- how many listing k shows
   abbrev pub spanAt : ℕ → ℕ
@@ -158,7 +155,8 @@ module _ (uses turned starts ps : List ℕ) where
     pub spanning-all : length ps ≤ k → out ≡ padded 512 0 (map (λ (l : ℕ). length (partAt uses turned starts l)) ps)
     spanning-all h =
         let e : k ≡ length ps = omega (arith, s .low) in
-        filling-padded spanAt 0 512 out k (s .filling) ∙ rw (e, tabulate-map (λ (l : ℕ). length (partAt uses turned starts l)) ps)
+        let shows : ℕ → ℕ = λ l. length (partAt uses turned starts l) in
+        filling-padded spanAt 0 512 out k (s .filling) ∙ rw (e, tabulate-map shows 0 (length ps) ps (omega arith), take-all (length ps) (map shows ps) (omega (arith, length-map ps shows)))
 
   -- what the first k listings show is written
   pub record Laying (out₀ out : List ℕ) (at k : ℕ) : Type 0 where

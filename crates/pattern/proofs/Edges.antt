@@ -1,7 +1,7 @@
 -- The loop over the edges, which checks each one and keeps its ends in two columns.
-use Prim.Native.Nat.{_+_, _<_, _≤_, suc, zero, ℕ}
+use Prim.Native.Nat.{_+_, _<_, _≤_, ℕ}
 use mathlib.Core.List.{List, [], _∷_, map}
-use mathlib.Core.Path.{_∙_, _≡_, ap, refl, sym}
+use mathlib.Core.Path.{_∙_, _≡_, ap, sym}
 use native.Mathlib.Omega.{arith}
 use lib.ListN.{getD, length, set, take}
 use lib.Seq.{length-take-le}
@@ -14,8 +14,8 @@ use Rattle.errors.specs.declared.Check.{Check}
 use Rattle.errors.specs.declared.Check.the-variants.{Accepted, Refused}
 use Rattle.errors.specs.declared.Refusal.{Refusal}
 use Rattle.face.specs.Faces.{faceRule, wireCount}
-use Rattle.lists.proofs.Laws.{Column, column-next, column-start}
-use Rattle.lists.specs.Lists.{split, tabulate}
+use Rattle.lists.proofs.Laws.{Column, column-next, column-start, tabulate-map}
+use Rattle.lists.specs.Lists.{split}
 use Rattle.pattern.proofs.Counts.{Full, Limited, records-first}
 use Rattle.pattern.proofs.Named.{tables-rule}
 use Rattle.pattern.specs.Checks.{contentFaults, edgeFaults, listFaults, outlines, recordFaults}
@@ -23,15 +23,9 @@ use Rattle.pattern.specs.Contents.{content}
 use Rattle.pattern.specs.declared.Pattern.{Pattern}
 
 module _ {ℓ ℓ′} {A : Type ℓ} {B : Type ℓ′} (g : A → B) (d : A) where
-  tabulate-map : (i : ℕ) (xs : List A) → i ≤ length xs → tabulate i (λ (k : ℕ). g (getD xs k d)) ≡ take i (map g xs)
-  unfolding tabulate
-  tabulate-map zero xs h = refl
-  tabulate-map (suc i) [] h = absurd (omega arith)
-  tabulate-map (suc i) (x ∷ xs) h = ap (λ (r : List B). g x ∷ r) (tabulate-map i xs (omega arith))
-
   -- the part of a column that is written
   column-part : (xs : List A) (out : List B) (i : ℕ) → Column g d xs out i → take i out ≡ take i (map g xs)
-  column-part xs out i s = s .so-far ∙ tabulate-map i xs (s .low)
+  column-part xs out i s = s .so-far ∙ tabulate-map g d i xs (s .low)
 
 -- k of the first n edges are checked without fault, and their ends kept
 pub record Edging (xs : List Edge) (points n : ℕ) (fronts backs : List ℕ) (k : ℕ) : Type 0 where

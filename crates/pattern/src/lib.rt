@@ -1,6 +1,6 @@
 // The pattern in storage, and the reading checks from the counts on.
 ghost use mathlib.Core.Path.{_≡_};
-ghost use mathlib.Core.List.{[], map, _++_};
+ghost use mathlib.Core.List.{[]};
 ghost use Prim.Native.Nat.{_+_, _<_, _≤_};
 ghost use lib.ListN.{length, getD, take};
 ghost use Rattle.lists.specs.Lists.{split, sum};

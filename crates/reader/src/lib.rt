@@ -8,7 +8,7 @@ ghost use Rattle.lists.specs.Lists.{tabulate, padded};
 ghost use Rattle.words.specs.Words.{le16, le32, le64};
 ghost use Rattle.errors.specs.Faults.{first as firstFault, each};
 ghost use Rattle.pattern.specs.Contents.{stored, zeroEdge, zeroFace};
-ghost use Rattle.pattern.specs.Checks.{contentFaults, countFaults, edgeFaults};
+ghost use Rattle.pattern.specs.Checks.{contentFaults, edgeFaults};
 ghost use Rattle.pattern_file.specs.File.{startOf, fileCounts, edgeAt, faceAt, fileContent, offsetFaults, tableFaults};
 ghost use Rattle.reader.specs.Reading.{reading, refusal, Tables};
 use edge::Curve;

@@ -1,10 +1,10 @@
 -- The lines of a shell from its figures; the text shell by shell; the text of a file.
 use Prim.Native.Nat.{_*_, _+_, _-_, _<_, _≤_, suc, ℕ}
-use mathlib.Core.List.{List, [], _++_, _∷_, append-nil, map}
+use mathlib.Core.List.{List, [], _++_, _∷_, map}
 use mathlib.Core.Path.{_∙_, _≡_, ap, refl, sym}
 use native.Mathlib.Numerals.{add-one}
 use native.Mathlib.Omega.{arith}
-use lib.ListN.{drop, getD, length, length-append, length-drop, length-map, length-take, replicate, take}
+use lib.ListN.{drop, getD, length, length-drop, length-map, length-take, replicate, take}
 use lib.Seq.{sets, take-append-seam}
 use Rattle.columns.proofs.Made.{columns-made, summed}
 use Rattle.columns.proofs.Shells.{listings-are, listings-inside}
@@ -20,9 +20,8 @@ use Rattle.face.specs.Faces.{faceRule}
 use Rattle.lines.specs.Lines.{shellLines}
 use Rattle.lines.specs.Parts.{Fits}
 use Rattle.lists.proofs.Parts.{flat-numbers, split-flat}
-use Rattle.lists.proofs.Laws.{flat-append, map-tabulate, tabulate-suc}
 use Rattle.lists.proofs.Sets.{put-then}
-use Rattle.lists.specs.Lists.{flat, numbers, padded, split, sum, tabulate}
+use Rattle.lists.specs.Lists.{flat, numbers, padded, tabulate}
 use Rattle.output.specs.Text.{refusalLine}
 use Rattle.pattern.proofs.Counts.{Full, Limited, shells-counted}
 use Rattle.pattern.specs.Checks.{contentFaults, countFaults, outlines, patternFaults, recordFaults}
@@ -33,18 +32,18 @@ use Rattle.pattern_file.specs.File.{fileContent, fileCounts, fileFaults, tableF
 use Rattle.reader.proofs.Laws.{counts-of-content, full, limits, table-counts}
 use Rattle.reader.specs.Reading.{Tables}
 use Rattle.report_text.specs.Report.{reportOf, reportText, shellReport, solidText, textFor}
-use Rattle.report_text.specs.Texts.{OfAll, Patterned, Shelled, Tabled, arrayLines}
+use Rattle.report_text.specs.Texts.{Shelled, Tabled, arrayLines}
 use Rattle.report_text.specs.declared.ShellText.{ShellText}
 use Rattle.reports.proofs.Groups.{components-bound, first-in, members-are, pairs-bound, singular-bound, sum-lengths}
-use Rattle.reports.specs.Figures.{Columned, groupsFound, lent, openingsFound}
+use Rattle.reports.specs.Figures.{Columned, OfAll, Patterned, groupsFound, lent, openingsFound}
 use Rattle.reports.specs.declared.ShellGroups.{ShellGroups}
 use Rattle.reports.specs.declared.ShellOpenings.{ShellOpenings}
-use Rattle.shell.specs.Components.{components, shellPairs}
+use Rattle.shell.specs.Components.{components}
 use Rattle.shell.specs.Openings.{shellWalk}
 use Rattle.shell.specs.Shells.{listingsOf}
 use Rattle.shell.specs.Singular.{singularPoints}
 use Rattle.solid.proofs.Laws.{solid-next}
-use Rattle.solid.specs.Solid.{andThen, errorsOf, firstError, firstOfSolid, inShell, inSolid, reasonNumber, shellErrors, solidErrors, solidOf, solidShell}
+use Rattle.solid.specs.Solid.{andThen, errorsOf, firstError, firstOfSolid, inShell, inSolid, reasonNumber, shellErrors, solidErrors, solidShell}
 use Rattle.solid.specs.declared.ShellCheck.{ShellCheck}
 use Rattle.solid.specs.declared.ShellCheck.the-variants.{Fine, Wrong}
 use Rattle.solid.specs.declared.ShellError.{ShellError}

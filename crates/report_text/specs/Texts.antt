@@ -1,18 +1,15 @@
--- The lines of a shell as the code has its figures, and the columns that the code writes from.
-use Prim.Native.Nat.{ℕ, _+_, _<_}
+-- The lines of a shell as the code has its figures, and the tables that the code writes from.
+use Prim.Native.Nat.{ℕ, _+_}
 use mathlib.Core.Bool.{Bool}
 use mathlib.Core.List.{List, []}
 use mathlib.Core.Path.{_≡_}
-use lib.ListN.{getD, length}
+use lib.ListN.{length}
 use lib.Seq.{sets}
 use Rattle.lists.specs.Lists.{split}
-use Rattle.columns.specs.Columns.{columnsIn}
-use Rattle.columns.specs.Sound.{Sound}
-use Rattle.columns.specs.declared.Columns.{Columns}
 use Rattle.lines.specs.Lines.{shellLines}
 use Rattle.pattern.proofs.Counts.{Full, Limited}
 use Rattle.pattern.specs.Checks.{patternFaults}
-use Rattle.pattern.specs.Contents.{Content, content}
+use Rattle.pattern.specs.Contents.{Content}
 use Rattle.pattern.specs.declared.Pattern.{Pattern}
 use Rattle.reader.specs.Reading.{Tables}
 use Rattle.report_text.specs.Report.{shellReport}
@@ -34,17 +31,6 @@ pub record Shelled (c : Content) (n : ℕ) (out₀ : List ℕ) (at : ℕ) (out :
   pub written : out ≡ sets out₀ at (shellLines n (shellReport c n))
   pub place : r .at ≡ at + length (shellLines n (shellReport c n))
   pub wrong : r .check ≡ firstError (shellErrors c n)
-
--- the columns are those of a pattern without fault that has so many shells
-pub record Patterned (k : Columns) (shells : ℕ) : Type 0 where
-  pub pattern : Pattern
-  pub sound : Sound pattern
-  pub columns : k ≡ columnsIn pattern
-  pub count : shells ≡ getD (pattern .counts) 5 0
-
--- what holds of that pattern
-abbrev pub OfAll : Columns → ℕ → (Pattern → Type 0) → Type 0
-OfAll k shells P = (p : Pattern) → Sound p → k ≡ columnsIn p → shells ≡ getD (p .counts) 5 0 → P p
 
 -- the tables are those of a pattern without fault
 pub record Tabled (counts fronts backs uses wires faces shells listings : List ℕ) : Type 0 where

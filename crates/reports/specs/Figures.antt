@@ -130,3 +130,14 @@ pub record Columned (k : Columns) (n : ℕ) : Type 0 where
 -- what holds of the pattern that has these columns, and a shell n
 abbrev pub Of : Columns → ℕ → (Pattern → Type 0) → Type 0
 Of k n P = (p : Pattern) → Sound p → k ≡ columnsIn p → n < getD (p .counts) 5 0 → P p
+
+-- the columns are those of a pattern without fault that has so many shells
+pub record Patterned (k : Columns) (shells : ℕ) : Type 0 where
+  pub pattern : Pattern
+  pub sound : Sound pattern
+  pub columns : k ≡ columnsIn pattern
+  pub count : shells ≡ getD (pattern .counts) 5 0
+
+-- what holds of that pattern
+abbrev pub OfAll : Columns → ℕ → (Pattern → Type 0) → Type 0
+OfAll k shells P = (p : Pattern) → Sound p → k ≡ columnsIn p → shells ≡ getD (p .counts) 5 0 → P p

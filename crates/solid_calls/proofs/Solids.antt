@@ -18,7 +18,7 @@ use Rattle.pattern.proofs.Counts.{shells-counted}
 use Rattle.pattern.specs.Contents.{Content, content}
 use Rattle.pattern.specs.declared.Pattern.{Pattern}
 use Rattle.reports.proofs.Columned.{in-places, listingsIn}
-use Rattle.reports.specs.Figures.{Columned, Of, groupsFound, openingsFound}
+use Rattle.reports.specs.Figures.{Columned, Of, OfAll, Patterned, groupsFound, openingsFound}
 use Rattle.reports.specs.declared.ShellGroups.{ShellGroups}
 use Rattle.reports.specs.declared.ShellOpenings.{ShellOpenings}
 use Rattle.shell.specs.Shells.{listingsOf}
@@ -28,7 +28,7 @@ use Rattle.solid.specs.declared.ShellCheck.{ShellCheck}
 use Rattle.solid.specs.declared.SolidCheck.{SolidCheck}
 use Rattle.solid.specs.declared.SolidCheck.the-variants.{Accepted}
 use Rattle.solid.specs.declared.SolidError.{SolidError}
-use Rattle.solid_calls.specs.Solids.{OfAll, Shelled, answered, solidAnswerOf}
+use Rattle.solid_calls.specs.Solids.{answered, solidAnswerOf}
 use Rattle.solid_calls.specs.declared.SolidAnswer.the-variants.{Unread}
 
 pub unread : (fs : List Refusal) (c : Content) (f : Refusal) → first fs ≡ Check·Refused f → Unread f ≡ solidAnswerOf fs c
@@ -65,12 +65,12 @@ abbrev errorsTo : Content → ℕ → List SolidError
 errorsTo c n = flat (map (λ (i : ℕ). inShell i (shellErrors c i)) (numbers n))
 
 pub record Checking (k : Columns) (shells : ℕ) (answer : SolidCheck) (n : ℕ) : Type 0 where
-  pub shelled : Shelled k shells
+  pub shelled : Patterned k shells
   pub low : n ≤ shells
   pub so-far : OfAll k shells (λ p. answer ≡ firstOfSolid (errorsTo (content p) n))
 
 module _ (k : Columns) (shells : ℕ) where
-  pub checking-start : Shelled k shells → Checking k shells Accepted 0
+  pub checking-start : Patterned k shells → Checking k shells Accepted 0
   unfolding flat tabulate
   checking-start h = record { shelled = h; low = omega arith; so-far = λ p s e m. refl }
 
@@ -78,7 +78,7 @@ module _ (k : Columns) (shells : ℕ) where
     pub checking-here : n < shells → Columned k n
     checking-here l =
         let h = v .shelled in
-        record { pattern = h .pattern; sound = h .sound; columns = h .columns; here = omega (arith, h .counted) }
+        record { pattern = h .pattern; sound = h .sound; columns = h .columns; here = omega (arith, h .count) }
 
     pub checking-next : n < shells → (w : ShellCheck) (r : SolidCheck) → Of k n (λ p. w ≡ firstError (shellErrors (content p) n)) → r ≡ andThen answer (inSolid n w)
         → Checking k shells r (n + 1)

@@ -1,9 +1,9 @@
 // The solid of a pattern in storage (Solid::try_new): each shell in turn, after the reading checks.
 ghost use mathlib.Core.Path.{_≡_};
 ghost use Rattle.pattern.specs.Contents.{content};
-ghost use Rattle.reports.specs.Figures.{Columned, Of};
+ghost use Rattle.reports.specs.Figures.{Columned, Of, OfAll, Patterned};
 ghost use Rattle.solid.specs.Solid.{firstError, shellErrors, solidOf};
-ghost use Rattle.solid_calls.specs.Solids.{answerNumber, OfAll, Shelled, solidAnswer};
+ghost use Rattle.solid_calls.specs.Solids.{answerNumber, solidAnswer};
 use columns::Columns;
 use columns::columns_of;
 use errors::Check;
@@ -53,7 +53,7 @@ pub fn shell_check(k: Columns, n: usize) -> ShellCheck
 
 // The shells of a pattern, one after the other.
 pub fn solid_of(k: Columns, shells: usize) -> SolidCheck
-    requires { ⌜ Shelled k shells ⌝ }
+    requires { ⌜ Patterned k shells ⌝ }
     ensures { λ r. ⌜ OfAll k shells (λ p. r ≡ solidOf (content p)) ⌝ }
 {
     let mut answer = SolidCheck::Accepted;

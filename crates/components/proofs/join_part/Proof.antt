@@ -1,7 +1,6 @@
 -- After i turns the edges of the first i uses are joined with the member.
 use Prim.Native.Nat.{_-_}
 use mathlib.Core.List.{map}
-use mathlib.Core.Path.{_∙_}
 use native.Mathlib.Omega.{arith}
 use lib.ListN.{length, replicate}
 use borrow.Author.Needs.{needs}

@@ -1,14 +1,13 @@
 -- The loop checks the edges; then the tables are lent as columns.
 use Prim.Native.Nat.{_-_}
 use mathlib.Core.List.{[]}
-use mathlib.Core.Path.{_∙_, _≡_, sym}
-use lib.ListN.{length, length-map}
+use mathlib.Core.Path.{_∙_, sym}
+use lib.ListN.{length-map}
 use borrow.Author.Needs.{needs}
 use Rattle.pattern.proofs.Columns.{checkable, content-columns}
 use Rattle.pattern.proofs.Counts.{Full, Limited, limited}
-use Rattle.pattern.proofs.Edges.{Edging, edge-faults, edge-refused, edging-all, edging-backs, edging-fronts, edging-next, edging-start, edging-stop}
+use Rattle.pattern.proofs.Edges.{Edging, edge-refused, edging-all, edging-backs, edging-fronts, edging-next, edging-start, edging-stop}
 use Rattle.pattern.proofs.check_content.Statement.{statement}
-use Rattle.pattern.specs.Contents.{content}
 use Rattle.pattern.proofs.check_content.Tie as tie
 
 abbrev Inv-loop : tie.InvT-loop

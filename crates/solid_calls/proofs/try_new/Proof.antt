@@ -39,7 +39,7 @@ element-copy-out-shells c = search needs
 solid-of-requires : tie.Need-solid-of-requires
 solid-of-requires c κs =
     let k = c .before .columns-of in
-    record { pattern = c .before .before .before .before .before .args .t1; sound = k .ensures .1; columns = k .ensures .0; counted = refl }
+    record { pattern = c .before .before .before .before .before .args .t1; sound = k .ensures .1; columns = k .ensures .0; count = refl }
 
 enum-told-2 : tie.Need-enum-told-2
 enum-told-2 c = search needs
