@@ -2,8 +2,9 @@
 """Patterns and edits for the comparison with the Rust, and the recorded answers.
 
     tools/generate.py record            makes the recorded answers again, always the same
-                                        bytes: those that crates/replay_reports and
-                                        crates/replay_packs replay, and recorded/edits
+                                        bytes: those that crates/replay_reports,
+                                        crates/replay_packs and crates/replay_edits
+                                        replay, and recorded/edits
     tools/generate.py random SEED COUNT FOLDER
                                         COUNT random patterns and as many files of
                                         edits, with their answers, in the same form
@@ -905,7 +906,7 @@ class Folder:
         if word == "edit":
             paths = [path for name in paths for path in (name, f"{name}.edits")]
         answer = ask(word, paths)
-        (self.path / "args").write_text("".join(f"{name}\n" for name in self.names))
+        (self.path / "args").write_text("".join(f"{path.name}\n" for path in map(pathlib.Path, paths)))
         (self.path / "stdout").write_text(answer)
         parts = dict(part.split("\n", 1) for part in re.split(r"^file ", answer, flags=re.M)[1:])
         assert list(parts) == self.names
@@ -948,9 +949,29 @@ def record():
         folder.add(name, b"".join(struct.pack("<I", len(file)) + file for file in files))
     folder.ask("pack")
 
-    folder = Folder(ROOT / "recorded/edits")
     cases = [(name, p, [line if isinstance(line, tuple) else (line, None) for line in lines])
              for name, p, lines in EDITS + list(every_edit()) + list(random_edit_files(2, 30))]
+    record_edits(ROOT / "recorded/edits", [case for case in cases if has(case, FACE_EDITS)])
+    record_edits(ROOT / "crates/replay_edits",
+                 [(name, p, [pair for pair in lines if first_word(pair) not in FACE_EDITS])
+                  for name, p, lines in cases if has((name, p, lines), SHELL_EDITS)])
+
+
+SHELL_EDITS = {"cut", "remove", "concat"}
+FACE_EDITS = {"add", "cutface", "cutedge", "glue"}
+
+
+def first_word(pair):
+    return pair[0].split(" ")[0]
+
+
+def has(case, kinds):
+    return any(first_word(pair) in kinds for pair in case[2])
+
+
+def record_edits(path, cases):
+    """A face edit changes nothing stored: without it the other answers are the same."""
+    folder = Folder(path)
     for name, p, lines in cases:
         folder.add(name, bytes_of(p), [line for line, _ in lines])
     parts = folder.ask("edit")

@@ -413,23 +413,26 @@ def edits(data):
 
 
 ROOT = pathlib.Path(__file__).resolve().parent.parent
-RECORDED = {"reports": ROOT / "crates/replay_reports", "packs": ROOT / "crates/replay_packs",
-            "edits": ROOT / "recorded/edits"}
+RECORDED = [("reports", ROOT / "crates/replay_reports"), ("packs", ROOT / "crates/replay_packs"),
+            ("edits", ROOT / "crates/replay_edits"), ("edits", ROOT / "recorded/edits")]
+AGAIN = {"reports": reports, "packs": packs, "edits": edits}
 
 
 def main():
     if len(sys.argv) > 2:
         sys.exit(__doc__)
     wrong = 0
-    for kind, again in ("reports", reports), ("packs", packs), ("edits", edits):
-        folder = RECORDED[kind] if len(sys.argv) == 1 else pathlib.Path(sys.argv[1]) / kind
-        if len(sys.argv) == 2 and not folder.exists():
-            continue
-        names = (folder / "args").read_text().split()
+    folders = RECORDED
+    if len(sys.argv) == 2:
+        folders = [(kind, pathlib.Path(sys.argv[1]) / kind) for kind in AGAIN]
+        folders = [(kind, folder) for kind, folder in folders if folder.exists()]
+    for kind, folder in folders:
+        names = [name for name in (folder / "args").read_text().split()
+                 if not name.endswith(".edits")]
         parts = (folder / "stdout").read_text().split("file ")[1:]
         assert len(parts) == len(names)
         for name, part in zip(names, parts):
-            if part.splitlines() != [name] + again(folder / "data" / name):
+            if part.splitlines() != [name] + AGAIN[kind](folder / "data" / name):
                 print(f"otherwise: {kind} {name}")
                 wrong += 1
         print(f"{kind}: {len(names)} files")

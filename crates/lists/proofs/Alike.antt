@@ -89,7 +89,7 @@ has-count x (y ∷ ys) h =
     (λ (e : eqb x y ≡ false). rw e (omega (arith, has-count x ys (omega (arith, bit-none x y e)))))
     (cases (eqb x y))
 
-has-none : (x : ℕ) (xs : List ℕ) → count (eqb x) xs ≡ 0 → has x xs ≡ false
+pub has-none : (x : ℕ) (xs : List ℕ) → count (eqb x) xs ≡ 0 → has x xs ≡ false
 unfolding count has
 has-none x [] h = refl
 has-none x (y ∷ ys) h =
@@ -98,7 +98,7 @@ has-none x (y ∷ ys) h =
     (λ (e : eqb x y ≡ false). rw e (has-none x ys (omega arith)))
     (cases (eqb x y))
 
-none-has : (x : ℕ) (xs : List ℕ) → has x xs ≡ false → count (eqb x) xs ≡ 0
+pub none-has : (x : ℕ) (xs : List ℕ) → has x xs ≡ false → count (eqb x) xs ≡ 0
 unfolding count has
 none-has x [] h = refl
 none-has x (y ∷ ys) h =

@@ -81,12 +81,12 @@ module _ {ℓ} {A : Type ℓ} where
   all-append P [] ys h k = k
   all-append P (x ∷ xs) ys h k = (h .0, all-append P xs ys (h .1) k)
 
-  all-take : (P : A → Type 0) (n : ℕ) (xs : List A) → All P xs → All P (take n xs)
+  pub all-take : (P : A → Type 0) (n : ℕ) (xs : List A) → All P xs → All P (take n xs)
   all-take P zero xs h = tt
   all-take P (suc n) [] h = tt
   all-take P (suc n) (x ∷ xs) h = (h .0, all-take P n xs (h .1))
 
-  all-drop : (P : A → Type 0) (n : ℕ) (xs : List A) → All P xs → All P (drop n xs)
+  pub all-drop : (P : A → Type 0) (n : ℕ) (xs : List A) → All P xs → All P (drop n xs)
   all-drop P zero xs h = h
   all-drop P (suc n) [] h = tt
   all-drop P (suc n) (x ∷ xs) h = all-drop P n xs (h .1)

@@ -45,7 +45,7 @@ module _ (fronts backs : List ℕ) where
       let more = right-true (eqb p (frontOf fronts backs u)) (runs fronts backs (backOf fronts backs u) us q) h in
       rw here (omega (arith, runs-level us (backOf fronts backs u) q r more))
 
-  closed-level : (us : List ℕ) → closed fronts backs us ≡ true → Level us
+  pub closed-level : (us : List ℕ) → closed fronts backs us ≡ true → Level us
   unfolding closed count
   closed-level [] h p = refl
   closed-level (u ∷ us) h p = omega (arith, runs-level us (backOf fronts backs u) (frontOf fronts backs u) p h)

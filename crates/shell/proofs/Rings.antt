@@ -50,11 +50,11 @@ module _ (fronts backs : List ℕ) where
       rw off
       (rings-shared (earlier ++ ps) (suc w) os (λ p. omega (arith, d p, count-flat (from fronts backs p) us os, points-count us p, count-append (eqb p) earlier ps)))
 
-  pub rings-ruled : (os : List (List ℕ)) → All (Ring fronts backs) os → ((p : ℕ) → count (from fronts backs p) (flat os) ≤ 1) → faceFaults fronts backs 0 os ≡ []
+  pub rings-ruled : (w : ℕ) (os : List (List ℕ)) → All (Ring fronts backs) os → ((p : ℕ) → count (from fronts backs p) (flat os) ≤ 1) → faceFaults fronts backs w os ≡ []
   unfolding count
-  rings-ruled os h d =
+  rings-ruled w os h d =
       let apart : Apart [] os = λ p. omega (arith, d p) in
-      none-both (each (outlineFaults fronts backs) 0 os) (sharedFaults fronts backs [] 0 os) (rings-outlined 0 os h apart) (rings-shared [] 0 os apart)
+      none-both (each (outlineFaults fronts backs) w os) (sharedFaults fronts backs [] w os) (rings-outlined w os h apart) (rings-shared [] w os apart)
 
   -- a use whose ends differ is not closed alone
   abbrev pub loop : ℕ → Bool

@@ -100,7 +100,7 @@ openings c ok small n good simple =
     count-none (loop fronts backs) free (all-weaker (IsUse m) (λ (u : ℕ). loop fronts backs u ≡ false) (λ u t. ends-apart c (records-ok c ok small) u (t .1)) free are-uses) in
     let os = shellWalk c n .openings in record {
       ended = o .ended;
-      ruled = rings-ruled fronts backs os (o .rings) (λ p. omega (arith, o .same (from fronts backs p), distinct p));
+      ruled = rings-ruled fronts backs 0 os (o .rings) (λ p. omega (arith, o .same (from fronts backs p), distinct p));
       once = λ u. o .same (eqb u) ∙ has-count u free (omega (arith, part (eqb u), once-each us good u));
       looked = o .looked;
       bound = omega (

@@ -1,0 +1,126 @@
+use mathlib.Core.List.{[]}
+use mathlib.Core.Path.{_∙_, _≡_, ap, sym}
+use native.Mathlib.Omega.{arith}
+use lib.ListN.{getD, length, length-map}
+use Rattle.errors.proofs.Laws.{accepted-none, none-left}
+use Rattle.pattern.proofs.Counts.{Full, Limited, edges-counted, limited}
+use Rattle.pattern.specs.Checks.{contentFaults, countFaults, patternFaults}
+use Rattle.pattern.specs.Contents.{content}
+use Prim.Native.Nat.{_<_}
+use Rattle.concat.proofs.Judged.{concat-room}
+use Rattle.concat.proofs.Stored.{joint-whole, judged-done, judged-not, judged-refused, next-is, stored-appended}
+use Rattle.concat.specs.Joins.{appended, joint}
+use Rattle.concat.specs.declared.Joint.the-variants.{Whole}
+use Rattle.edit_answers.specs.declared.JoinAnswer.the-variants.{Joined, Not, Refused}
+use Rattle.shell_edits.proofs.ConcatTheorem.{concat-pattern-accepted}
+use Rattle.shell_edits.specs.Answers.{nextEdge, storedIn}
+use Rattle.shell_edits.specs.Edits.{concatContent, concatFaults, joinedEdge}
+use borrow.Author.Needs.{needs}
+use Rattle.concat.proofs.concat.Statement.{statement}
+use Rattle.concat.proofs.concat.Tie as tie
+
+full : (s : tie.Start) → Full (s .args .t1)
+full s =
+    let fields = s .good .0 .1 .1 in
+    record {
+      points = search needs;
+      edges = sym (length-map (s .args .t1 .edges) _) ∙ fields .1 .1 .0 .1 .0 .1;
+      uses = search needs;
+      wires = search needs;
+      faces = sym (length-map (s .args .t1 .faces) _) ∙ fields .1 .1 .1 .1 .1 .0 .1 .0 .1;
+      shells = search needs;
+      listings = search needs;
+    }
+
+passed : (c : tie.After-enum-told) → patternFaults (c .before .before .before .args .t1) ≡ []
+passed c = accepted-none (patternFaults (c .before .before .before .args .t1)) (sym (c .before .before .check .ensures) ∙ c .enum-told .given .1)
+
+limits : (c : tie.After-enum-told) → Limited (c .before .before .before .args .t1 .counts)
+limits c =
+    limited (c .before .before .before .args .t1 .counts) (search needs)
+    (none-left (countFaults (c .before .before .before .args .t1 .counts)) (contentFaults (content (c .before .before .before .args .t1))) (passed c))
+
+made : (c : tie.After-made2) → joint (concatFaults (content (c .before .before .before .before .before .before .args .t1)) (c .before .before .before .before .before .before .args .u) (c .before .before .before .before .before .before .args .v)) (joinedEdge (content (c .before .before .before .before .before .before .args .t1)) (c .before .before .before .before .before .before .args .u) (c .before .before .before .before .before .before .args .v)) ≡ Whole (c .made2 .given .0 .0)
+made c = sym (c .before .before .concat-uses .ensures) ∙ c .made2 .given .1
+
+few : (c : tie.After-made2) → getD (c .before .before .before .before .before .before .args .t1 .counts) 1 0 < 1024
+few c =
+    let s = c .before .before .before .before .before .before in
+    let p = s .args .t1 in
+    omega (arith, edges-counted p (limits (c .before .before .before)) (full s), concat-room (content p) (s .args .u) (s .args .v) (joinedEdge (content p) (s .args .u) (s .args .v)) (made c))
+
+check-requires : tie.Need-check-requires
+check-requires c κs = search needs
+
+enum-known-checked : tie.Need-enum-known-checked
+enum-known-checked c = search needs
+
+returns : tie.Need-returns
+returns c =
+    let s = c .before .before .before .before .args in
+    let e = sym (c .before .before .before .check .ensures) ∙ c .before .checked .given .1 in
+    let es = concatFaults (content (s .t1)) (s .u) (s .v) in
+    (judged-refused es Refused Not (Joined (nextEdge (s .t1) 0)) (patternFaults (s .t1)) e, (judged-refused es (λ f. s .t1) (λ f. s .t1) (storedIn (s .t1) (concatContent (content (s .t1)) (s .u) (s .v))) (patternFaults (s .t1)) e, λ fine. fine))
+
+enum-told : tie.Need-enum-told
+enum-told c = search needs
+
+concat-uses-requires : tie.Need-concat-uses-requires
+concat-uses-requires c κs = passed c
+
+enum-known-made : tie.Need-enum-known-made
+enum-known-made c = search needs
+
+enum-known-made-2 : tie.Need-enum-known-made-2
+enum-known-made-2 c = search needs
+
+element-copy-out-edges : tie.Need-element-copy-out-edges
+element-copy-out-edges c = search needs
+
+append-edge-requires : tie.Need-append-edge-requires
+append-edge-requires c κs = few (c .before .before)
+
+cast-t22 : tie.Need-cast-t22
+cast-t22 c = omega (arith, few (c .before .before .before))
+
+returns-2 : tie.Need-returns-2
+returns-2 c =
+    let s = c .before .before .before .before .before .before .before .args in
+    let ok = passed (c .before .before .before .before) in
+    let e = sym (c .before .before .before .concat-uses .ensures) ∙ c .before .made .given .1 in
+    let es = concatFaults (content (s .t1)) (s .u) (s .v) in
+    let d = joinedEdge (content (s .t1)) (s .u) (s .v) in
+    (judged-not es Refused Not (Joined (nextEdge (s .t1) 0)) (patternFaults (s .t1)) ok d e, (judged-not es (λ f. s .t1) (λ f. s .t1) (storedIn (s .t1) (concatContent (content (s .t1)) (s .u) (s .v))) (patternFaults (s .t1)) ok d e, λ fine. fine))
+
+returns-3 : tie.Need-returns-3
+returns-3 c =
+    let t = c .before .before .before .before .before .before .before .before .before in
+    let s = t .args in
+    let a = c .before .before .before .before .before .before in
+    let ok = passed a in
+    let e = made (c .before .before .before) in
+    let es = concatFaults (content (s .t1)) (s .u) (s .v) in
+    let d = joinedEdge (content (s .t1)) (s .u) (s .v) in
+    let p = s .t1 in
+    let after = concatContent (content p) (s .u) (s .v) in
+    let stored = c .append-edge .ensures ∙ ap (appended p) (joint-whole es d e) ∙ stored-appended p (limits a) (full t) (search needs) d ∙ judged-done es (λ f. p) (λ f. p) (storedIn p after) (patternFaults p) ok d e in (
+      ap Joined (next-is p (limits a) (full t)) ∙ judged-done es Refused Not (Joined (nextEdge p 0)) (patternFaults p) ok d e,
+      (stored, λ fine. ap patternFaults stored ∙ concat-pattern-accepted p (full t) (s .u) (s .v) fine),
+    )
+
+pub concat-spec : {M : Type 1} → statement M
+concat-spec =
+    tie.close
+    (tie.spec
+    check-requires
+    enum-known-checked
+    returns
+    enum-told
+    concat-uses-requires
+    enum-known-made
+    enum-known-made-2
+    element-copy-out-edges
+    append-edge-requires
+    cast-t22
+    returns-2
+    returns-3)

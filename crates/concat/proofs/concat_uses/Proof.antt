@@ -1,0 +1,92 @@
+use Prim.Native.Nat.{_<_, _≤_}
+use mathlib.Core.List.{[]}
+use mathlib.Core.Path.{_∙_, _≡_, sym}
+use native.Mathlib.Omega.{arith}
+use lib.ListN.{getD, length, length-map}
+use Rattle.errors.proofs.Laws.{accepted-none, none-left}
+use Rattle.pattern.proofs.Counts.{Full, Limited, edges-counted, limited}
+use Rattle.pattern.specs.Checks.{contentFaults, countFaults, patternFaults}
+use Rattle.pattern.specs.Contents.{content}
+use Rattle.concat.proofs.Judged.{concat-judged, edge-read, first-unnamed, second-unnamed}
+use Rattle.edge.specs.Uses.{edgeNumber}
+use borrow.Author.Needs.{needs}
+use Rattle.concat.proofs.concat_uses.Statement.{statement}
+use Rattle.concat.proofs.concat_uses.Tie as tie
+
+full : (s : tie.Start) → Full (s .args .t1)
+full s =
+    let fields = s .good .0 .1 .1 in
+    record {
+      points = search needs;
+      edges = sym (length-map (s .args .t1 .edges) _) ∙ fields .1 .1 .0 .1 .0 .1;
+      uses = search needs;
+      wires = search needs;
+      faces = sym (length-map (s .args .t1 .faces) _) ∙ fields .1 .1 .1 .1 .1 .0 .1 .0 .1;
+      shells = search needs;
+      listings = search needs;
+    }
+
+limits : (s : tie.Start) → Limited (s .args .t1 .counts)
+limits s = limited (s .args .t1 .counts) (search needs) (none-left (countFaults (s .args .t1 .counts)) (contentFaults (content (s .args .t1))) (s .pre))
+
+element-copy-out-edges : tie.Need-element-copy-out-edges
+element-copy-out-edges c = search needs
+
+cast-i : tie.Need-cast-i
+cast-i c = search needs
+
+cast-j : tie.Need-cast-j
+cast-j c = search needs
+
+returns : tie.Need-returns
+returns c =
+    let s = c .before .before in
+    first-unnamed (content (s .args .t1)) (s .args .u) (s .args .v) (getD (s .args .t1 .counts) 1 0) (edges-counted (s .args .t1) (limits s) (full s)) (c .if1 .taken)
+
+returns-2 : tie.Need-returns-2
+returns-2 c =
+    let s = c .before .before .before in
+    second-unnamed (content (s .args .t1)) (s .args .u) (s .args .v) (getD (s .args .t1 .counts) 1 0) (edges-counted (s .args .t1) (limits s) (full s)) (c .if2 .taken)
+
+mul-a : tie.Need-mul-a
+mul-a c = search needs
+
+element-copy-out-a : tie.Need-element-copy-out-a
+element-copy-out-a c = omega (arith, limits (c .before .before .before) .edges)
+
+mul-b : tie.Need-mul-b
+mul-b c = search needs
+
+element-copy-out-b : tie.Need-element-copy-out-b
+element-copy-out-b c = omega (arith, limits (c .before .before .before .before) .edges)
+
+judge-concat-requires : tie.Need-judge-concat-requires
+judge-concat-requires c κs = search needs
+
+returns-3 : tie.Need-returns-3
+returns-3 c =
+    let s = c .before .before .before .before .before .before in
+    let n = getD (s .args .t1 .counts) 1 0 in
+    let fit : n ≤ length (s .args .t1 .edges) = omega (arith, limits s .edges, full s .edges) in
+    let i : edgeNumber (s .args .u) < n = omega arith in
+    let j : edgeNumber (s .args .v) < n = omega arith in
+    concat-judged (content (s .args .t1)) (s .args .u) (s .args .v) n
+    (edge-read (s .args .t1 .edges) n (edgeNumber (s .args .u)) fit i)
+    (edge-read (s .args .t1 .edges) n (edgeNumber (s .args .v)) fit j)
+    (edges-counted (s .args .t1) (limits s) (full s)) i j (c .judge-concat .ensures)
+
+pub concat-uses-spec : {M : Type 1} → statement M
+concat-uses-spec =
+    tie.close
+    (tie.spec
+    element-copy-out-edges
+    cast-i
+    cast-j
+    returns
+    returns-2
+    mul-a
+    element-copy-out-a
+    mul-b
+    element-copy-out-b
+    judge-concat-requires
+    returns-3)

@@ -1,0 +1,55 @@
+use mathlib.Core.Bool.{false, true}
+use mathlib.Core.Path.{_∙_, _≡_, refl, sym}
+use borrow.Author.Needs.{needs}
+use denote.Floats.{passes}
+use lib.Ieee.{Float, binary64, fits}
+use Rattle.curve.proofs.Theorem.{halves-span}
+use Rattle.curve.proofs.cut_curve.Statement.{statement}
+use Rattle.curve.proofs.cut_curve.Tie as tie
+use Rattle.curve.specs.Curves.{areSpans, backHalf, cutCurve, frontHalf, refuses}
+use Rattle.curve.specs.declared.Halves.{Halves}
+use Rattle.curve.specs.declared.Halves.the-variants.{Both, Refused}
+use Rattle.curve.specs.declared.Parameter.{Parameter}
+use Rattle.curve.specs.declared.Parameter.the-variants.{At, Nowhere}
+use Rattle.edge.specs.Edges.{isSpan}
+use Rattle.edge.specs.declared.Curve.{Curve}
+
+-- what cut_curve promises
+abbrev Cut : Curve → Parameter → Halves → Type 0
+Cut k at r = (r ≡ cutCurve k at) × (isSpan k ≡ true → areSpans (cutCurve k at) ≡ true)
+
+nowhere : (k : Curve) (at : Parameter) → at ≡ Nowhere → Cut k at Refused
+nowhere k at e = rw e (refl, λ _. refl)
+
+refused : (k : Curve) (at : Parameter) (t : Float) → at ≡ At t → refuses k t ≡ true → Cut k at Refused
+refused k at t e h = rw (e, h) (refl, λ _. refl)
+
+cut : (k : Curve) (at : Parameter) (t : Float) → fits binary64 (k .t0) ≡ true → fits binary64 (k .t1) ≡ true → fits binary64 t ≡ true → at ≡ At t → refuses k t ≡ false → Cut k at (Both (frontHalf k t) (backHalf k t))
+cut k at t f0 f1 f e h = rw (e, h) (refl, λ s. halves-span k t (passes (fits binary64 (k .t0)) f0) (passes (fits binary64 (k .t1)) f1) (passes (fits binary64 t) f) s h)
+
+enum-told : tie.Need-enum-told
+enum-told c = search needs
+
+enum-known-at : tie.Need-enum-known-at
+enum-known-at c = search needs
+
+curve-refuses-requires : tie.Need-curve-refuses-requires
+curve-refuses-requires c κs = search needs
+
+returns : tie.Need-returns
+returns c =
+    let a = c .before .before .before .before .before .args in
+    refused (a .k) (a .at) (c .before .before .before .at .given .0 .0) (c .before .before .before .at .given .1) (sym (c .before .curve-refuses .ensures) ∙ c .if1 .taken)
+
+returns-2 : tie.Need-returns-2
+returns-2 c = nowhere (c .before .before .args .k) (c .before .before .args .at) (c .enum-told .given .1)
+
+returns-3 : tie.Need-returns-3
+returns-3 c =
+    let a = c .before .before .before .before .before .args in
+    let fine = c .before .before .before .before .before .good .0 .1 .1 in
+    cut (a .k) (a .at) (c .before .before .before .at .given .0 .0) (fine .0 .1) (fine .1 .0 .1) (c .before .before .known-told .given .0 .1) (c .before .before .before .at .given .1) (sym (c .before .curve-refuses .ensures) ∙ c .if1 .left)
+
+pub cut-curve-spec : {M : Type 1} → statement M
+cut-curve-spec =
+    tie.close (tie.spec enum-told enum-known-at curve-refuses-requires returns returns-2 returns-3)

@@ -1,0 +1,3 @@
+pub mod Flags
+pub mod Halves
+pub mod Judgement

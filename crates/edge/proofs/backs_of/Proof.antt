@@ -1,0 +1,64 @@
+-- The loop writes the column of backs.
+use Prim.Native.Nat.{_-_}
+use mathlib.Core.Path.{_≡_, sym}
+use native.Mathlib.Omega.{arith}
+use lib.ListN.{length}
+use borrow.Author.Needs.{needs}
+use Rattle.edge.proofs.Laws.{noEdge}
+use Rattle.edge.proofs.backs_of.Statement.{statement}
+use Rattle.edge.specs.Edges.{backNumber}
+use Rattle.lists.proofs.Laws.{Column, column-all, column-next, column-start}
+use Rattle.edge.proofs.backs_of.Tie as tie
+
+abbrev Inv-loop : tie.InvT-loop
+Inv-loop edges out₀ i₀ out i = (length edges ≡ 1024) × Column backNumber noEdge edges out i
+
+abbrev μ-loop : tie.MeasureT-loop
+μ-loop edges out₀ i₀ out i = 1024 - i
+
+loop-holds : tie.Need-loop-holds Inv-loop μ-loop
+loop-holds c = (search needs, column-start backNumber noEdge _ _ (sym (search needs)))
+
+mul-out : tie.Need-mul-out Inv-loop μ-loop
+mul-out c = search needs
+
+element-copy-out-out : tie.Need-element-copy-out-out Inv-loop μ-loop
+element-copy-out-out c = search needs
+
+mul-out-2 : tie.Need-mul-out-2 Inv-loop μ-loop
+mul-out-2 c = search needs
+
+array-write-out : tie.Need-array-write-out Inv-loop μ-loop
+array-write-out c = search needs
+
+add-i : tie.Need-add-i Inv-loop μ-loop
+add-i c = search needs
+
+loop-less : tie.Need-loop-less Inv-loop μ-loop
+loop-less c = search needs
+
+loop-again : tie.Need-loop-again Inv-loop μ-loop
+loop-again c =
+    let v = c .before .loop .inv in
+    (v .0, column-next backNumber noEdge (c .before .before .args .t1) (c .before .loop .out) (c .before .loop .i) (v .1) (omega (arith, v .0)))
+
+returns : tie.Need-returns Inv-loop μ-loop
+returns c =
+    let v = c .before .loop .inv in
+    column-all backNumber noEdge (c .before .before .args .t1) (c .before .loop .out) (c .before .loop .i) (v .1) (omega (arith, v .0))
+
+pub backs-of-spec : {M : Type 1} → statement M
+backs-of-spec =
+    tie.close
+    (tie.spec
+    Inv-loop
+    μ-loop
+    loop-holds
+    mul-out
+    element-copy-out-out
+    mul-out-2
+    array-write-out
+    add-i
+    loop-less
+    loop-again
+    returns)

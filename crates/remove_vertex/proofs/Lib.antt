@@ -1,0 +1,4 @@
+pub mod Endings
+pub mod Wires
+pub mod Removals
+pub mod Stored

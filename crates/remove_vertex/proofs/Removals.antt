@@ -1,0 +1,149 @@
+-- The refusals of a removal in sequence, and the wires and corners that the code finds.
+use Prim.Native.Nat.{_+_, _-_, _<_, _≤_, suc, zero, ℕ}
+use Prim.{⊥}
+use mathlib.Core.Bool.{Bool, _&&_, _||_, false, not, true, true≢false}
+use mathlib.Core.List.{List, [], _++_, _∷_, map}
+use mathlib.Core.Logic.{⊎-elim}
+use mathlib.Core.Path.{_∙_, _≡_, ap, refl, sym}
+use native.Mathlib.Omega.{arith}
+use lib.Dec.{eqb, leb, ltb}
+use lib.ListN.{List·getD-eq-default, List·getD-map, drop, getD, length, length-drop, replicate, take}
+use lib.Seq.{length-take-le}
+use borrow.Author.Tests.{eq-eqb, le-leb, le-ltb, lt-leb, lt-ltb, ltb-true, ltb-false, ne-eqb}
+use Rattle.concat.specs.Joins.{joint}
+use Rattle.concat.specs.declared.Joint.the-variants.{Not as Joint·Not, Whole}
+use Rattle.edge.specs.Uses.{edgeNumber}
+use Rattle.edge.specs.declared.Edge.{Edge}
+use Rattle.edit_answers.specs.declared.EditError.{EditError}
+use Rattle.edit_answers.specs.declared.EditError.the-variants.{NotOneOrTwoWires, SharedFace, Unmatched, Unnamed}
+use Rattle.lists.proofs.Count.{All}
+use Rattle.lists.proofs.Laws.{cases, length-split}
+use Rattle.lists.proofs.Parts.{all-place, only-same}
+use Rattle.lists.proofs.Split.{getD-split}
+use Rattle.lists.specs.Lists.{has, only, padded, pick, split, sum, unless}
+use Rattle.pattern.specs.Contents.{Content}
+use Rattle.remove_vertex.proofs.Endings.{getD-padded}
+use Rattle.remove_vertex.specs.Endings.{endingOf, endsAt, flagged}
+use Rattle.remove_vertex.specs.Removals.{fit, pairEdge, pairFaults, removal}
+use Rattle.remove_vertex.specs.declared.Corner.{Corner}
+use Rattle.remove_vertex.specs.declared.Ending.{Ending}
+use Rattle.remove_vertex.specs.declared.Removal.{Removal}
+use Rattle.remove_vertex.specs.declared.Removal.the-variants.{Joins, Not}
+use Rattle.shell_edits.specs.Edits.{endUse, endingWires, joinFaults, lastWire, matched, nextUse, removeFaults, sharesFace, firstWire}
+
+-- ---- the two corners
+module _ (e : Ending) (a b : Corner) where
+  pub fit-one : e .number < 2 → true ≡ fit e a b
+  fit-one h = rw (lt-ltb (e .number) 2 h)
+
+  pub fit-two : 2 ≤ e .number → edgeNumber (a .ending) ≡ edgeNumber (b .next) → eqb (edgeNumber (b .ending)) (edgeNumber (a .next)) ≡ fit e a b
+  fit-two h m = rw (le-ltb (e .number) 2 h, eq-eqb (edgeNumber (a .ending)) (edgeNumber (b .next)) m)
+
+  pub fit-none : 2 ≤ e .number → (edgeNumber (a .ending) ≡ edgeNumber (b .next) → ⊥) → false ≡ fit e a b
+  fit-none h m = rw (le-ltb (e .number) 2 h, ne-eqb (edgeNumber (a .ending)) (edgeNumber (b .next)) m)
+
+-- ---- the wires with a use that ends at the point
+module _ (fronts backs : List ℕ) (v : ℕ) (wires uses ws : List ℕ) where
+  pub flags-are : {flags : List Bool} → flags ≡ padded 1024 false (map (endsAt fronts backs v) (split wires uses))
+      → flagged flags ws ≡ only (λ (w : ℕ). endsAt fronts backs v (getD (split wires uses) w [])) ws
+  unfolding has
+  flags-are {flags} made =
+      let xs = split wires uses in
+      let g : List ℕ → Bool = endsAt fronts backs v in
+      let same : (w : ℕ) → getD flags w false ≡ g (getD xs w []) =
+      λ w. ap (λ (r : List Bool). getD r w false) made ∙ getD-padded (1024 - length (map g xs)) false (map g xs) w ∙ List·getD-map g xs w [] in
+      only-same (λ (w : ℕ). getD flags w false) (λ (w : ℕ). g (getD xs w [])) ws (everywhere same ws)
+    where
+      everywhere : {q r : ℕ → Bool} → ((w : ℕ) → q w ≡ r w) → (xs : List ℕ) → All (λ (w : ℕ). q w ≡ r w) xs
+      everywhere h [] = tt
+      everywhere h (x ∷ xs) = (h x, everywhere h xs)
+
+-- those that pass a test pass it
+passes : (q : ℕ → Bool) (xs : List ℕ) → All (λ (x : ℕ). q x ≡ true) (only q xs)
+unfolding only
+passes q [] = tt
+passes q (x ∷ xs) =
+    ⊎-elim (λ (t : q x ≡ true). rw t (t, passes q xs)) (λ (t : q x ≡ false). rw t (passes q xs)) (cases (q x))
+
+module _ (fronts backs : List ℕ) (v : ℕ) (xss : List (List ℕ)) where
+  inside : (w : ℕ) → endsAt fronts backs v (getD xss w []) ≡ true → w < length xss
+  unfolding has
+  inside w h =
+      ⊎-elim (λ (t : ltb w (length xss) ≡ true). ltb-true w (length xss) t)
+      (λ (t : ltb w (length xss) ≡ false). absurd (true≢false (sym (rw (List·getD-eq-default xss [] (ltb-false w (length xss) t)) at h))))
+      (cases (ltb w (length xss)))
+
+  -- the first and the last of them are wires
+  pub ending-inside : (ws : List ℕ) {e : Ending} → e ≡ endingOf (only (λ (w : ℕ). endsAt fronts backs v (getD xss w [])) ws) → 0 < e .number
+      → (e .first < length xss) × (e .last < length xss)
+  ending-inside ws {e} is some =
+      let q : ℕ → Bool = λ (w : ℕ). endsAt fronts backs v (getD xss w []) in
+      let l = only q ws in
+      let number : e .number ≡ length l = ap (λ (r : Ending). r .number) is in
+      let first : e .first ≡ firstWire l = ap (λ (r : Ending). r .first) is in
+      let last : e .last ≡ lastWire l = ap (λ (r : Ending). r .last) is in (
+        rw first (inside (firstWire l) (all-place (λ (x : ℕ). q x ≡ true) 0 l (passes q ws) 0 (omega arith))),
+        rw last (inside (lastWire l) (all-place (λ (x : ℕ). q x ≡ true) 0 l (passes q ws) (length l - 1) (omega arith))),
+      )
+
+-- ---- the refusals
+and-false : (a b : Bool) → b ≡ false → (a && b) ≡ false
+and-false true b h = h
+and-false false b h = refl
+
+module _ (es : List EditError) (d : Edge) (e : Ending) where
+  pub removal-not : {x : EditError} → joint es d ≡ Joint·Not x → Not x ≡ removal es d e
+  removal-not h = go es h
+    where
+      go : (es : List EditError) {x : EditError} → joint es d ≡ Joint·Not x → Not x ≡ removal es d e
+      go [] h = cc
+      go (y ∷ es) {x} h = let k : x ≡ y = cc in ap Not k
+
+  pub removal-joins : {k : Edge} → joint es d ≡ Whole k → Joins k e ≡ removal es d e
+  removal-joins h = go es h
+    where
+      go : (es : List EditError) {k : Edge} → joint es d ≡ Whole k → Joins k e ≡ removal es d e
+      go [] {k} h = let z : k ≡ d = cc in ap (λ (r : Edge). Joins r e) z
+      go (y ∷ es) h = cc
+
+module _ (c : Content) (n v points shells : ℕ) (ps : length (c .points) ≡ points) (ss : length (c .shells) ≡ shells) (d : Edge) (e : Ending) where
+  abbrev found : Removal
+  found = removal (removeFaults c n v) d e
+
+  pub no-shell : shells ≤ n → Not Unnamed ≡ found
+  no-shell h = rw (ss, le-ltb n shells h)
+
+  pub no-point : points ≤ v → Not Unnamed ≡ found
+  no-point h = rw (ps, and-false (ltb n (length (c .shells))) (ltb v points) (le-ltb v points h))
+
+  module _ (hn : n < shells) (hv : v < points) where
+    pub is-shared : sharesFace c n ≡ true → Not SharedFace ≡ found
+    is-shared h = rw (ps, ss, lt-ltb n shells hn, lt-ltb v points hv, h)
+
+    module _ (own : sharesFace c n ≡ false) (is : e ≡ endingOf (endingWires c n v)) where
+      number : e .number ≡ length (endingWires c n v)
+      number = ap (λ (r : Ending). r .number) is
+
+      pub no-wire : e .number ≡ 0 → Not NotOneOrTwoWires ≡ found
+      no-wire h = rw (ps, ss, lt-ltb n shells hn, lt-ltb v points hv, own, ← number, h)
+
+      pub many-wires : 2 < e .number → Not NotOneOrTwoWires ≡ found
+      many-wires h =
+          rw (ps, ss, lt-ltb n shells hn, lt-ltb v points hv, own, ← number, and-false (ltb 0 (e .number)) (leb (e .number) 2) (lt-leb (e .number) 2 h))
+
+      pub faults-are : 0 < e .number → e .number ≤ 2 → pairFaults c v e ≡ removeFaults c n v
+      faults-are h l =
+          rw (ps, ss, lt-ltb n shells hn, lt-ltb v points hv, own, ← number, lt-ltb 0 (e .number) h, le-leb (e .number) 2 l, is)
+
+-- ---- and back
+pub not-joint : (es : List EditError) (d : Edge) (e : Ending) {x : EditError} → removal es d e ≡ Not x → joint es d ≡ Joint·Not x
+not-joint [] d e h = cc
+not-joint (y ∷ es) d e {x} h = let k : y ≡ x = cc in ap Joint·Not k
+
+pub joins-whole : (es : List EditError) (d : Edge) (e : Ending) {k : Edge} {g : Ending} → removal es d e ≡ Joins k g → (es ≡ []) × ((k ≡ d) × (g ≡ e))
+joins-whole [] d e {k} {g} h = let a : k ≡ d = cc in let b : g ≡ e = cc in (refl, (a, b))
+joins-whole (y ∷ es) d e {k} {g} h = let a : y ∷ es ≡ [] = cc in let b : k ≡ d = cc in let z : g ≡ e = cc in (a, (b, z))
+
+pub positive : (n : ℕ) → (n ≡ 0 → ⊥) → 0 < n
+positive zero h = absurd (h refl)
+positive (suc n) h = omega arith

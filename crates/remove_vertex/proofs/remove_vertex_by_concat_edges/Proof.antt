@@ -1,0 +1,139 @@
+use native.Mathlib.Omega.{arith}
+use Prim.Native.Nat.{_<_}
+use mathlib.Core.List.{List, []}
+use mathlib.Core.Path.{_∙_, _≡_, ap, sym}
+use lib.ListN.{getD, length, length-map}
+use Rattle.concat.proofs.Stored.{judged-done, judged-not, judged-refused, next-is}
+use Rattle.concat.specs.Joins.{joint}
+use Rattle.edit_answers.specs.declared.EditError.{EditError}
+use Rattle.edit_answers.specs.declared.JoinAnswer.the-variants.{Joined, Not, Refused}
+use Rattle.errors.proofs.Laws.{accepted-none, none-left}
+use Rattle.pattern.proofs.Counts.{Full, Limited, edges-counted, limited}
+use Rattle.pattern.specs.Checks.{contentFaults, countFaults, patternFaults}
+use Rattle.pattern.specs.Contents.{content}
+use Rattle.remove_vertex.proofs.Removals.{joins-whole, not-joint}
+use Rattle.remove_vertex.proofs.Stored.{removal-room}
+use Rattle.remove_vertex.specs.Endings.{endingOf}
+use Rattle.remove_vertex.specs.Removals.{pairEdge, pairStored}
+use Rattle.shell_edits.proofs.RemoveTheorem.{remove-pattern-accepted}
+use Rattle.shell_edits.specs.Answers.{afterRemove, nextEdge, storedIn}
+use Rattle.shell_edits.specs.Edits.{endingWires, removeContent, removeFaults}
+use borrow.Author.Needs.{needs}
+use Rattle.remove_vertex.proofs.remove_vertex_by_concat_edges.Statement.{statement}
+use Rattle.remove_vertex.proofs.remove_vertex_by_concat_edges.Tie as tie
+
+full : (s : tie.Start) → Full (s .args .t1)
+full s =
+    let fields = s .good .0 .1 .1 in
+    record {
+      points = search needs;
+      edges = sym (length-map (s .args .t1 .edges) _) ∙ fields .1 .1 .0 .1 .0 .1;
+      uses = search needs;
+      wires = search needs;
+      faces = sym (length-map (s .args .t1 .faces) _) ∙ fields .1 .1 .1 .1 .1 .0 .1 .0 .1;
+      shells = search needs;
+      listings = search needs;
+    }
+
+passed : (c : tie.After-enum-told) → patternFaults (c .before .before .before .args .t1) ≡ []
+passed c = accepted-none (patternFaults (c .before .before .before .args .t1)) (sym (c .before .before .check .ensures) ∙ c .enum-told .given .1)
+
+limits : (c : tie.After-enum-told) → Limited (c .before .before .before .args .t1 .counts)
+limits c =
+    limited (c .before .before .before .args .t1 .counts) (search needs)
+    (none-left (countFaults (c .before .before .before .args .t1 .counts)) (contentFaults (content (c .before .before .before .args .t1))) (passed c))
+
+joined : (c : tie.After-judged2) → (removeFaults (content (c .before .before .before .before .before .before .args .t1)) (c .before .before .before .before .before .before .args .n) (c .before .before .before .before .before .before .args .v .0) ≡ []) × ((c .judged2 .given .0 .0 ≡ pairEdge (content (c .before .before .before .before .before .before .args .t1)) (c .before .before .before .before .before .before .args .v .0) (endingOf (endingWires (content (c .before .before .before .before .before .before .args .t1)) (c .before .before .before .before .before .before .args .n) (c .before .before .before .before .before .before .args .v .0)))) × (c .judged2 .given .0 .1 .0 ≡ (endingOf (endingWires (content (c .before .before .before .before .before .before .args .t1)) (c .before .before .before .before .before .before .args .n) (c .before .before .before .before .before .before .args .v .0)))))
+joined c =
+    let s = c .before .before .before .before .before .before in
+    let k = content (s .args .t1) in
+    let g = endingOf (endingWires k (s .args .n) (s .args .v .0)) in
+    joins-whole (removeFaults k (s .args .n) (s .args .v .0)) (pairEdge k (s .args .v .0) g) g (sym (c .before .before .judge-removal .ensures) ∙ c .judged2 .given .1)
+
+few : (c : tie.After-judged2) → getD (c .before .before .before .before .before .before .args .t1 .counts) 1 0 < 1024
+few c =
+    let s = c .before .before .before .before .before .before in
+    let p = s .args .t1 in
+    omega (arith, edges-counted p (limits (c .before .before .before)) (full s), removal-room (content p) (s .args .n) (s .args .v .0) (joined c .0))
+
+check-requires : tie.Need-check-requires
+check-requires c κs = search needs
+
+enum-known-checked : tie.Need-enum-known-checked
+enum-known-checked c = search needs
+
+returns : tie.Need-returns
+returns c =
+    let p = c .before .before .before .before .args .t1 in
+    let k = content p in
+    let es = removeFaults k (c .before .before .before .before .args .n) (c .before .before .before .before .args .v .0) in
+    let e = sym (c .before .before .before .check .ensures) ∙ c .before .checked .given .1 in
+    (judged-refused es Refused Not (Joined (nextEdge p 0)) (patternFaults p) e, (judged-refused es (λ f. p) (λ f. p) (storedIn p (removeContent k (c .before .before .before .before .args .n) (c .before .before .before .before .args .v .0))) (patternFaults p) e, λ fine. fine))
+
+enum-told : tie.Need-enum-told
+enum-told c = search needs
+
+judge-removal-requires : tie.Need-judge-removal-requires
+judge-removal-requires c κs = passed (c)
+
+enum-known-judged : tie.Need-enum-known-judged
+enum-known-judged c = search needs
+
+enum-known-judged-2 : tie.Need-enum-known-judged-2
+enum-known-judged-2 c = search needs
+
+element-copy-out-edges : tie.Need-element-copy-out-edges
+element-copy-out-edges c = search needs
+
+write-removal-requires : tie.Need-write-removal-requires
+write-removal-requires c κs = (passed (c .before .before .before .before .before), few (c .before .before))
+
+cast-t23 : tie.Need-cast-t23
+cast-t23 c = omega (arith, few (c .before .before .before))
+
+returns-2 : tie.Need-returns-2
+returns-2 c =
+    let p = c .before .before .before .before .before .before .before .args .t1 in
+    let k = content p in
+    let es = removeFaults k (c .before .before .before .before .before .before .before .args .n) (c .before .before .before .before .before .before .before .args .v .0) in
+    let g = endingOf (endingWires k (c .before .before .before .before .before .before .before .args .n) (c .before .before .before .before .before .before .before .args .v .0)) in
+    let d = pairEdge k (c .before .before .before .before .before .before .before .args .v .0) g in
+    let ok = passed (c .before .before .before .before) in
+    let e = not-joint es d g (sym (c .before .before .before .judge-removal .ensures) ∙ c .before .judged .given .1) in
+    (judged-not es Refused Not (Joined (nextEdge p 0)) (patternFaults p) ok d e, (judged-not es (λ f. p) (λ f. p) (storedIn p (removeContent k (c .before .before .before .before .before .before .before .args .n) (c .before .before .before .before .before .before .before .args .v .0))) (patternFaults p) ok d e, λ fine. fine))
+
+returns-3 : tie.Need-returns-3
+returns-3 c =
+    let p = c .before .before .before .before .before .before .before .before .before .args .t1 in
+    let k = content p in
+    let es = removeFaults k (c .before .before .before .before .before .before .before .before .before .args .n) (c .before .before .before .before .before .before .before .before .before .args .v .0) in
+    let g = endingOf (endingWires k (c .before .before .before .before .before .before .before .before .before .args .n) (c .before .before .before .before .before .before .before .before .before .args .v .0)) in
+    let d = pairEdge k (c .before .before .before .before .before .before .before .before .before .args .v .0) g in
+    let ok = passed (c .before .before .before .before .before .before) in
+    let e = joined (c .before .before .before) in
+    let done = ap (λ (xs : List EditError). joint xs d) (e .0) in
+    let l = limits (c .before .before .before .before .before .before) in
+    let t = c .before .before .before .judged2 .given .0 in
+    let stored : pairStored p (c .before .before .before .before .before .before .before .before .before .args .v .0) (t .1 .0) (t .0) ≡ afterRemove p (c .before .before .before .before .before .before .before .before .before .args .n) (c .before .before .before .before .before .before .before .before .before .args .v .0) =
+    rw (e .1 .0, e .1 .1) (judged-done es (λ f. p) (λ f. p) (storedIn p (removeContent k (c .before .before .before .before .before .before .before .before .before .args .n) (c .before .before .before .before .before .before .before .before .before .args .v .0))) (patternFaults p) ok d done) in
+    let made = c .write-removal .ensures ∙ stored in (
+      ap Joined (next-is p l (full (c .before .before .before .before .before .before .before .before .before))) ∙ judged-done es Refused Not (Joined (nextEdge p 0)) (patternFaults p) ok d done,
+      (made, λ fine. ap patternFaults made ∙ remove-pattern-accepted p (full (c .before .before .before .before .before .before .before .before .before)) (c .before .before .before .before .before .before .before .before .before .args .n) (c .before .before .before .before .before .before .before .before .before .args .v .0) fine),
+    )
+
+pub remove-vertex-by-concat-edges-spec : {M : Type 1} → statement M
+remove-vertex-by-concat-edges-spec =
+    tie.close
+    (tie.spec
+    check-requires
+    enum-known-checked
+    returns
+    enum-told
+    judge-removal-requires
+    enum-known-judged
+    enum-known-judged-2
+    element-copy-out-edges
+    write-removal-requires
+    cast-t23
+    returns-2
+    returns-3)

@@ -1,0 +1,92 @@
+use native.Mathlib.Omega.{arith}
+use mathlib.Core.Path.{_∙_, _≡_, sym}
+use lib.ListN.{length, length-map}
+use Rattle.pattern.proofs.Counts.{Full}
+use Rattle.shell_wires.proofs.Facts.{Fine, fine}
+use Rattle.remove_vertex.proofs.Stored.{pairs-are, stored-pair, tables}
+use borrow.Author.Needs.{needs}
+use Rattle.remove_vertex.proofs.write_removal.Statement.{statement}
+use Rattle.remove_vertex.proofs.write_removal.Tie as tie
+
+full : (s : tie.Start) → Full (s .args .t1)
+full s =
+    let fields = s .good .0 .1 .1 in
+    record {
+      points = search needs;
+      edges = sym (length-map (s .args .t1 .edges) _) ∙ fields .1 .1 .0 .1 .0 .1;
+      uses = search needs;
+      wires = search needs;
+      faces = sym (length-map (s .args .t1 .faces) _) ∙ fields .1 .1 .1 .1 .1 .0 .1 .0 .1;
+      shells = search needs;
+      listings = search needs;
+    }
+
+seven : (s : tie.Start) → length (s .args .t1 .counts) ≡ 7
+seven s = search needs
+
+good : (s : tie.Start) → Fine (s .args .t1)
+good s = fine (s .args .t1) (s .pre .0) (seven s) (full s)
+
+element-copy-out-ecount : tie.Need-element-copy-out-ecount
+element-copy-out-ecount c = search needs
+
+element-copy-out-ucount : tie.Need-element-copy-out-ucount
+element-copy-out-ucount c = search needs
+
+element-copy-out-wcount : tie.Need-element-copy-out-wcount
+element-copy-out-wcount c = search needs
+
+fronts-of-requires : tie.Need-fronts-of-requires
+fronts-of-requires c κs = search needs
+
+backs-of-requires : tie.Need-backs-of-requires
+backs-of-requires c κs = search needs
+
+slice-aggregate-put-tables : tie.Need-slice-aggregate-put-tables
+slice-aggregate-put-tables c = search needs
+
+slice-aggregate-put-tables-2 : tie.Need-slice-aggregate-put-tables-2
+slice-aggregate-put-tables-2 c = search needs
+
+slice-aggregate-put-tables-3 : tie.Need-slice-aggregate-put-tables-3
+slice-aggregate-put-tables-3 c = search needs
+
+slice-aggregate-put-tables-4 : tie.Need-slice-aggregate-put-tables-4
+slice-aggregate-put-tables-4 c = search needs
+
+put-tables-requires : tie.Need-put-tables-requires
+put-tables-requires c κs =
+    let s = c .before .before .before .before .before .before .before .before .before .before .before .before .before .before .before .before .before in
+    let g = good s in
+    (tables (s .args .t1) g (c .before .before .before .before .before .before .before .before .before .before .before .before .fronts-of .ensures, c .before .before .before .before .before .before .before .before .before .before .before .backs-of .ensures), (omega (arith, g .limits .wires, full s .wires), omega (arith, g .limits .uses, full s .uses), c .before .before .before .before .before .before .before .before .before .before .before .before .before .before .before .before .before .pre .1))
+
+append-edge-requires : tie.Need-append-edge-requires
+append-edge-requires c κs = search needs
+
+element-write-q : tie.Need-element-write-q
+element-write-q c = search needs
+
+returns : tie.Need-returns
+returns c =
+    let s = c .before .before .before .before .before .before .before .before .before .before .before .before .before .before .before .before .before .before .before .before .before in
+    let g = good s in
+    let x = c .before .before .before .put-tables .ensures in
+    stored-pair (s .args .t1) g (s .args .v .0) (s .args .e) (s .args .d) (c .append-edge .result) _ (pairs-are (s .args .t1) g (c .before .before .before .before .before .before .before .before .before .before .before .before .before .before .before .before .fronts-of .ensures, c .before .before .before .before .before .before .before .before .before .before .before .before .before .before .before .backs-of .ensures) (s .args .v .0) (s .args .e)) (c .append-edge .ensures) (x .0) (x .1 .0) (x .1 .1)
+
+pub write-removal-spec : {M : Type 1} → statement M
+write-removal-spec =
+    tie.close
+    (tie.spec
+    element-copy-out-ecount
+    element-copy-out-ucount
+    element-copy-out-wcount
+    fronts-of-requires
+    backs-of-requires
+    slice-aggregate-put-tables
+    slice-aggregate-put-tables-2
+    slice-aggregate-put-tables-3
+    slice-aggregate-put-tables-4
+    put-tables-requires
+    append-edge-requires
+    element-write-q
+    returns)

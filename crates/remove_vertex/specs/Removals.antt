@@ -1,0 +1,66 @@
+-- The removal of a point, from the wires with a use that ends there.
+use Prim.Native.Nat.{ℕ, _+_, _<_, _≤_}
+use mathlib.Core.Bool.{Bool, not, _&&_, _||_}
+use mathlib.Core.List.{List, [], _∷_, _++_, map}
+use mathlib.Core.Path.{_≡_}
+use lib.Dec.{eqb, ltb}
+use lib.ListN.{getD, length, take}
+use Rattle.lists.specs.Lists.{flat, sum, unless}
+use Rattle.edge.specs.Edges.{backNumber, frontNumber}
+use Rattle.edge.specs.Uses.{edgeNumber}
+use Rattle.edge.specs.declared.Edge.{Edge}
+use Rattle.wire.specs.Wires.{Named}
+use Rattle.pattern.specs.Contents.{Content, content}
+use Rattle.pattern.specs.declared.Pattern.{Pattern}
+use Rattle.edit_answers.specs.declared.EditError.{EditError}
+use Rattle.edit_answers.specs.declared.EditError.the-variants.{Unmatched}
+use Rattle.shell_edits.specs.Answers.{storedIn}
+use Rattle.shell_edits.specs.Edits.{eachWire, edited, endUse, endingWires, joinFaults, joinedEdge, matched, nextUse, wiresIn}
+use Rattle.remove_vertex.specs.Endings.{Paired, endingOf, removedWire}
+use Rattle.remove_vertex.specs.declared.Corner.{Corner}
+use Rattle.remove_vertex.specs.declared.Ending.{Ending}
+use Rattle.remove_vertex.specs.declared.Removal.{Removal}
+use Rattle.remove_vertex.specs.declared.Removal.the-variants.{Joins, Not}
+
+-- the first uses, wires and edges of tables in storage: the uses name edges, every wire has two uses or more
+pub record Tables (uses : List ℕ) (ucount : ℕ) (wires : List ℕ) (wcount : ℕ) (fronts backs : List ℕ) (ecount : ℕ) : Type 0 where
+  pub uses-in : ucount ≤ length uses
+  pub few-uses : ucount ≤ 4096
+  pub wires-in : wcount ≤ length wires
+  pub few-wires : wcount ≤ 1024
+  pub fronts-in : ecount ≤ length fronts
+  pub backs-in : ecount ≤ length backs
+  pub named : Named (take ecount fronts) (take ecount backs) (take ucount uses)
+  pub summed : sum (take wcount wires) ≡ ucount
+  pub paired : Paired (take wcount wires)
+
+-- the ends of the edges in storage
+abbrev pub Columns : Pattern → List ℕ → List ℕ → Type 0
+Columns p fronts backs = (fronts ≡ map frontNumber (p .edges)) × (backs ≡ map backNumber (p .edges))
+
+-- one wire, or the edge of each one's use is the edge of the other's next use
+abbrev pub fit : Ending → Corner → Corner → Bool
+fit e a b = ltb (e .number) 2 || (eqb (edgeNumber (a .ending)) (edgeNumber (b .next)) && eqb (edgeNumber (b .ending)) (edgeNumber (a .next)))
+
+-- the new edge: the last wire's pair, joined
+abbrev pub pairEdge : Content → ℕ → Ending → Edge
+pairEdge c v e = joinedEdge c (endUse c v (e .last)) (nextUse c v (e .last))
+
+-- 24, 25, 26, 17
+abbrev pub pairFaults : Content → ℕ → Ending → List EditError
+pairFaults c v e =
+    unless (ltb (e .number) 2 || matched c v (e .first) (e .last)) Unmatched
+    ++ joinFaults c (endUse c v (e .last)) (nextUse c v (e .last))
+
+-- the first refusal, or the edge and the wires
+abbrev pub removal : List EditError → Edge → Ending → Removal
+removal [] d e = Joins d e
+removal (x ∷ xs) d e = Not x
+
+-- all wires after the removal
+abbrev pub pairWires : Content → ℕ → Ending → List (List ℕ)
+pairWires c v e = eachWire (removedWire (map frontNumber (c .edges)) (map backNumber (c .edges)) v e (length (c .edges))) 0 (wiresIn c)
+
+-- the pattern with edge d and these wires
+abbrev pub pairStored : Pattern → ℕ → Ending → Edge → Pattern
+pairStored p v e d = storedIn p (edited (content p) (d ∷ []) (flat (pairWires (content p) v e)) (map length (pairWires (content p) v e)))

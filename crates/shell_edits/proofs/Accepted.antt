@@ -1,0 +1,323 @@
+-- When a changed content is accepted: more edges without fault, and wires that obey the face rule over the longer tables.
+use Prim.Native.Nat.{_+_, _<_, _≤_, suc, ℕ}
+use mathlib.Core.Bool.{false, not, true}
+use mathlib.Core.List.{List, [], _++_, _∷_, append-assoc, map, map-append}
+use mathlib.Core.Logic.{⊎-elim}
+use mathlib.Core.Path.{_∙_, _≡_, ap, refl}
+use native.Mathlib.Omega.{arith}
+use lib.Dec.{eqb, ltb}
+use lib.ListN.{List·getD-append, drop, getD, length, length-append, length-map, take}
+use lib.Seq.{length-sets, sets, sets-eq, take-append-seam}
+use borrow.Author.Tests.{eq-eqb, eqb-true, le-leb, lt-ltb, ltb-false, ltb-true, not-true}
+use Rattle.edge.specs.Edges.{backNumber, frontNumber}
+use Rattle.edge.specs.Uses.{backOf, edgeNumber, frontOf}
+use Rattle.edge.specs.declared.Edge.{Edge}
+use Rattle.edit_answers.specs.Answers.{judged}
+use Rattle.edit_answers.specs.declared.EditError.{EditError}
+use Rattle.errors.proofs.Laws.{each-none, none-both, none-left, none-right, unless-passes}
+use Rattle.errors.specs.Faults.{each}
+use Rattle.errors.specs.declared.Refusal.the-variants.{Wire}
+use Rattle.errors.specs.declared.Refusal.{Refusal}
+use Rattle.errors.specs.declared.WireError.the-variants.{NotSimpleWire}
+use Rattle.face.proofs.Laws.{none-mapped}
+use Rattle.face.specs.Faces.{faceFaults, faceRule, outlineFaults, sharedFaults, wireCount}
+use Rattle.lists.proofs.Alike.{bit-none, has-count, noDup-count}
+use Rattle.lists.proofs.Count.{All, count-append}
+use Rattle.lists.proofs.Laws.{cases, left-true, right-true}
+use Rattle.lists.proofs.Parts.{all-place, split-flat}
+use Rattle.lists.specs.Lists.{count, disjoint, flat, has, split, sum, unless}
+use Rattle.pattern.proofs.Counts.{Full, Limited, faces-counted, limited, listings-counted, points-counted, shells-counted, wires-counted}
+use Rattle.pattern.proofs.Named.{faces-summed}
+use Rattle.pattern.specs.Checks.{contentFaults, countFaults, edgeFaults, nameFaults, outlines, patternFaults, recordFaults, sumFaults}
+use Rattle.pattern.specs.Contents.{Content, content, countsOf}
+use Rattle.pattern.specs.declared.Pattern.{Pattern}
+use Rattle.shell.proofs.Chain.{from}
+use Rattle.shell.proofs.Rings.{points-count, rings-ruled}
+use Rattle.shell.proofs.Walked.{Ring}
+use Rattle.shell_edits.specs.Answers.{patternAfter, storedIn}
+use Rattle.shell_edits.specs.Edits.{edited}
+use Rattle.wire.proofs.Laws.{faultless-noDup, faultless-sound}
+use Rattle.wire.specs.Wires.{points, wireFaults}
+
+-- the checks of a row of two lists
+pub each-append {ℓ} : {A : Type ℓ} (f : ℕ → A → List Refusal) (i : ℕ) (xs ys : List A) → each f i (xs ++ ys) ≡ each f i xs ++ each f (i + length xs) ys
+unfolding each
+each-append f i [] ys = let e : i + 0 ≡ i = omega arith in rw e
+each-append f i (x ∷ xs) ys =
+    let e : i + suc (length xs) ≡ suc i + length xs = omega arith in
+    rw (e, each-append f (suc i) xs ys, append-assoc)
+
+pub sum-lengths {ℓ} : {A : Type ℓ} (xss : List (List A)) → sum (map length xss) ≡ length (flat xss)
+unfolding sum flat
+sum-lengths [] = refl
+sum-lengths (xs ∷ xss) = omega (arith, sum-lengths xss, length-append xs (flat xss))
+
+-- ---- the ends of a use in longer tables
+
+getD-longer : (xs ys : List ℕ) (u : ℕ) → edgeNumber u < length xs → getD (xs ++ ys) (edgeNumber u) 0 ≡ getD xs (edgeNumber u) 0
+getD-longer xs ys u h = List·getD-append xs ys 0 (edgeNumber u) h
+
+-- a use that both tables have begins where it did
+pub front-longer : (fronts backs more others : List ℕ) (u : ℕ) → edgeNumber u < length fronts → edgeNumber u < length backs
+    → frontOf (fronts ++ more) (backs ++ others) u ≡ frontOf fronts backs u
+unfolding frontOf
+front-longer fronts backs more others u h k = rw (getD-longer fronts more u h, getD-longer backs others u k)
+
+module _ (c : Content) (es : List Edge) where
+  -- the ends of the edges of c, and of those with more edges
+  abbrev pub fronts : List ℕ
+  fronts = map frontNumber (c .edges)
+
+  abbrev pub backs : List ℕ
+  backs = map backNumber (c .edges)
+
+  abbrev pub newFronts : List ℕ
+  newFronts = map frontNumber (c .edges ++ es)
+
+  abbrev pub newBacks : List ℕ
+  newBacks = map backNumber (c .edges ++ es)
+
+  -- a use of an old edge begins and ends where it did
+  pub old-front : (u : ℕ) → edgeNumber u < length (c .edges) → frontOf newFronts newBacks u ≡ frontOf fronts backs u
+  old-front u h =
+      rw (map-append frontNumber (c .edges) es, map-append backNumber (c .edges) es)
+      (front-longer fronts backs (map frontNumber es) (map backNumber es) u (rw (length-map (c .edges) frontNumber) h) (rw (length-map (c .edges) backNumber) h))
+
+  pub old-back : (u : ℕ) → edgeNumber u < length (c .edges) → backOf newFronts newBacks u ≡ backOf fronts backs u
+  old-back u h =
+      rw (map-append frontNumber (c .edges) es, map-append backNumber (c .edges) es)
+      (front-longer backs fronts (map backNumber es) (map frontNumber es) u (rw (length-map (c .edges) backNumber) h) (rw (length-map (c .edges) frontNumber) h))
+
+-- a row of six lists is empty exactly if each is
+none-six : (a b c d e f : List Refusal) → a ≡ [] → b ≡ [] → c ≡ [] → d ≡ [] → e ≡ [] → f ≡ [] → a ++ b ++ c ++ d ++ e ++ f ≡ []
+none-six a b c d e f ha hb hc hd he hf = rw (ha, hb, hc, hd, he, hf)
+
+module _ (c : Content) (ok : contentFaults c ≡ []) where
+  pub records-fine : recordFaults c ≡ []
+  records-fine = none-left (recordFaults c) (faceRule (map frontNumber (c .edges)) (map backNumber (c .edges)) 0 (outlines c)) ok
+
+  pub rule-fine : faceRule (map frontNumber (c .edges)) (map backNumber (c .edges)) 0 (outlines c) ≡ []
+  rule-fine = none-right (recordFaults c) (faceRule (map frontNumber (c .edges)) (map backNumber (c .edges)) 0 (outlines c)) ok
+
+  abbrev edge-row : List Refusal
+  edge-row = each (edgeFaults (length (c .points))) 0 (c .edges)
+
+  abbrev use-row : List Refusal
+  use-row = each (nameFaults 2 (length (c .edges))) 0 (c .uses)
+
+  abbrev wire-row : List Refusal
+  wire-row = sumFaults 3 (c .wires) (length (c .uses))
+
+  abbrev face-row : List Refusal
+  face-row = sumFaults 4 (map wireCount (c .faces)) (length (c .wires))
+
+  abbrev shell-row : List Refusal
+  shell-row = sumFaults 5 (c .shells) (length (c .listings))
+
+  abbrev listing-row : List Refusal
+  listing-row = each (nameFaults 6 (length (c .faces))) 0 (c .listings)
+
+  first-five : edge-row ++ use-row ++ wire-row ++ face-row ++ shell-row ≡ []
+  first-five = none-left (edge-row ++ use-row ++ wire-row ++ face-row ++ shell-row) listing-row records-fine
+
+  pub edges-fine : each (edgeFaults (length (c .points))) 0 (c .edges) ≡ []
+  edges-fine =
+      none-left edge-row use-row
+      (none-left (edge-row ++ use-row) wire-row (none-left (edge-row ++ use-row ++ wire-row) face-row (none-left (edge-row ++ use-row ++ wire-row ++ face-row) shell-row first-five)))
+
+  shells-fine : sumFaults 5 (c .shells) (length (c .listings)) ≡ []
+  shells-fine = none-right (edge-row ++ use-row ++ wire-row ++ face-row) shell-row first-five
+
+  listings-fine : each (nameFaults 6 (length (c .faces))) 0 (c .listings) ≡ []
+  listings-fine = none-right (edge-row ++ use-row ++ wire-row ++ face-row ++ shell-row) listing-row records-fine
+
+  -- more edges, and as many wires as before, given by their uses
+  module _ (es : List Edge) (ws : List (List ℕ)) (edges : each (edgeFaults (length (c .points))) (length (c .edges)) es ≡ []) (long : length ws ≡ length (c .wires))
+      (named : All (λ (u : ℕ). edgeNumber u < length (c .edges ++ es)) (flat ws)) where
+    new-edges : each (edgeFaults (length (c .points))) 0 (c .edges ++ es) ≡ []
+    new-edges =
+        let z : 0 + length (c .edges) ≡ length (c .edges) = omega arith in
+        each-append (edgeFaults (length (c .points))) 0 (c .edges) es
+        ∙ none-both edge-row (each (edgeFaults (length (c .points))) (0 + length (c .edges)) es) edges-fine (rw z edges)
+
+    new-uses : each (nameFaults 2 (length (c .edges ++ es))) 0 (flat ws) ≡ []
+    new-uses =
+        let P : ℕ → Type 0 = λ (u : ℕ). edgeNumber u < length (c .edges ++ es) in
+        each-none (nameFaults 2 (length (c .edges ++ es))) 0 0 (flat ws)
+        (λ k h. rw (lt-ltb (edgeNumber (getD (flat ws) k 0)) (length (c .edges ++ es)) (all-place P 0 (flat ws) named k h)))
+
+    new-wires : sumFaults 3 (map length ws) (length (flat ws)) ≡ []
+    new-wires = rw (eq-eqb (sum (map length ws)) (length (flat ws)) (sum-lengths ws))
+
+    new-faces : sumFaults 4 (map wireCount (c .faces)) (length (map length ws)) ≡ []
+    new-faces =
+        let counts = map wireCount (c .faces) in
+        rw (eq-eqb (sum counts) (length (map length ws)) (omega (arith, faces-summed c records-fine, length-map ws length, long)))
+
+    new-records : recordFaults (edited c es (flat ws) (map length ws)) ≡ []
+    new-records =
+        none-six (each (edgeFaults (length (c .points))) 0 (c .edges ++ es)) (each (nameFaults 2 (length (c .edges ++ es))) 0 (flat ws))
+        (sumFaults 3 (map length ws) (length (flat ws))) (sumFaults 4 (map wireCount (c .faces)) (length (map length ws))) shell-row listing-row
+        new-edges new-uses new-wires new-faces shells-fine listings-fine
+
+    pub edited-accepted : faceRule (map frontNumber (c .edges ++ es)) (map backNumber (c .edges ++ es)) 0 (split (map wireCount (c .faces)) ws) ≡ []
+        → contentFaults (edited c es (flat ws) (map length ws)) ≡ []
+    edited-accepted rule =
+        none-both (recordFaults (edited c es (flat ws) (map length ws))) _ new-records (rw (split-flat ws) rule)
+
+-- ---- a content in storage
+
+module _ {ℓ} {A : Type ℓ} where
+  -- what is stored from the front is what stands first
+  pub stored-first : (l xs : List A) → length xs ≤ length l → take (length xs) (sets l 0 xs) ≡ xs
+  stored-first l xs h =
+      let e : 0 + length xs ≡ length xs = omega arith in
+      rw (sets-eq xs l 0 (omega arith), e) (take-append-seam xs (drop (length xs) l))
+
+module _ (p : Pattern) (full : Full p) (c : Content) (few : countFaults (countsOf c) ≡ []) where
+  fit : Limited (countsOf c)
+  fit = limited (countsOf c) refl few
+
+  -- a content stored is read back
+  pub stored-content : content (storedIn p c) ≡ c
+  stored-content =
+      let points = stored-first (p .points) (c .points) (omega (arith, full .points, fit .points)) in
+      let edges = stored-first (p .edges) (c .edges) (omega (arith, full .edges, fit .edges)) in
+      let uses = stored-first (p .uses) (c .uses) (omega (arith, full .uses, fit .uses)) in
+      let wires = stored-first (p .wires) (c .wires) (omega (arith, full .wires, fit .wires)) in
+      let faces = stored-first (p .faces) (c .faces) (omega (arith, full .faces, fit .faces)) in
+      let shells = stored-first (p .shells) (c .shells) (omega (arith, full .shells, fit .shells)) in
+      let listings = stored-first (p .listings) (c .listings) (omega (arith, full .listings, fit .listings)) in
+      λ i. record {
+        points = points i;
+        edges = edges i;
+        uses = uses i;
+        wires = wires i;
+        faces = faces i;
+        shells = shells i;
+        listings = listings i;
+      }
+
+  pub stored-accepted : contentFaults c ≡ [] → patternFaults (storedIn p c) ≡ []
+  stored-accepted ok = none-both (countFaults (countsOf c)) (contentFaults (content (storedIn p c))) few (ap contentFaults stored-content ∙ ok)
+
+  -- the storage keeps its lengths
+  pub stored-full : Full (storedIn p c)
+  stored-full = record {
+    points = length-sets (p .points) 0 (c .points) ∙ full .points;
+    edges = length-sets (p .edges) 0 (c .edges) ∙ full .edges;
+    uses = length-sets (p .uses) 0 (c .uses) ∙ full .uses;
+    wires = length-sets (p .wires) 0 (c .wires) ∙ full .wires;
+    faces = length-sets (p .faces) 0 (c .faces) ∙ full .faces;
+    shells = length-sets (p .shells) 0 (c .shells) ∙ full .shells;
+    listings = length-sets (p .listings) 0 (c .listings) ∙ full .listings;
+  }
+
+-- counts within the limits have no fault
+pub limited-none : (c : Content) → Limited (countsOf c) → countFaults (countsOf c) ≡ []
+unfolding each
+limited-none c s =
+    rw (le-leb (length (c .points)) 2048 (s .points), le-leb (length (c .edges)) 1024 (s .edges), le-leb (length (c .uses)) 4096 (s .uses), le-leb (length (c .wires)) 1024 (s .wires), le-leb (length (c .faces)) 256 (s .faces), le-leb (length (c .shells)) 16 (s .shells), le-leb (length (c .listings)) 512 (s .listings))
+
+-- a pattern after an edit, refused or not
+pub after-accepted : (p : Pattern) (faults : List EditError) (c : Content) → patternFaults p ≡ [] → (faults ≡ [] → patternFaults (storedIn p c) ≡ []) → patternFaults (patternAfter p faults c) ≡ []
+after-accepted p faults c ok done = go (patternFaults p) faults refl
+  where
+    go : (rs : List Refusal) (es : List EditError) → faults ≡ es → patternFaults (judged rs es (λ (f : Refusal). p) (λ (e : EditError). p) (storedIn p c)) ≡ []
+    go (r ∷ rs) es h = ok
+    go [] (e ∷ es) h = ok
+    go [] [] h = done h
+
+-- an edit with room for its edges and uses
+module _ (p : Pattern) (full : Full p) (seven : length (p .counts) ≡ 7) (ok : patternFaults p ≡ []) where
+  pub content-fine : contentFaults (content p) ≡ []
+  content-fine = none-right (countFaults (p .counts)) (contentFaults (content p)) ok
+
+  within : Limited (p .counts)
+  within = limited (p .counts) seven (none-left (countFaults (p .counts)) (contentFaults (content p)) ok)
+
+  pub edited-few : (es : List Edge) (ws : List (List ℕ)) → length (content p .edges) + length es ≤ 1024 → length (flat ws) ≤ 4096 → length ws ≡ length (content p .wires)
+      → countFaults (countsOf (edited (content p) es (flat ws) (map length ws))) ≡ []
+  edited-few es ws edges uses long =
+      limited-none (edited (content p) es (flat ws) (map length ws)) (record {
+        points = omega (arith, points-counted p within full, within .points);
+        edges = omega (arith, edges, length-append (content p .edges) es);
+        uses = uses;
+        wires = omega (arith, length-map ws length, long, wires-counted p within full, within .wires);
+        faces = omega (arith, faces-counted p within full, within .faces);
+        shells = omega (arith, shells-counted p within full, within .shells);
+        listings = omega (arith, listings-counted p within full, within .listings);
+      })
+
+-- ---- the face rule in numbers: every wire has a use and is closed, and at each point of a face one use begins at most
+
+module _ (fs bs : List ℕ) where
+  pub record Ruled (wires : List (List ℕ)) : Type 0 where
+    pub rings : All (Ring fs bs) wires
+    pub once : (q : ℕ) → count (from fs bs q) (flat wires) ≤ 1
+
+  outlined-rings : (w : ℕ) (wires : List (List ℕ)) → each (outlineFaults fs bs) w wires ≡ [] → All (Ring fs bs) wires
+  unfolding each
+  outlined-rings w [] e = tt
+  outlined-rings w (us ∷ wires) e =
+      let sound = faultless-sound fs bs us (none-mapped w (wireFaults fs bs us) (none-left (outlineFaults fs bs w us) (each (outlineFaults fs bs) (suc w) wires) e)) in
+      ((sound .used, sound .loops), outlined-rings (suc w) wires (none-right (outlineFaults fs bs w us) (each (outlineFaults fs bs) (suc w) wires) e))
+
+  -- a point of a list is no point of one that is disjoint from it
+  disjoint-count : (xs ys : List ℕ) → disjoint xs ys ≡ true → (q : ℕ) → count (eqb q) ys ≤ 1 → 0 < count (eqb q) xs → count (eqb q) ys ≡ 0
+  unfolding disjoint count
+  disjoint-count [] ys h q k l = absurd (omega arith)
+  disjoint-count (x ∷ xs) ys h q k l =
+      ⊎-elim
+      (λ (e : eqb q x ≡ true).
+      let z = eqb-true q x e in
+      let none : has q ys ≡ false = rw z (not-true (has x ys) (left-true (not (has x ys)) (disjoint xs ys) h)) in
+      rw none at (has-count q ys k))
+      (λ (e : eqb q x ≡ false). disjoint-count xs ys (right-true (not (has x ys)) (disjoint xs ys) h) q k (omega (arith, bit-none q x e)))
+      (cases (eqb q x))
+
+  both-once : (xs ys : List ℕ) (q : ℕ) → disjoint xs ys ≡ true → count (eqb q) xs ≤ 1 → count (eqb q) ys ≤ 1 → count (eqb q) ys + count (eqb q) xs ≤ 1
+  both-once xs ys q d h k =
+      ⊎-elim
+      (λ (e : ltb 0 (count (eqb q) xs) ≡ true). omega (arith, disjoint-count xs ys d q k (ltb-true 0 (count (eqb q) xs) e)))
+      (λ (e : ltb 0 (count (eqb q) xs) ≡ false). omega (arith, ltb-false 0 (count (eqb q) xs) e))
+      (cases (ltb 0 (count (eqb q) xs)))
+
+  shared-once : (earlier : List ℕ) (w : ℕ) (wires : List (List ℕ)) → each (outlineFaults fs bs) w wires ≡ [] → sharedFaults fs bs earlier w wires ≡ []
+      → ((q : ℕ) → count (eqb q) earlier ≤ 1) → (q : ℕ) → count (eqb q) earlier + count (from fs bs q) (flat wires) ≤ 1
+  unfolding each sharedFaults flat count
+  shared-once earlier w [] e s h q = omega (arith, h q)
+  shared-once earlier w (us ∷ wires) e s h q =
+      let ps = points fs bs us in
+      let none = none-left (outlineFaults fs bs w us) (each (outlineFaults fs bs) (suc w) wires) e in
+      let simple = faultless-noDup fs bs us (none-mapped w (wireFaults fs bs us) none) in
+      let apart = unless-passes (disjoint ps earlier) (Wire w NotSimpleWire) (none-left _ (sharedFaults fs bs (earlier ++ ps) (suc w) wires) s) in
+      let rest = shared-once (earlier ++ ps) (suc w) wires (none-right (outlineFaults fs bs w us) (each (outlineFaults fs bs) (suc w) wires) e)
+      (none-right (unless (disjoint ps earlier) (Wire w NotSimpleWire)) (sharedFaults fs bs (earlier ++ ps) (suc w) wires) s)
+      (λ r. omega (arith, count-append (eqb r) earlier ps, both-once ps earlier r apart (noDup-count ps simple r) (h r))) q in
+      omega (arith, rest, count-append (eqb q) earlier ps, points-count fs bs us q, count-append (from fs bs q) us (flat wires))
+
+  pub face-ruled : (w : ℕ) (wires : List (List ℕ)) → faceFaults fs bs w wires ≡ [] → Ruled wires
+  unfolding count
+  face-ruled w wires e =
+      let alone = none-left (each (outlineFaults fs bs) w wires) (sharedFaults fs bs [] w wires) e in
+      let shared = none-right (each (outlineFaults fs bs) w wires) (sharedFaults fs bs [] w wires) e in
+      record { rings = outlined-rings w wires alone; once = λ q. omega (arith, shared-once [] w wires alone shared (λ r. omega arith) q) }
+
+  pub ruled-face : (w : ℕ) (wires : List (List ℕ)) → Ruled wires → faceFaults fs bs w wires ≡ []
+  ruled-face w wires r = rings-ruled fs bs w wires (r .rings) (r .once)
+
+  -- face by face
+  pub rule-ruled : (w : ℕ) (faces : List (List (List ℕ))) → faceRule fs bs w faces ≡ [] → All Ruled faces
+  unfolding faceRule
+  rule-ruled w [] e = tt
+  rule-ruled w (wires ∷ faces) e = (
+    face-ruled w wires (none-left (faceFaults fs bs w wires) (faceRule fs bs (w + length wires) faces) e),
+    rule-ruled (w + length wires) faces (none-right (faceFaults fs bs w wires) (faceRule fs bs (w + length wires) faces) e),
+  )
+
+  pub ruled-rule : (w : ℕ) (faces : List (List (List ℕ))) → All Ruled faces → faceRule fs bs w faces ≡ []
+  unfolding faceRule
+  ruled-rule w [] h = refl
+  ruled-rule w (wires ∷ faces) h =
+      none-both (faceFaults fs bs w wires) (faceRule fs bs (w + length wires) faces) (ruled-face w wires (h .0)) (ruled-rule (w + length wires) faces (h .1))

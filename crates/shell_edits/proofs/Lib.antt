@@ -1,0 +1,13 @@
+pub mod Accepted
+pub mod Wires
+pub mod Cut
+pub mod CutMade
+pub mod CutTheorem
+pub mod Joining
+pub mod Kept
+pub mod Remove
+pub mod Removal
+pub mod Storage
+pub mod Stored
+pub mod RemoveTheorem
+pub mod ConcatTheorem

@@ -1,0 +1,107 @@
+-- What holds of every removal of a point.
+use Prim.Native.Nat.{_+_, _<_, _≤_, ℕ}
+use mathlib.Core.Bool.{_&&_, _||_, false, not}
+use mathlib.Core.List.{List, [], _++_, _∷_, append-assoc, map}
+use mathlib.Core.Path.{_≡_, refl, sym}
+use native.Mathlib.Omega.{arith}
+use lib.Dec.{eqb, leb, ltb}
+use lib.ListN.{length, length-append, length-map}
+use Rattle.curve.specs.Curves.{joinCurves}
+use Rattle.edge.specs.declared.EdgeID.{EdgeID}
+use Rattle.edit_answers.specs.declared.EditError.{EditError}
+use Rattle.edit_answers.specs.declared.EditError.the-variants.{NoSpace, NotOneOrTwoWires, SameEnds, SharedFace, SpanRefused, Unmatched, Unnamed}
+use Rattle.edit_answers.specs.declared.JoinAnswer.the-variants.{Joined, Not}
+use Rattle.errors.proofs.Laws.{none-right}
+use Rattle.lists.proofs.Count.{All, all-append}
+use Rattle.lists.specs.Lists.{has, unless}
+use Rattle.pattern.proofs.Counts.{Full}
+use Rattle.pattern.specs.Checks.{contentFaults, countFaults, patternFaults}
+use Rattle.pattern.specs.Contents.{Content, content, countsOf}
+use Rattle.pattern.specs.declared.Pattern.{Pattern}
+use Rattle.shell.specs.Openings.{backIn, frontIn}
+use Rattle.shell_edits.proofs.Removal.{point-gone, remove-allowed, removal-accepted, uses-fewer, wires-many}
+use Rattle.shell_edits.proofs.Stored.{NotFull, after-accepted, after-full, edited-few, full-answered, given, no-space, unless-not-full, uses-few, wires-few}
+use Rattle.shell_edits.specs.Answers.{afterRemove, removeAnswer}
+use Rattle.shell_edits.specs.Edits.{edgeOf, endUse, endingWires, firstWire, isJoined, joinedEdge, lastWire, matched, nextUse, removeContent, removeFaults, removeWires, roomForEdges, sharesFace, usesIn}
+use Rattle.shell_edits.specs.RemoveTheorems.{Given, OnlyFull}
+
+-- an accepted content stays so
+pub remove-accepted : (c : Content) → contentFaults c ≡ [] → (n p : ℕ) → removeFaults c n p ≡ [] → contentFaults (removeContent c n p) ≡ []
+remove-accepted c ok n p h = removal-accepted c ok n p h
+
+-- no use of the shell ends at the point
+pub removed : (c : Content) → contentFaults c ≡ [] → (n p : ℕ) → removeFaults c n p ≡ []
+    → has p (map (backIn (removeContent c n p)) (usesIn (removeContent c n p) n)) ≡ false
+removed c ok n p h = point-gone c ok n p h
+
+-- one or two wires change, and each has one use less
+pub remove-uses : (c : Content) → contentFaults c ≡ [] → (n p : ℕ) → removeFaults c n p ≡ []
+    → (length (removeContent c n p .uses) + length (endingWires c n p) ≡ length (c .uses)) × (0 < length (endingWires c n p)) × (length (endingWires c n p) ≤ 2)
+remove-uses c ok n p h = let t = remove-allowed c n p h in (uses-fewer c ok n p h, t .some, t .few)
+
+module _ (p : Pattern) (full : Full p) (n v : ℕ) where
+  abbrev c : Content
+  c = content p
+
+  abbrev ws : List ℕ
+  ws = endingWires c n v
+
+  abbrev u : ℕ
+  u = endUse c v (lastWire ws)
+
+  abbrev w : ℕ
+  w = nextUse c v (lastWire ws)
+
+  few : patternFaults p ≡ [] → removeFaults c n v ≡ [] → countFaults (countsOf (removeContent c n v)) ≡ []
+  few ok h =
+      let fine : contentFaults c ≡ [] = none-right (countFaults (p .counts)) (contentFaults c) ok in
+      let wires = removeWires c n v in
+      edited-few p full (joinedEdge c u w ∷ []) (removeContent c n v .uses) (map length wires)
+      (omega (arith, length-append (c .edges) (joinedEdge c u w ∷ []), remove-allowed c n v h .joins .room)) (omega (arith, uses-fewer c fine n v h, uses-few p full))
+      (omega (arith, length-map wires length, wires-many c fine n v h, wires-few p full))
+
+  -- an accepted pattern stays so, refused or not
+  pub remove-pattern-accepted : patternFaults p ≡ [] → patternFaults (afterRemove p n v) ≡ []
+  remove-pattern-accepted ok =
+      after-accepted p full ok (removeContent c n v) (removeFaults c n v)
+      (λ h. (few ok h, remove-accepted c (none-right (countFaults (p .counts)) (contentFaults c) ok) n v h))
+
+  pub remove-full : patternFaults p ≡ [] → Full (afterRemove p n v)
+  remove-full ok = after-full p full ok (removeContent c n v) (removeFaults c n v) (few ok)
+
+  -- the refusals: all but 17, then 17
+  abbrev before : List EditError
+  before =
+      unless (ltb n (length (c .shells)) && ltb v (length (c .points))) Unnamed
+      ++ unless (not (sharesFace c n)) SharedFace
+      ++ unless (ltb 0 (length ws) && leb (length ws) 2) NotOneOrTwoWires
+      ++ unless (ltb (length ws) 2 || matched c v (firstWire ws) (lastWire ws)) Unmatched
+
+  abbrev joining : List EditError
+  joining = unless (not (eqb (frontIn c u) (backIn c w))) SameEnds ++ unless (isJoined (joinCurves (edgeOf c u .curve) (edgeOf c w .curve))) SpanRefused
+
+  rows : removeFaults c n v ≡ (before ++ joining) ++ unless (roomForEdges c 1) NoSpace
+  rows = sym (append-assoc before joining (unless (roomForEdges c 1) NoSpace))
+
+  not-full : All NotFull (before ++ joining)
+  not-full =
+      let a = ltb n (length (c .shells)) && ltb v (length (c .points)) in
+      let b = not (sharesFace c n) in
+      let d = ltb 0 (length ws) && leb (length ws) 2 in
+      let e = ltb (length ws) 2 || matched c v (firstWire ws) (lastWire ws) in
+      let f = not (eqb (frontIn c u) (backIn c w)) in
+      let g = isJoined (joinCurves (edgeOf c u .curve) (edgeOf c w .curve)) in
+      all-append NotFull before joining
+      (all-append NotFull (unless a Unnamed ++ unless b SharedFace ++ unless d NotOneOrTwoWires) (unless e Unmatched)
+      (all-append NotFull (unless a Unnamed ++ unless b SharedFace) (unless d NotOneOrTwoWires)
+      (all-append NotFull (unless a Unnamed) (unless b SharedFace) (unless-not-full a Unnamed refl) (unless-not-full b SharedFace refl))
+      (unless-not-full d NotOneOrTwoWires refl)) (unless-not-full e Unmatched refl))
+      (all-append NotFull (unless f SameEnds) (unless g SpanRefused) (unless-not-full f SameEnds refl) (unless-not-full g SpanRefused refl))
+
+  -- 17 is answered exactly if nothing else is wrong and the edges are full
+  pub remove-no-space : (removeAnswer p n v ≡ Not NoSpace → OnlyFull p (removeFaults c n v)) × (OnlyFull p (removeFaults c n v) → removeAnswer p n v ≡ Not NoSpace)
+  remove-no-space = rw rows (no-space p full (before ++ joining) not-full, full-answered p full (before ++ joining) not-full)
+
+  -- the number given is that of the new edge, and the old ones stand as they stood
+  pub remove-numbers : (a : EdgeID) → removeAnswer p n v ≡ Joined a → Given p (afterRemove p n v) a (joinedEdge c u w)
+  remove-numbers a h = given p full (removeFaults c n v) (joinedEdge c u w) (removeContent c n v .uses) (removeContent c n v .wires) a few h

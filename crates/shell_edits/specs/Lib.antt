@@ -1,0 +1,4 @@
+pub mod Edits
+pub mod Answers
+pub mod Theorems
+pub mod RemoveTheorems

@@ -1,0 +1,1 @@
+// The edits of a shell: definitions, and what holds of every edit. No code.

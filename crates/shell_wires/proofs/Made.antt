@@ -1,0 +1,113 @@
+-- What the code makes for shell n of a pattern is what the definitions say.
+use Prim.Native.Nat.{_+_, _-_, _<_, _≤_, suc, zero, ℕ}
+use mathlib.Core.Bool.{Bool, false, not}
+use mathlib.Core.List.{List, [], _++_, _∷_, map}
+use mathlib.Core.Path.{_∙_, _≡_, ap, sym}
+use native.Mathlib.Omega.{arith}
+use lib.ListN.{drop, getD, length, length-map, take}
+use lib.Seq.{getD-take, take-take}
+use Rattle.edge.specs.Edges.{backNumber, frontNumber}
+use Rattle.face.specs.Faces.{wireCount}
+use Rattle.listing.proofs.Laws.{shells-summed}
+use Rattle.lists.proofs.Laws.{map-take, sum-next, sum-take-drop}
+use Rattle.lists.proofs.Split.{drop-take, getD-split}
+use Rattle.lists.specs.Lists.{disjoint, has, numbers, padded, sum}
+use Rattle.pattern.proofs.Counts.{listings-counted, wires-counted}
+use Rattle.pattern.specs.Contents.{content}
+use Rattle.pattern.specs.declared.Pattern.{Pattern}
+use Rattle.shell.specs.Shells.{faceNumber, listingsOf}
+use Rattle.shell_edits.specs.Edits.{otherListings, sharesFace, wiresOf}
+use Rattle.shell_wires.proofs.Facts.{Fine, faces-sum, listings-name, records-fine, shells-sum}
+use Rattle.shell_wires.proofs.Laws.{flagsOf, listed-flags, lists-shared, names-part, others-are}
+use Rattle.shell_wires.specs.Flags.{NameFaces, listsFlagged, wireFlags}
+use Rattle.shell_wires.specs.ShellWires.{shellWires}
+
+names-append : (xs ys : List ℕ) → NameFaces xs → NameFaces ys → NameFaces (xs ++ ys)
+names-append [] ys h g k l = g k l
+names-append (x ∷ xs) ys h g zero l = h 0 (omega arith)
+names-append (x ∷ xs) ys h g (suc k) l = names-append xs ys (λ i b. h (suc i) (omega arith)) g k (omega arith)
+
+module _ (p : Pattern) (s : Fine p) where
+  abbrev faces : ℕ
+  faces = getD (p .counts) 4 0
+
+  abbrev listings : ℕ
+  listings = getD (p .counts) 6 0
+
+  pub stored-names : NameFaces (take listings (p .listings))
+  stored-names k h =
+      omega (arith, listings-name p s k (omega (arith, listings-counted p (s .limits) (s .full))), s .limits .faces)
+
+  -- the shell's listings are z in number and begin at place f
+  module _ (n : ℕ) (here : n < getD (p .counts) 5 0) (f z : ℕ) (begin : f ≡ sum (take n (p .shells))) (size : z ≡ getD (p .shells) n 0) where
+    shells-before : sum (take n (content p .shells)) ≡ f
+    shells-before = rw (take-take n (getD (p .counts) 5 0) (p .shells) (omega arith), begin)
+
+    shell-size : getD (content p .shells) n 0 ≡ z
+    shell-size = getD-take (getD (p .counts) 5 0) (p .shells) n 0 here ∙ sym size
+
+    shells-to : sum (take (suc n) (content p .shells)) ≡ f + z
+    shells-to = omega (arith, sum-next (content p .shells) n, shells-before, shell-size)
+
+    pub part-inside : f + z ≤ listings
+    part-inside = omega (arith, shells-to, sum-take-drop (suc n) (content p .shells), shells-sum p s)
+
+    stored-long : listings ≤ length (p .listings)
+    stored-long = omega (arith, s .limits .listings, s .full .listings)
+
+    pub own-names : NameFaces (take (f + z - f) (drop f (p .listings)))
+    own-names = names-part (p .listings) listings f (f + z) (omega arith) part-inside stored-long stored-names
+
+    pub own-are : take (f + z - f) (drop f (p .listings)) ≡ listingsOf (content p) n
+    own-are =
+        let e : f + z - f ≡ z = omega arith in
+        rw (
+          getD-split (content p .shells) (content p .listings) n,
+          shells-before,
+          shell-size,
+          e,
+          drop-take f listings (p .listings) (omega (arith, part-inside)),
+          take-take z (listings - f) (drop f (p .listings)) (omega (arith, part-inside)),
+        )
+
+    others-names : NameFaces (take f (p .listings) ++ drop (f + z) (take listings (p .listings)))
+    others-names =
+        let e : f - 0 ≡ f = omega arith in
+        names-append (take f (p .listings)) (drop (f + z) (take listings (p .listings)))
+        (rw e at (names-part (p .listings) listings 0 f (omega arith) (omega (arith, part-inside)) stored-long stored-names))
+        (rw (drop-take (f + z) listings (p .listings) part-inside)
+        (names-part (p .listings) listings (f + z) listings part-inside (omega arith) stored-long stored-names))
+
+    others : take f (p .listings) ++ drop (f + z) (take listings (p .listings)) ≡ otherListings (content p) n
+    others =
+        rw (
+          others-are (content p .shells) (content p .listings) n (shells-summed (content p) (records-fine p s)),
+          shells-before,
+          shells-to,
+          take-take f listings (p .listings) (omega (arith, part-inside)),
+        )
+
+    shared-is : listsFlagged (flagsOf 256 (map faceNumber (listingsOf (content p) n))) (take f (p .listings) ++ drop (f + z) (take listings (p .listings)))
+        ≡ sharesFace (content p) n
+    shared-is =
+        lists-shared (map faceNumber (listingsOf (content p) n)) (take f (p .listings) ++ drop (f + z) (take listings (p .listings))) others-names
+        ∙ ap (λ (ls : List ℕ). not (disjoint (map faceNumber (listingsOf (content p) n)) (map faceNumber ls))) others
+
+    wires-are : wireFlags (flagsOf 256 (map faceNumber (listingsOf (content p) n))) (map wireCount (p .faces)) faces
+        ≡ map (λ (w : ℕ). has w (wiresOf (content p) n)) (numbers (length (content p .wires)))
+    wires-are =
+        rw (wires-counted p (s .limits) (s .full), map-take wireCount faces (p .faces))
+        (listed-flags (map wireCount (p .faces)) faces (getD (p .counts) 3 0) (listingsOf (content p) n)
+        (omega (arith, s .limits .faces, s .full .faces, length-map (p .faces) wireCount)) (s .limits .faces) (faces-sum p s))
+
+    pub wires-made : (flags : List Bool) (counts : List ℕ) (shared : Bool) (wires : List Bool) (fronts backs : List ℕ)
+        → flags ≡ flagsOf 256 (map faceNumber (take (f + z - f) (drop f (p .listings))))
+        → shared ≡ listsFlagged flags (take f (p .listings) ++ drop (f + z) (take listings (p .listings)))
+        → counts ≡ map wireCount (p .faces) → wires ≡ padded 1024 false (wireFlags flags counts faces)
+        → fronts ≡ map frontNumber (p .edges) → backs ≡ map backNumber (p .edges)
+        → record { shared = shared; wires = wires; fronts = fronts; backs = backs } ≡ shellWires p n
+    wires-made flags counts shared wires fronts backs a b c d e g =
+        let own : flags ≡ flagsOf 256 (map faceNumber (listingsOf (content p) n)) = a ∙ rw own-are in
+        let is : shared ≡ sharesFace (content p) n = b ∙ rw own shared-is in
+        let all : wires ≡ padded 1024 false (map (λ (w : ℕ). has w (wiresOf (content p) n)) (numbers (length (content p .wires)))) = d ∙ rw (own, c, wires-are) in
+        rw (is, all, e, g)

@@ -1,0 +1,57 @@
+-- After k turns the faces of k listings have their flags.
+use Prim.Native.Nat.{_-_}
+use native.Mathlib.Omega.{arith}
+use lib.ListN.{length}
+use borrow.Author.Needs.{needs}
+use Rattle.shell_wires.proofs.Laws.{Flagging, flagging-all, flagging-next, flagging-start}
+use Rattle.shell_wires.proofs.face_flags.Statement.{statement}
+use Rattle.shell_wires.proofs.face_flags.Tie as tie
+
+abbrev Inv-loop : tie.InvT-loop
+Inv-loop listings out₀ k₀ out k = Flagging listings out k
+
+abbrev μ-loop : tie.MeasureT-loop
+μ-loop listings out₀ k₀ out k = length listings - k
+
+loop-holds : tie.Need-loop-holds Inv-loop μ-loop
+loop-holds c = flagging-start (c .before .args .listings .now)
+
+mul-index : tie.Need-mul-index Inv-loop μ-loop
+mul-index c = search needs
+
+shared-slice-read-index : tie.Need-shared-slice-read-index Inv-loop μ-loop
+shared-slice-read-index c = search needs
+
+index-requires : tie.Need-index-requires Inv-loop μ-loop
+index-requires c κs = search needs
+
+array-write-out : tie.Need-array-write-out Inv-loop μ-loop
+array-write-out c = omega (arith, c .index .ensures .0, c .before .before .before .before .before .pre (c .before .before .before .loop .k) (omega arith))
+
+add-k : tie.Need-add-k Inv-loop μ-loop
+add-k c = search needs
+
+loop-less : tie.Need-loop-less Inv-loop μ-loop
+loop-less c = search needs
+
+loop-again : tie.Need-loop-again Inv-loop μ-loop
+loop-again c = flagging-next _ _ _ (c .before .before .before .loop .inv) _ (omega arith) (c .index .ensures .0) (omega (arith, c .index .ensures .0, c .before .before .before .before .before .pre (c .before .before .before .loop .k) (omega arith)))
+
+returns : tie.Need-returns Inv-loop μ-loop
+returns c = flagging-all _ _ _ (c .before .loop .inv) (omega arith)
+
+pub face-flags-spec : {M : Type 1} → statement M
+face-flags-spec =
+    tie.close
+    (tie.spec
+    Inv-loop
+    μ-loop
+    loop-holds
+    mul-index
+    shared-slice-read-index
+    index-requires
+    array-write-out
+    add-k
+    loop-less
+    loop-again
+    returns)

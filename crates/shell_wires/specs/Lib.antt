@@ -1,0 +1,2 @@
+pub mod ShellWires
+pub mod Flags

@@ -1,0 +1,135 @@
+// The wires of a shell, for its edits: which of the wires in storage are its own, whether it shares
+// a face with another shell, and the ends of the edges. Faces are marked first, then their wires.
+ghost use mathlib.Core.Path.{_≡_};
+ghost use mathlib.Core.Bool.{false};
+ghost use mathlib.Core.List.{[], map, _++_};
+ghost use Prim.Native.Nat.{_+_, _-_, _<_, _≤_, ℕ};
+ghost use lib.ListN.{drop, getD, length, replicate, take};
+ghost use lib.Seq.{sets};
+ghost use Rattle.lists.specs.Lists.{has, padded, sum, tabulate};
+ghost use Rattle.pattern.specs.Checks.{patternFaults};
+ghost use Rattle.shell.specs.Shells.{faceNumber};
+ghost use Rattle.shell_wires.specs.Flags.{NameFaces, listsFlagged, wireFlags};
+ghost use Rattle.shell_wires.specs.ShellWires.{shellWires};
+use edge::backs_of;
+use edge::fronts_of;
+use face::wire_counts;
+use pattern::Pattern;
+use words::index;
+use words::sum_of;
+
+// Which wires a shell has, and whether another shell lists one of its faces; with the ends of the
+// edges.
+pub struct ShellWires {
+    pub shared: bool,
+    pub wires: [bool; 1024],
+    pub fronts: [u16; 1024],
+    pub backs: [u16; 1024],
+}
+
+// A flag for each face that is listed.
+fn face_flags(listings: &[u16]) -> [bool; 256]
+    requires { ⌜ NameFaces (now listings) ⌝ }
+    ensures { λ r. ⌜ r ≡ tabulate 256 (λ (f : ℕ). has f (map faceNumber (now (listings .entry)))) ⌝ }
+{
+    let mut out = [false; 256];
+    let mut k: usize = 0;
+    while k < listings.len() {
+        out[index(listings[k] % 32768)] = true;
+        k += 1;
+    }
+    out
+}
+
+// A flag for each face that is listed from `first` to `end`.
+fn flags_between(listings: &[u16], first: usize, end: usize) -> [bool; 256]
+    requires { ⌜ (first ≤ end) × (end ≤ length (now listings)) ⌝ }
+    requires { ⌜ NameFaces (take (end - first) (drop first (now listings))) ⌝ }
+    ensures { λ r. ⌜ r ≡ tabulate 256 (λ (f : ℕ). has f (map faceNumber (take (end - first) (drop first (now (listings .entry)))))) ⌝ }
+{
+    face_flags(&listings[first..end])
+}
+
+// Whether a face with a flag is listed.
+fn lists_flagged(listings: &[u16], flags: &[bool]) -> bool
+    requires { ⌜ NameFaces (now listings) ⌝ }
+    requires { ⌜ length (now flags) ≡ 256 ⌝ }
+    ensures { λ r. ⌜ r ≡ listsFlagged (now (flags .entry)) (now (listings .entry)) ⌝ }
+{
+    let mut k: usize = 0;
+    while k < listings.len() {
+        if flags[index(listings[k] % 32768)] {
+            return true;
+        }
+        k += 1;
+    }
+    false
+}
+
+// Whether a face with a flag is among the first n listings, those from `first` to `end` left out.
+fn lists_outside(listings: &[u16], n: usize, first: usize, end: usize, flags: &[bool]) -> bool
+    requires { ⌜ (first ≤ end) × (end ≤ n) × (n ≤ length (now listings)) ⌝ }
+    requires { ⌜ NameFaces (take n (now listings)) ⌝ }
+    requires { ⌜ length (now flags) ≡ 256 ⌝ }
+    ensures { λ r. ⌜ r ≡ listsFlagged (now (flags .entry)) (take first (now (listings .entry)) ++ drop end (take n (now (listings .entry)))) ⌝ }
+{
+    if lists_flagged(&listings[0..first], flags) {
+        return true;
+    }
+    lists_flagged(&listings[end..n], flags)
+}
+
+// Writes a flag n times from `at` on.
+fn put_flags(out: &mut [bool], at: usize, n: usize, flag: bool)
+    requires { ⌜ at + n ≤ length (now out) ⌝ }
+    ensures { λ _. ⌜ now (out .exit) ≡ sets (now (out .entry)) at (replicate n flag) ⌝ }
+{
+    let mut k: usize = 0;
+    while k < n {
+        out[at + k] = flag;
+        k += 1;
+    }
+}
+
+// The flag of each of the first n faces, once for each of its wires. The rest is false.
+fn wire_flags(flags: &[bool], counts: &[u16], n: usize) -> [bool; 1024]
+    requires { ⌜ (n ≤ length (now flags)) × (n ≤ length (now counts)) × (sum (take n (now counts)) ≤ 1024) ⌝ }
+    ensures { λ r. ⌜ r ≡ padded 1024 false (wireFlags (now (flags .entry)) (now (counts .entry)) n) ⌝ }
+{
+    let mut out = [false; 1024];
+    let mut at: usize = 0;
+    let mut f: usize = 0;
+    while f < n {
+        let wires = index(counts[f]);
+        put_flags(&mut out, at, wires, flags[f]);
+        at += wires;
+        f += 1;
+    }
+    out
+}
+
+// The wires of shell n of a pattern without fault.
+pub fn shell_wires(p: Pattern, n: usize) -> ShellWires
+    requires { ⌜ patternFaults p ≡ [] ⌝ }
+    requires { ⌜ n < getD (p .counts) 5 0 ⌝ }
+    ensures { λ r. ⌜ r ≡ shellWires p n ⌝ }
+{
+    let fcount = p.counts[4];
+    let lcount = p.counts[6];
+    let first = sum_of(&p.shells, n);
+    let end = first + index(p.shells[n]);
+    let flags = flags_between(&p.listings, first, end);
+    let shared = lists_outside(&p.listings, lcount, first, end, &flags);
+    let faces = p.faces;
+    let counts = wire_counts(faces);
+    let wires = wire_flags(&flags, &counts, fcount);
+    let edges = p.edges;
+    let fronts = fronts_of(edges);
+    let backs = backs_of(edges);
+    ShellWires {
+        shared,
+        wires,
+        fronts,
+        backs,
+    }
+}

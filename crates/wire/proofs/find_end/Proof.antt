@@ -1,0 +1,64 @@
+-- The search among all uses is the search among those from place i on.
+use Prim.Native.Nat.{_-_, _≤_}
+use mathlib.Core.Path.{_∙_, _≡_, sym}
+use native.Mathlib.Omega.{arith}
+use lib.ListN.{drop, length}
+use borrow.Author.Needs.{needs}
+use Rattle.wire.proofs.Laws.{named-edge}
+use Rattle.wire.proofs.Swaps.{end-here, end-next, end-past}
+use Rattle.wire.proofs.find_end.Statement.{statement}
+use Rattle.wire.specs.Swaps.{endFrom}
+use Rattle.wire.proofs.find_end.Tie as tie
+
+abbrev Inv-loop : tie.InvT-loop
+Inv-loop uses fronts backs p k₀ k = (k ≤ length uses) × (endFrom fronts backs 0 p uses ≡ endFrom fronts backs k p (drop k uses))
+
+abbrev μ-loop : tie.MeasureT-loop
+μ-loop uses fronts backs p k₀ k = length uses - k
+
+cast-p : tie.Need-cast-p Inv-loop μ-loop
+cast-p c = search needs
+
+loop-holds : tie.Need-loop-holds Inv-loop μ-loop
+loop-holds c = search needs
+
+mul-back-of : tie.Need-mul-back-of Inv-loop μ-loop
+mul-back-of c = search needs
+
+shared-slice-read-back-of : tie.Need-shared-slice-read-back-of Inv-loop μ-loop
+shared-slice-read-back-of c = search needs
+
+back-of-requires : tie.Need-back-of-requires Inv-loop μ-loop
+back-of-requires c κs = named-edge _ _ _ (c .before .before .before .before .before .before .before .pre) (c .before .before .loop .k) (omega arith)
+
+add-k : tie.Need-add-k Inv-loop μ-loop
+add-k c = search needs
+
+loop-less : tie.Need-loop-less Inv-loop μ-loop
+loop-less c = search needs
+
+loop-again : tie.Need-loop-again Inv-loop μ-loop
+loop-again c = (omega arith, c .before .before .before .before .loop .inv .1 ∙ end-next _ _ _ _ _ (c .before .before .before .if1 .left) (λ e. c .if2 .left (c .before .back-of .ensures ∙ e)))
+
+returns : tie.Need-returns Inv-loop μ-loop
+returns c = sym (c .before .loop .inv .1 ∙ end-past _ _ _ _ _ (c .if1 .taken))
+
+returns-2 : tie.Need-returns-2 Inv-loop μ-loop
+returns-2 c = sym (c .before .before .before .before .loop .inv .1 ∙ end-here _ _ _ _ _ (c .before .before .before .if1 .left) (sym (c .before .back-of .ensures) ∙ c .if2 .taken))
+
+pub find-end-spec : {M : Type 1} → statement M
+find-end-spec =
+    tie.close
+    (tie.spec
+    Inv-loop
+    μ-loop
+    cast-p
+    loop-holds
+    mul-back-of
+    shared-slice-read-back-of
+    back-of-requires
+    add-k
+    loop-less
+    loop-again
+    returns
+    returns-2)
