@@ -3,8 +3,8 @@
 
     tools/generate.py record            makes the recorded answers again, always the same
                                         bytes: those that crates/replay_reports,
-                                        crates/replay_packs and crates/replay_edits
-                                        replay, and recorded/edits
+                                        crates/replay_packs, crates/replay_edits and
+                                        crates/replay_face_edits replay
     tools/generate.py random SEED COUNT FOLDER
                                         COUNT random patterns and as many files of
                                         edits, with their answers, in the same form
@@ -951,10 +951,8 @@ def record():
 
     cases = [(name, p, [line if isinstance(line, tuple) else (line, None) for line in lines])
              for name, p, lines in EDITS + list(every_edit()) + list(random_edit_files(2, 30))]
-    record_edits(ROOT / "recorded/edits", [case for case in cases if has(case, FACE_EDITS)])
-    record_edits(ROOT / "crates/replay_edits",
-                 [(name, p, [pair for pair in lines if first_word(pair) not in FACE_EDITS])
-                  for name, p, lines in cases if has((name, p, lines), SHELL_EDITS)])
+    record_edits(ROOT / "crates/replay_edits", cases, SHELL_EDITS, {"report", "fresh"})
+    record_edits(ROOT / "crates/replay_face_edits", cases, FACE_EDITS, set())
 
 
 SHELL_EDITS = {"cut", "remove", "concat"}
@@ -965,12 +963,11 @@ def first_word(pair):
     return pair[0].split(" ")[0]
 
 
-def has(case, kinds):
-    return any(first_word(pair) in kinds for pair in case[2])
-
-
-def record_edits(path, cases):
-    """A face edit changes nothing stored: without it the other answers are the same."""
+def record_edits(path, cases, kinds, besides):
+    """The edits of some kinds. A face edit changes nothing stored, so without it the answers to
+    shell edits are the same; without the shell edits, face edits are asked of the pattern as read."""
+    cases = [(name, p, [pair for pair in lines if first_word(pair) in kinds | besides])
+             for name, p, lines in cases if any(first_word(pair) in kinds for pair in lines)]
     folder = Folder(path)
     for name, p, lines in cases:
         folder.add(name, bytes_of(p), [line for line, _ in lines])

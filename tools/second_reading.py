@@ -414,7 +414,7 @@ def edits(data):
 
 ROOT = pathlib.Path(__file__).resolve().parent.parent
 RECORDED = [("reports", ROOT / "crates/replay_reports"), ("packs", ROOT / "crates/replay_packs"),
-            ("edits", ROOT / "crates/replay_edits"), ("edits", ROOT / "recorded/edits")]
+            ("edits", ROOT / "crates/replay_edits"), ("edits", ROOT / "crates/replay_face_edits")]
 AGAIN = {"reports": reports, "packs": packs, "edits": edits}
 
 

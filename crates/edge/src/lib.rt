@@ -11,11 +11,13 @@ use vertex::VertexID;
 pub struct EdgeID(pub u16);
 
 // The curve of an edge: its two parameter ends.
+#[repr(C)]
 pub struct Curve {
     pub t0: f64,
     pub t1: f64,
 }
 
+#[repr(C)]
 pub struct Edge {
     pub front: VertexID,
     pub back: VertexID,

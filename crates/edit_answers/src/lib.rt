@@ -1,11 +1,11 @@
-// The answers of the edits of a shell. They hold no array: the pattern stands beside them.
+// The answers of the edits. They hold no array: the pattern stands beside them.
 ghost use mathlib.Core.Path.{_≡_};
-ghost use Rattle.edit_answers.specs.Answers.{cutNumber, editNumber, joinNumber};
+ghost use Rattle.edit_answers.specs.Answers.{cutNumber, editNumber, faceEditNumber, joinNumber, writtenNumber};
 use edge::EdgeID;
 use errors::Refusal;
 use errors::number_of;
 
-// An edit's own refusal.
+// The refusal of an edit of a shell, its own.
 pub enum EditError {
     // 3: a number that names nothing.
     Unnamed,
@@ -31,6 +31,32 @@ pub enum EditError {
     Disconnected,
 }
 
+// The refusal of an edit of a face, its own.
+pub enum FaceEditError {
+    // 3: a number that names nothing.
+    Unnamed,
+    // 6, 7, 8: what is wrong with the added wire.
+    EmptyWire,
+    NotClosedWire,
+    NotSimpleWire,
+    // 9: the added wire shares a point with the face's own.
+    NotDisjointWires,
+    // 17: the result is longer than a lent list.
+    NoSpace,
+    // 18: the face has not exactly one wire.
+    NotOneWire,
+    // 19: the cutting wire's ends are not on the face's wire.
+    EndsNotOnWire,
+    // 20: the surfaces or the signs of the faces differ.
+    FacesDiffer,
+    // 21: uses with opposite ends are of different edges.
+    OppositeEdges,
+    // 22
+    NothingRemains,
+    // 28: the result breaks the face rule.
+    FaceRule,
+}
+
 // The answer of a cut: the numbers of the two new edges, the half at the edge's front first.
 pub enum CutAnswer {
     Cut(EdgeID, EdgeID),
@@ -43,6 +69,13 @@ pub enum JoinAnswer {
     Joined(EdgeID),
     Refused(Refusal),
     Not(EditError),
+}
+
+// The answer of an edit of a face: how many uses and how many wires were written.
+pub enum FaceAnswer {
+    Written(usize, usize),
+    Refused(Refusal),
+    Not(FaceEditError),
 }
 
 // Document 01's number of an edit's own refusal.
@@ -82,5 +115,35 @@ pub fn join_number(a: JoinAnswer) -> usize
         JoinAnswer::Joined(_) => 0,
         JoinAnswer::Refused(f) => number_of(f),
         JoinAnswer::Not(e) => edit_number(e),
+    }
+}
+
+// Document 01's number of a face edit's own refusal.
+pub fn face_edit_number(e: FaceEditError) -> usize
+    ensures { λ r. ⌜ r ≡ faceEditNumber e ⌝ }
+{
+    match e {
+        FaceEditError::Unnamed => 3,
+        FaceEditError::EmptyWire => 6,
+        FaceEditError::NotClosedWire => 7,
+        FaceEditError::NotSimpleWire => 8,
+        FaceEditError::NotDisjointWires => 9,
+        FaceEditError::NoSpace => 17,
+        FaceEditError::NotOneWire => 18,
+        FaceEditError::EndsNotOnWire => 19,
+        FaceEditError::FacesDiffer => 20,
+        FaceEditError::OppositeEdges => 21,
+        FaceEditError::NothingRemains => 22,
+        FaceEditError::FaceRule => 28,
+    }
+}
+
+pub fn written_number(a: FaceAnswer) -> usize
+    ensures { λ r. ⌜ r ≡ writtenNumber a ⌝ }
+{
+    match a {
+        FaceAnswer::Written(_, _) => 0,
+        FaceAnswer::Refused(f) => number_of(f),
+        FaceAnswer::Not(e) => face_edit_number(e),
     }
 }

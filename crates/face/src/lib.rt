@@ -21,6 +21,7 @@ use words::sum_of;
 pub struct FaceID(pub u16);
 
 // A face: how many wires it has, taken in sequence, and its surface.
+#[repr(C)]
 pub struct Face {
     pub wires: u16,
     pub surface: u16,
@@ -51,7 +52,7 @@ fn check_wires(
     stamp: usize,
 ) -> Check
     requires { ⌜ Named (now fronts) (now backs) (now uses) ⌝ }
-    requires { ⌜ (sum (now lengths) ≤ length (now uses)) × (first + length (now lengths) ≤ 1024) × (stamp + length (now lengths) < 65535) ⌝ }
+    requires { ⌜ (sum (now lengths) ≤ length (now uses)) × (first + length (now lengths) ≤ 2048) × (stamp + length (now lengths) < 65535) ⌝ }
     requires { ⌜ length (now marks) ≡ 2048 ⌝ }
     requires { ⌜ Below stamp (now marks) ⌝ }
     ensures { λ r. ⌜ r ≡ firstFault (each (outlineFaults (now (fronts .entry)) (now (backs .entry))) first (split (now (lengths .entry)) (now (uses .entry)))) ⌝ }
@@ -85,7 +86,7 @@ fn disjoint_wires(
     stamp: usize,
 ) -> Check
     requires { ⌜ Named (now fronts) (now backs) (now uses) ⌝ }
-    requires { ⌜ (sum (now lengths) ≤ length (now uses)) × (first + length (now lengths) ≤ 1024) × (stamp < 65535) ⌝ }
+    requires { ⌜ (sum (now lengths) ≤ length (now uses)) × (first + length (now lengths) ≤ 2048) × (stamp < 65535) ⌝ }
     requires { ⌜ length (now marks) ≡ 2048 ⌝ }
     requires { ⌜ Below stamp (now marks) ⌝ }
     requires { ⌜ each (outlineFaults (now fronts) (now backs)) first (split (now lengths) (now uses)) ≡ [] ⌝ }
@@ -116,7 +117,7 @@ fn check_face(
     stamp: usize,
 ) -> Check
     requires { ⌜ Named (now fronts) (now backs) (now uses) ⌝ }
-    requires { ⌜ (sum (now lengths) ≤ length (now uses)) × (first + length (now lengths) ≤ 1024) × (stamp + length (now lengths) < 65535) ⌝ }
+    requires { ⌜ (sum (now lengths) ≤ length (now uses)) × (first + length (now lengths) ≤ 2048) × (stamp + length (now lengths) < 65535) ⌝ }
     requires { ⌜ length (now marks) ≡ 2048 ⌝ }
     requires { ⌜ Below stamp (now marks) ⌝ }
     ensures { λ r. ⌜ r ≡ firstFault (faceFaults (now (fronts .entry)) (now (backs .entry)) first (split (now (lengths .entry)) (now (uses .entry)))) ⌝ }
@@ -143,7 +144,7 @@ pub fn check_faces(
     backs: &[u16],
 ) -> Check
     requires { ⌜ Named (now fronts) (now backs) (now uses) ⌝ }
-    requires { ⌜ (n ≤ length (now counts)) × (n ≤ 256) × (length (now lengths) ≤ 1024) ⌝ }
+    requires { ⌜ (n ≤ length (now counts)) × (n ≤ 256) × (length (now lengths) ≤ 2048) ⌝ }
     requires { ⌜ (sum (take n (now counts)) ≡ length (now lengths)) × (sum (now lengths) ≡ length (now uses)) ⌝ }
     ensures { λ r. ⌜ r ≡ firstFault (faceRule (now (fronts .entry)) (now (backs .entry)) 0 (split (take n (now (counts .entry))) (split (now (lengths .entry)) (now (uses .entry))))) ⌝ }
 {

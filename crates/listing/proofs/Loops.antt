@@ -23,7 +23,7 @@ abbrev turnedWire : List ℕ → List ℕ
 turnedWire us = map turned (reverse us)
 
 -- element i from the back
-getD-reverse : (xs : List ℕ) (i : ℕ) → i < length xs → getD (reverse xs) i 0 ≡ getD xs (length xs - 1 - i) 0
+pub getD-reverse : (xs : List ℕ) (i : ℕ) → i < length xs → getD (reverse xs) i 0 ≡ getD xs (length xs - 1 - i) 0
 getD-reverse [] i h = absurd (not-suc-le-zero h)
 getD-reverse (x ∷ xs) i h =
     rw (reverse-cons x xs)

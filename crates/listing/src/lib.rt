@@ -22,7 +22,7 @@ pub fn turn(u: u16) -> u16
 }
 
 // Writes the uses of a wire from `at` on, the last first, each turned.
-fn put_turned(out: &mut [u16], at: usize, wire: &[u16])
+pub fn put_turned(out: &mut [u16], at: usize, wire: &[u16])
     requires { ⌜ at + length (now wire) ≤ length (now out) ⌝ }
     ensures { λ _. ⌜ now (out .exit) ≡ sets (now (out .entry)) at (map turned (reverse (now (wire .entry)))) ⌝ }
 {

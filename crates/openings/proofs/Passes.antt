@@ -50,7 +50,7 @@ module _ (front back : ℕ → ℕ) where
   unfolding pass
   one-some u kept n l e = rw (slots-get kept (front u) l, slot-some (getD kept (front u) 0) e, length-slots kept)
 
-map-append : (xs ys : List (List ℕ)) → map length (xs ++ ys) ≡ map length xs ++ map length ys
+pub map-append : (xs ys : List (List ℕ)) → map length (xs ++ ys) ≡ map length xs ++ map length ys
 map-append [] ys = refl
 map-append (x ∷ xs) ys = ap (λ (r : List ℕ). length x ∷ r) (map-append xs ys)
 

@@ -38,6 +38,7 @@ pub fn file_layout() -> Layout
 }
 
 // A pattern with its tables in full. Of each body the first `counts` records count.
+#[repr(C)]
 pub struct Pattern {
     pub counts: [usize; 7],
     pub points: [u32; 2048],

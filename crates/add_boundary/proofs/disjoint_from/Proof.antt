@@ -1,0 +1,24 @@
+-- The uses are stamped; then a point of the wire that has the stamp is shared.
+use borrow.Author.Needs.{needs}
+use Rattle.add_boundary.proofs.Laws.{apart-says}
+use Rattle.add_boundary.proofs.disjoint_from.Statement.{statement}
+use Rattle.add_boundary.proofs.disjoint_from.Tie as tie
+
+stamp-points-requires : tie.Need-stamp-points-requires
+stamp-points-requires c κs = search needs
+
+stamp-points-requires-2 : tie.Need-stamp-points-requires-2
+stamp-points-requires-2 c κs = search needs
+
+same-length : tie.Need-same-length
+same-length c = search needs
+
+returns : tie.Need-returns
+returns c =
+    let a = c .before .before .before .before .before .before .before .before .before .before .before .before .before .args in
+    let pre = c .before .before .before .before .before .before .before .before .before .before .before .before .before .pre in
+    apart-says (a .fronts .now) (a .backs .now) (a .wire .now) (a .own .now) (a .marks .now) _ (a .stamp) _ (pre .0) (pre .1 .0) (pre .1 .1 .0) (pre .1 .1 .1 .0) (pre .1 .1 .1 .1) (c .before .before .before .before .before .before .stamp-points .ensures .1) (c .before .before .stamp-points2 .ensures .0)
+
+pub disjoint-from-spec : {M : Type 1} → statement M
+disjoint-from-spec =
+    tie.close (tie.spec stamp-points-requires stamp-points-requires-2 same-length returns)

@@ -1,0 +1,250 @@
+// Adding an outline to a face (the Rust's Face::try_add_boundary). All is judged before anything is
+// written.
+ghost use mathlib.Core.Path.{_≡_};
+ghost use mathlib.Core.Bool.{true};
+ghost use mathlib.Core.List.{[], _∷_, _++_, map};
+ghost use Prim.Native.Nat.{_+_, _<_, _≤_, suc};
+ghost use lib.ListN.{length, take};
+ghost use lib.Seq.{sets};
+ghost use Rattle.lists.specs.Lists.{disjoint, flat, noDup};
+ghost use Rattle.lists.specs.Marks.{Below};
+ghost use Rattle.wire.specs.Wires.{Named, points};
+ghost use Rattle.face_edits.specs.FaceEdits.{wireError};
+ghost use Rattle.face_edits.specs.FaceAnswers.{addAnswer, addOut};
+ghost use Rattle.add_boundary.specs.Boundary.{boundaryAnswer, boundaryFaults, firstOf, partSizes, partUses, storedAs, writtenOf};
+use edit_answers::FaceAnswer;
+use edit_answers::FaceEditError;
+use errors::Check;
+use errors::WireCheck;
+use errors::WireError;
+use face_parts::FacePart;
+use face_parts::are_uses;
+use face_parts::face_columns;
+use face_parts::face_part;
+use listing::put_turned;
+use pattern::Pattern;
+use pattern::check;
+use wire::check_wire;
+use wire::put_uses;
+use wire::stamp_points;
+use words::index;
+
+// What is wrong with a wire that is to be added, if anything.
+pub enum Judged {
+    Fine,
+    Unfit(FaceEditError),
+}
+
+// What is wrong with a wire, as the refusal of a face edit.
+fn wire_error(e: WireError) -> FaceEditError
+    ensures { λ r. ⌜ r ≡ wireError e ⌝ }
+{
+    match e {
+        WireError::EmptyWire => FaceEditError::EmptyWire,
+        WireError::NotClosedWire => FaceEditError::NotClosedWire,
+        WireError::NotSimpleWire => FaceEditError::NotSimpleWire,
+    }
+}
+
+// Whether a wire that meets no point twice shares none with the uses `own`. The stamp is above all
+// marks.
+fn disjoint_from(
+    wire: &[u16],
+    own: &[u16],
+    fronts: &[u16],
+    backs: &[u16],
+    marks: &mut [u16],
+    stamp: u16,
+) -> bool
+    requires { ⌜ Named (now fronts) (now backs) (now wire) ⌝ }
+    requires { ⌜ Named (now fronts) (now backs) (now own) ⌝ }
+    requires { ⌜ noDup (points (now fronts) (now backs) (now wire)) ≡ true ⌝ }
+    requires { ⌜ length (now marks) ≡ 2048 ⌝ }
+    requires { ⌜ Below stamp (now marks) ⌝ }
+    ensures { λ r. ⌜ r ≡ disjoint (points (now (fronts .entry)) (now (backs .entry)) (now (wire .entry))) (points (now (fronts .entry)) (now (backs .entry)) (now (own .entry))) ⌝ }
+{
+    stamp_points(own, fronts, backs, marks, stamp);
+    !stamp_points(wire, fronts, backs, marks, stamp)
+}
+
+// Judges a wire for a face with the uses `own` and n wires, and lent lists of lengths m and k: 6, 7,
+// 8, 9, 17.
+fn judge_wire(
+    wire: &[u16],
+    own: &[u16],
+    n: usize,
+    fronts: &[u16],
+    backs: &[u16],
+    m: usize,
+    k: usize,
+) -> Judged
+    requires { ⌜ Named (now fronts) (now backs) (now wire) ⌝ }
+    requires { ⌜ Named (now fronts) (now backs) (now own) ⌝ }
+    requires { ⌜ (length (now own) ≤ 4096) × (n ≤ 1024) ⌝ }
+    ensures { λ r. ⌜ r ≡ firstOf (boundaryFaults (now (fronts .entry)) (now (backs .entry)) (now (own .entry)) n (now (wire .entry)) m k) ⌝ }
+{
+    let mut marks = [0u16; 2048];
+    let answer = check_wire(wire, fronts, backs, &mut marks, 1);
+    match answer {
+        WireCheck::Refused(e) => {
+            return Judged::Unfit(wire_error(e));
+        }
+        WireCheck::Simple => {}
+    }
+    if !disjoint_from(wire, own, fronts, backs, &mut marks, 2) {
+        return Judged::Unfit(FaceEditError::NotDisjointWires);
+    }
+    if own.len() + wire.len() > m {
+        return Judged::Unfit(FaceEditError::NoSpace);
+    }
+    if n + 1 > k {
+        return Judged::Unfit(FaceEditError::NoSpace);
+    }
+    Judged::Fine
+}
+
+// Writes a wire from `at` on, as a face with this sign stores it.
+fn put_stored(wire: &[u16], reversed: bool, out: &mut [u16], at: usize)
+    requires { ⌜ at + length (now wire) ≤ length (now out) ⌝ }
+    ensures { λ _. ⌜ now (out .exit) ≡ sets (now (out .entry)) at (storedAs reversed (now (wire .entry))) ⌝ }
+{
+    if reversed {
+        put_turned(out, at, wire);
+    } else {
+        put_uses(wire, out, at);
+    }
+}
+
+// Writes the uses of a face, then those of the wire.
+fn put_boundary(own: &[u16], wire: &[u16], reversed: bool, out: &mut [u16])
+    requires { ⌜ length (now own) + length (now wire) ≤ length (now out) ⌝ }
+    ensures { λ _. ⌜ now (out .exit) ≡ sets (now (out .entry)) 0 (now (own .entry) ++ storedAs reversed (now (wire .entry))) ⌝ }
+{
+    put_uses(own, out, 0);
+    put_stored(wire, reversed, out, own.len());
+}
+
+// Writes the wires' lengths of a face, then one more.
+fn put_length(sizes: &[u16], n: usize, out: &mut [u16])
+    requires { ⌜ (suc (length (now sizes)) ≤ length (now out)) × (n < 65536) ⌝ }
+    ensures { λ _. ⌜ now (out .exit) ≡ sets (now (out .entry)) 0 (now (sizes .entry) ++ (n ∷ [])) ⌝ }
+{
+    put_uses(sizes, out, 0);
+    out[sizes.len()] = n as u16;
+}
+
+// Adds a wire to a face that has the uses `own` and wires of the lengths `sizes`.
+fn add_wire(
+    wire: &[u16],
+    reversed: bool,
+    own: &[u16],
+    sizes: &[u16],
+    fronts: &[u16],
+    backs: &[u16],
+    uses: &mut [u16],
+    lens: &mut [u16],
+) -> FaceAnswer
+    requires { ⌜ Named (now fronts) (now backs) (now wire) ⌝ }
+    requires { ⌜ Named (now fronts) (now backs) (now own) ⌝ }
+    requires { ⌜ (length (now own) ≤ 4096) × (length (now sizes) ≤ 1024) ⌝ }
+    ensures { λ r. ⌜ r ≡ boundaryAnswer (now (fronts .entry)) (now (backs .entry)) (now (own .entry)) (length (now (sizes .entry))) (now (wire .entry)) (length (now (uses .entry))) (length (now (lens .entry))) ⌝ }
+    ensures { λ _. ⌜ now (uses .exit) ≡ sets (now (uses .entry)) 0 (writtenOf (now (fronts .entry)) (now (backs .entry)) (now (own .entry)) (length (now (sizes .entry))) (now (wire .entry)) (length (now (uses .entry))) (length (now (lens .entry))) (now (own .entry) ++ storedAs reversed (now (wire .entry)))) ⌝ }
+    ensures { λ _. ⌜ now (lens .exit) ≡ sets (now (lens .entry)) 0 (writtenOf (now (fronts .entry)) (now (backs .entry)) (now (own .entry)) (length (now (sizes .entry))) (now (wire .entry)) (length (now (uses .entry))) (length (now (lens .entry))) (now (sizes .entry) ++ (length (now (wire .entry)) ∷ []))) ⌝ }
+{
+    let n = sizes.len();
+    let judged = judge_wire(wire, own, n, fronts, backs, uses.len(), lens.len());
+    match judged {
+        Judged::Unfit(e) => {
+            return FaceAnswer::Not(e);
+        }
+        Judged::Fine => {}
+    }
+    put_boundary(own, wire, reversed, uses);
+    put_length(sizes, wire.len(), lens);
+    FaceAnswer::Written(own.len() + wire.len(), n + 1)
+}
+
+// The same for the face whose part of the tables is given; the first `ecount` of `fronts` and
+// `backs` have the ends of the edges.
+fn add_at<'a>(
+    wire: &[u16],
+    reversed: bool,
+    all: &'a [u16],
+    wires: &'a [u16],
+    part: FacePart,
+    fronts: &[u16],
+    backs: &[u16],
+    ecount: usize,
+    uses: &mut [u16],
+    lens: &mut [u16],
+) -> FaceAnswer
+    requires { ⌜ (ecount ≤ length (now fronts)) × (ecount ≤ length (now backs)) ⌝ }
+    requires { ⌜ (part .at + part .uses ≤ length (now all)) × (length (now all) ≤ 4096) × (part .wire + part .wires ≤ length (now wires)) × (length (now wires) ≤ 1024) ⌝ }
+    requires { ⌜ Named (take ecount (now fronts)) (take ecount (now backs)) (now wire) ⌝ }
+    requires { ⌜ Named (take ecount (now fronts)) (take ecount (now backs)) (partUses part (now all)) ⌝ }
+    ensures { λ r. ⌜ r ≡ boundaryAnswer (take ecount (now (fronts .entry))) (take ecount (now (backs .entry))) (partUses part (now (all .entry))) (part .wires) (now (wire .entry)) (length (now (uses .entry))) (length (now (lens .entry))) ⌝ }
+    ensures { λ _. ⌜ now (uses .exit) ≡ sets (now (uses .entry)) 0 (writtenOf (take ecount (now (fronts .entry))) (take ecount (now (backs .entry))) (partUses part (now (all .entry))) (part .wires) (now (wire .entry)) (length (now (uses .entry))) (length (now (lens .entry))) (partUses part (now (all .entry)) ++ storedAs reversed (now (wire .entry)))) ⌝ }
+    ensures { λ _. ⌜ now (lens .exit) ≡ sets (now (lens .entry)) 0 (writtenOf (take ecount (now (fronts .entry))) (take ecount (now (backs .entry))) (partUses part (now (all .entry))) (part .wires) (now (wire .entry)) (length (now (uses .entry))) (length (now (lens .entry))) (partSizes part (now (wires .entry)) ++ (length (now (wire .entry)) ∷ []))) ⌝ }
+{
+    let start = part.at;
+    let end = start + part.uses;
+    let first = part.wire;
+    let last = first + part.wires;
+    add_wire(
+        wire,
+        reversed,
+        &all[start..end],
+        &wires[first..last],
+        &fronts[0..ecount],
+        &backs[0..ecount],
+        uses,
+        lens,
+    )
+}
+
+// Writes the wires of face f of a pattern, given with a sign, and one more; refused, it writes
+// nothing.
+pub fn try_add_boundary(
+    p: Pattern,
+    f: u16,
+    wire: &[u16],
+    uses: &mut [u16],
+    lens: &mut [u16],
+) -> FaceAnswer
+    ensures { λ r. ⌜ r ≡ addAnswer p f (now (wire .entry)) (length (now (uses .entry))) (length (now (lens .entry))) ⌝ }
+    ensures { λ _. ⌜ now (uses .exit) ≡ sets (now (uses .entry)) 0 (flat (addOut p f (now (wire .entry)) (length (now (uses .entry))) (length (now (lens .entry))))) ⌝ }
+    ensures { λ _. ⌜ now (lens .exit) ≡ sets (now (lens .entry)) 0 (map length (addOut p f (now (wire .entry)) (length (now (uses .entry))) (length (now (lens .entry))))) ⌝ }
+{
+    let answer = check(p);
+    match answer {
+        Check::Refused(r) => {
+            return FaceAnswer::Refused(r);
+        }
+        Check::Accepted => {}
+    }
+    let face = index(f % 32768);
+    if face >= p.counts[4] {
+        return FaceAnswer::Not(FaceEditError::Unnamed);
+    }
+    let ecount = p.counts[1];
+    if !are_uses(wire, ecount) {
+        return FaceAnswer::Not(FaceEditError::Unnamed);
+    }
+    let columns = face_columns(p);
+    let counts = columns.counts;
+    let fronts = columns.fronts;
+    let backs = columns.backs;
+    let part = face_part(&counts, &p.wires, face);
+    add_at(
+        wire,
+        32768 <= f,
+        &p.uses,
+        &p.wires,
+        part,
+        &fronts,
+        &backs,
+        ecount,
+        uses,
+        lens,
+    )
+}

@@ -1,0 +1,116 @@
+-- Each refusal in its turn; then the outline is cut.
+use Prim.Native.Nat.{_<_}
+use mathlib.Core.Bool.{true}
+use mathlib.Core.Path.{_∙_, _≡_, ap, sym}
+use native.Mathlib.Omega.{arith}
+use lib.ListN.{getD, length, length-map}
+use borrow.Author.Needs.{needs}
+use borrow.Author.Tests.{not-false, not-true}
+use Rattle.cut_face.proofs.Top.{cut-asks, many-wires, no-face, no-uses, not-one, all-named, part-asks, part-is, top-cut, unnamed}
+use Rattle.face_parts.specs.Parts.{nameEdges, partIn}
+use Rattle.face_parts.specs.declared.FacePart.{FacePart}
+use Rattle.pattern.proofs.Counts.{Full}
+use Rattle.shell.specs.Shells.{faceNumber}
+use Rattle.shell_wires.proofs.Facts.{Fine, fine}
+use Rattle.cut_face.proofs.cut_checked.Statement.{statement}
+use Rattle.cut_face.proofs.cut_checked.Tie as tie
+
+full : (s : tie.Start) → Full (s .args .t1)
+full s =
+    let fields = s .good .0 .1 .1 in
+    record {
+      points = search needs;
+      edges = sym (length-map (s .args .t1 .edges) _) ∙ fields .1 .1 .0 .1 .0 .1;
+      uses = search needs;
+      wires = search needs;
+      faces = sym (length-map (s .args .t1 .faces) _) ∙ fields .1 .1 .1 .1 .1 .0 .1 .0 .1;
+      shells = search needs;
+      listings = search needs;
+    }
+
+seven : (s : tie.Start) → length (s .args .t1 .counts) ≡ 7
+seven s = search needs
+
+good : (s : tie.Start) → Fine (s .args .t1)
+good s = fine (s .args .t1) (s .pre) (seven s) (full s)
+
+-- the face is one of the pattern's
+here : (c : tie.Else1) → faceNumber (c .before .before .before .before .before .before .before .args .f) < getD (c .before .before .before .before .before .before .before .args .t1 .counts) 4 0
+here c = omega (arith, c .before .index .ensures .0)
+
+-- the uses name edges
+named : (c : tie.Else2) → let s = c .before .before .before .before .before .before .before .before .before in nameEdges (s .args .wire .now) (getD (s .args .t1 .counts) 1 0) ≡ true
+named c = sym (c .before .are-uses .ensures) ∙ not-false _ (c .if2 .left)
+
+-- its part
+part : (c : tie.After-face-part) → let s = c .before .before .before .before .before .before .before .before .before .before .before .before .before .before .before .before .before in c .face-part .result ≡ partIn (s .args .t1) (s .args .f)
+part c = let s = c .before .before .before .before .before .before .before .before .before .before .before .before .before .before .before .before .before in part-is (s .args .t1) (good s) (s .args .f) (here (c .before .before .before .before .before .before .before .before .before .before)) _ (c .before .before .before .before .before .before .before .face-columns .ensures) _ (c .before .before .before .before .before .before .before .before .before .before .before .index .ensures .0) _ (c .face-part .ensures)
+
+element-copy-out-edges : tie.Need-element-copy-out-edges
+element-copy-out-edges c = search needs
+
+element-copy-out-faces : tie.Need-element-copy-out-faces
+element-copy-out-faces c = search needs
+
+index-requires : tie.Need-index-requires
+index-requires c κs = search needs
+
+returns : tie.Need-returns
+returns c =
+    let s = c .before .before .before .before .before .before .before in
+    unnamed (s .args .t1) (s .args .f) (s .args .wire .now) (s .args .uses .now) (s .args .lens .now) (s .pre) (no-face (s .args .t1) (good s) (s .args .f) (s .args .wire .now) (omega (arith, c .before .index .ensures .0)))
+
+are-uses-requires : tie.Need-are-uses-requires
+are-uses-requires c κs = search needs
+
+returns-2 : tie.Need-returns-2
+returns-2 c =
+    let s = c .before .before .before .before .before .before .before .before .before in
+    unnamed (s .args .t1) (s .args .f) (s .args .wire .now) (s .args .uses .now) (s .args .lens .now) (s .pre) (no-uses (s .args .t1) (good s) (s .args .f) (s .args .wire .now) (here (c .before .before)) (sym (c .before .are-uses .ensures) ∙ not-true _ (c .if2 .taken)))
+
+face-columns-requires : tie.Need-face-columns-requires
+face-columns-requires c κs = search needs
+
+face-part-requires : tie.Need-face-part-requires
+face-part-requires c κs =
+    let s = c .before .before .before .before .before .before .before .before .before .before .before .before .before .before .before .before in
+    part-asks (s .args .t1) (good s) (s .args .f) (here (c .before .before .before .before .before .before .before .before .before)) _ (c .before .before .before .before .before .before .face-columns .ensures) _ (c .before .before .before .before .before .before .before .before .before .before .index .ensures .0)
+
+returns-3 : tie.Need-returns-3
+returns-3 c =
+    let s = c .before .before .before .before .before .before .before .before .before .before .before .before .before .before .before .before .before .before .before in
+    not-one (s .args .t1) (s .args .f) (s .args .wire .now) (s .args .uses .now) (s .args .lens .now) (s .pre) (all-named (s .args .t1) (good s) (s .args .f) (s .args .wire .now) (here (c .before .before .before .before .before .before .before .before .before .before .before .before)) (named (c .before .before .before .before .before .before .before .before .before .before))) (many-wires (s .args .t1) (good s) (s .args .f) (s .args .wire .now) (here (c .before .before .before .before .before .before .before .before .before .before .before .before)) (λ e. c .if3 .taken (ap (λ (r : FacePart). r .wires) (part (c .before .before)) ∙ e)))
+
+cut-part-requires : tie.Need-cut-part-requires
+cut-part-requires c κs =
+    let s = c .before .before .before .before .before .before .before .before .before .before .before .before .before .before .before .before .before .before .before .before .before .before .before .before .before .before .before .before .before in
+    cut-asks (s .args .t1) (good s) (s .args .f) (here (c .before .before .before .before .before .before .before .before .before .before .before .before .before .before .before .before .before .before .before .before .before .before)) _ (c .before .before .before .before .before .before .before .before .before .before .before .before .before .before .before .before .before .before .before .face-columns .ensures) _ (part (c .before .before .before .before .before .before .before .before .before .before .before .before)) (s .args .wire .now) (named (c .before .before .before .before .before .before .before .before .before .before .before .before .before .before .before .before .before .before .before .before))
+
+same-length : tie.Need-same-length
+same-length c = search needs
+
+same-length-2 : tie.Need-same-length-2
+same-length-2 c = search needs
+
+returns-4 : tie.Need-returns-4
+returns-4 c =
+    let s = c .before .before .before .before .before .before .before .before .before .before .before .before .before .before .before .before .before .before .before .before .before .before .before .before .before .before .before .before .before .before .before .before .before .before in
+    top-cut (s .args .t1) (good s) (s .args .f) (here (c .before .before .before .before .before .before .before .before .before .before .before .before .before .before .before .before .before .before .before .before .before .before .before .before .before .before .before)) _ (c .before .before .before .before .before .before .before .before .before .before .before .before .before .before .before .before .before .before .before .before .before .before .before .before .face-columns .ensures) _ (part (c .before .before .before .before .before .before .before .before .before .before .before .before .before .before .before .before .before)) (s .args .wire .now) (named (c .before .before .before .before .before .before .before .before .before .before .before .before .before .before .before .before .before .before .before .before .before .before .before .before .before)) (c .before .before .before .before .before .before .before .before .before .before .before .before .before .before .before .if3 .left) (s .args .uses .now) (s .args .lens .now) _ _ _ (c .before .before .before .before .cut-part .ensures)
+
+pub cut-checked-spec : {M : Type 1} → statement M
+cut-checked-spec =
+    tie.close
+    (tie.spec
+    element-copy-out-edges
+    element-copy-out-faces
+    index-requires
+    returns
+    are-uses-requires
+    returns-2
+    face-columns-requires
+    face-part-requires
+    returns-3
+    cut-part-requires
+    same-length
+    same-length-2
+    returns-4)

@@ -1,0 +1,3 @@
+pub mod AddTheorem
+pub mod CutTheorem
+pub mod GlueTheorem

@@ -1,0 +1,2 @@
+pub mod FaceEdits
+pub mod FaceAnswers

@@ -1,0 +1,1 @@
+// The edits of a face: definitions, and what holds of every edit. No code.
