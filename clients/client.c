@@ -1,0 +1,251 @@
+/* A client in C, and the test of the library from C: each call on document 01's triangle, then inputs
+ * that no file has. Prints nothing but what fails; exit status 0 if nothing does. */
+#include "wuzsanget.h"
+
+#include <stdio.h>
+#include <string.h>
+
+static int failures;
+
+static void expect(int fine, const char *what)
+{
+    if (!fine) {
+        printf("client.c: %s\n", what);
+        failures++;
+    }
+}
+
+/* Whether an answer has these numbers; the fourth value is 0 today. */
+static int is(wuzsanget_answer a, size_t outcome, size_t number, size_t first, size_t second,
+              size_t third)
+{
+    return a.outcome == outcome && a.number == number && a.first == first && a.second == second &&
+           a.third == third && a.fourth == 0;
+}
+
+#define EXPECT(call, ...) expect(is(call, __VA_ARGS__), #call " is not " #__VA_ARGS__)
+
+/* ---- a pattern file */
+
+static uint8_t *put(uint8_t *at, uint64_t number, int bytes)
+{
+    for (int k = 0; k < bytes; k++)
+        *at++ = (uint8_t)(number >> 8 * k);
+    return at;
+}
+
+static const uint64_t ONE = UINT64_C(0x3ff0000000000000);
+static const uint64_t HALF = UINT64_C(0x3fe0000000000000);
+
+/* The triangle with a fourth point that nothing uses: edges 0 to 1, 1 to 2, 2 to 0 with spans 0 to 1,
+ * outline 0+ 1+ 2+, one face, listed once. Returns the length. */
+static size_t triangle(uint8_t *file)
+{
+    static const uint32_t counts[7] = {4, 3, 3, 1, 1, 1, 1};
+    static const uint32_t sizes[7] = {4, 20, 2, 2, 4, 2, 2};
+    uint8_t *at = file;
+    uint32_t offset = 56;
+    for (int body = 0; body < 7; body++) {
+        at = put(put(at, offset, 4), counts[body], 4);
+        offset += counts[body] * sizes[body];
+    }
+    for (int point = 0; point < 4; point++)
+        at = put(at, 7000 + point, 4);
+    for (int edge = 0; edge < 3; edge++)
+        at = put(put(put(put(at, edge, 2), (edge + 1) % 3, 2), 0, 8), ONE, 8);
+    for (int use = 0; use < 3; use++)
+        at = put(at, use, 2);
+    at = put(at, 3, 2);            /* the wire's uses */
+    at = put(put(at, 1, 2), 5, 2); /* the face's wires, its surface */
+    at = put(at, 1, 2);            /* the shell's listings */
+    at = put(at, 0, 2);            /* the listing */
+    return (size_t)(at - file);
+}
+
+/* ---- lists that are lent, each entry with a mark that a call may not change without a reason */
+
+static uint8_t out[WUZSANGET_FILE];
+static uint8_t text[WUZSANGET_REPORT];
+static uint16_t uses[WUZSANGET_POINTS], lengths[WUZSANGET_POINTS];
+
+static void lend(void)
+{
+    memset(out, 0xa5, sizeof out);
+    memset(uses, 0xa5, sizeof uses);
+    memset(lengths, 0xa5, sizeof lengths);
+}
+
+/* Whether every entry from the n-th on, in bytes, is as it was lent. */
+static int kept(const void *list, size_t bytes, size_t n)
+{
+    for (; n < bytes; n++)
+        if (((const uint8_t *)list)[n] != 0xa5)
+            return 0;
+    return 1;
+}
+
+static int all_kept(void)
+{
+    return kept(out, sizeof out, 0) && kept(uses, sizeof uses, 0) && kept(lengths, sizeof lengths, 0);
+}
+
+/* ---- the calls on the triangle */
+
+static void reports(const uint8_t *file, size_t n)
+{
+    static const char said[] = "shell 0\ncondition Oriented\nconnected yes\nopening 0+ 1+ 2+\n"
+                               "lookups 4\ncomponent 0+\nsolid refused 12 shell 0\n";
+    EXPECT(wuzsanget_read(file, n), WUZSANGET_DONE, 0, 0, 0, 0);
+    EXPECT(wuzsanget_outline(file, n, 0), WUZSANGET_DONE, 0, 0, 3, 0);
+    EXPECT(wuzsanget_outline(file, n, 1), WUZSANGET_REFUSED, 3, 0, 0, 0);
+    expect(wuzsanget_report(file, n, text) == strlen(said), "the report's length");
+    expect(memcmp(text, said, strlen(said)) == 0, "the report");
+    EXPECT(wuzsanget_shell_condition(file, n, 0), WUZSANGET_DONE, 0, 2, 0, 0);
+    EXPECT(wuzsanget_shell_condition(file, n, 1), WUZSANGET_REFUSED, 3, 0, 0, 0);
+    EXPECT(wuzsanget_is_connected(file, n, 0), WUZSANGET_DONE, 0, 1, 0, 0);
+    EXPECT(wuzsanget_solid(file, n), WUZSANGET_REFUSED, 12, 0, 0, 0);
+
+    lend();
+    EXPECT(wuzsanget_extract_boundaries(file, n, 0, uses, lengths), WUZSANGET_DONE, 0, 1, 3, 4);
+    expect(uses[0] == 0 && uses[1] == 1 && uses[2] == 2 && lengths[0] == 3, "the opening");
+    expect(kept(uses, sizeof uses, 6) && kept(lengths, sizeof lengths, 2), "entries past it");
+    lend();
+    EXPECT(wuzsanget_connected_components(file, n, 0, uses, lengths), WUZSANGET_DONE, 0, 1, 1, 0);
+    expect(uses[0] == 0 && lengths[0] == 1, "the component");
+    lend();
+    EXPECT(wuzsanget_singular_vertices(file, n, 0, uses), WUZSANGET_DONE, 0, 0, 0, 0);
+    expect(all_kept(), "no singular point");
+}
+
+static void edits(const uint8_t *file, size_t n)
+{
+    static const uint16_t there_and_back[2] = {3, 3 | WUZSANGET_REVERSED};
+    static const uint16_t edge[1] = {0};
+    uint8_t edited[WUZSANGET_FILE];
+    wuzsanget_answer a;
+
+    lend();
+    EXPECT(wuzsanget_write(file, n, out, n - 1), WUZSANGET_REFUSED, 17, 0, 0, 0);
+    expect(all_kept(), "a list that is too short");
+    EXPECT(wuzsanget_write(file, n, out, sizeof out), WUZSANGET_DONE, 0, n, 0, 0);
+    expect(memcmp(out, file, n) == 0 && kept(out, sizeof out, n), "the file written anew");
+
+    /* A cut: two edges and one use more. The same cut again is 14. */
+    lend();
+    EXPECT(wuzsanget_cut_edge(file, n, 0, 0, 3, WUZSANGET_NOWHERE, out, sizeof out),
+           WUZSANGET_REFUSED, 16, 0, 0, 0);
+    expect(all_kept(), "a refused cut");
+    a = wuzsanget_cut_edge(file, n, 0, 0, 3, HALF, out, sizeof out);
+    expect(is(a, WUZSANGET_DONE, 0, 3, 4, n + 42), "a cut");
+    expect(kept(out, sizeof out, a.third), "entries past the edited file");
+    memcpy(edited, out, a.third);
+    EXPECT(wuzsanget_read(edited, a.third), WUZSANGET_DONE, 0, 0, 0, 0);
+    EXPECT(wuzsanget_cut_edge(edited, a.third, 0, 0, 3, HALF, out, sizeof out), WUZSANGET_REFUSED, 14,
+           0, 0, 0);
+
+    /* The point removed again: one edge more, one use less. */
+    EXPECT(wuzsanget_remove_vertex(edited, a.third, 0, 3, out, sizeof out), WUZSANGET_DONE, 0, 5, 0,
+           a.third + 18);
+    EXPECT(wuzsanget_remove_vertex(file, n, 0, 3, out, sizeof out), WUZSANGET_REFUSED, 23, 0, 0, 0);
+    EXPECT(wuzsanget_concat(file, n, 0, 1, out, sizeof out), WUZSANGET_DONE, 0, 3, 0, n + 20);
+    EXPECT(wuzsanget_concat(file, n, 0, 2, out, sizeof out), WUZSANGET_REFUSED, 29, 0, 0, 0);
+
+    /* The face cut along edge 0, which runs along its outline. */
+    lend();
+    EXPECT(wuzsanget_cut_by_wire(file, n, 0, edge, 1, uses, 5, lengths, 1), WUZSANGET_REFUSED, 17, 0,
+           0, 0);
+    expect(all_kept(), "lists that are too short");
+    EXPECT(wuzsanget_cut_by_wire(file, n, 0, edge, 1, uses, 5, lengths, 2), WUZSANGET_DONE, 0, 5, 2,
+           0);
+    expect(uses[0] == 1 && uses[1] == 2 && uses[2] == 0 && uses[3] == 0 &&
+               uses[4] == WUZSANGET_REVERSED && lengths[0] == 3 && lengths[1] == 2,
+           "the two outlines");
+    expect(kept(uses, sizeof uses, 10) && kept(lengths, sizeof lengths, 4), "entries past them");
+    EXPECT(wuzsanget_cut_by_edge(file, n, 0, 0, uses, 5, lengths, 2), WUZSANGET_DONE, 0, 5, 2, 0);
+    EXPECT(wuzsanget_add_boundary(file, n, 0, there_and_back, 2, uses, 9, lengths, 9),
+           WUZSANGET_REFUSED, 3, 0, 0, 0);
+    EXPECT(wuzsanget_add_boundary(file, n, 0, there_and_back, 0, uses, 9, lengths, 9),
+           WUZSANGET_REFUSED, 6, 0, 0, 0);
+    EXPECT(wuzsanget_glue(file, n, 0, 0, uses, 9, lengths, 9), WUZSANGET_DONE, 0, 3, 1, 0);
+    EXPECT(wuzsanget_glue(file, n, 0, WUZSANGET_REVERSED, uses, 9, lengths, 9), WUZSANGET_REFUSED, 20,
+           0, 0, 0);
+}
+
+/* ---- inputs that no file has: each call answers as the reading checks do, and writes nothing */
+
+static int same(wuzsanget_answer a, wuzsanget_answer b)
+{
+    return memcmp(&a, &b, sizeof a) == 0;
+}
+
+static void every_call(const uint8_t *file, size_t n, size_t number, uint16_t name, uint64_t bits)
+{
+    static const uint16_t wire[3] = {0, 65535, 32767};
+    wuzsanget_answer a = wuzsanget_read(file, n);
+    expect(a.outcome == WUZSANGET_UNREAD, "a file that no reading accepts");
+    lend();
+    expect(same(a, wuzsanget_outline(file, n, number)), "outline");
+    expect(same(a, wuzsanget_write(file, n, out, sizeof out)), "write");
+    expect(same(a, wuzsanget_shell_condition(file, n, number)), "shell_condition");
+    expect(same(a, wuzsanget_extract_boundaries(file, n, number, uses, lengths)),
+           "extract_boundaries");
+    expect(same(a, wuzsanget_is_connected(file, n, number)), "is_connected");
+    expect(same(a, wuzsanget_connected_components(file, n, number, uses, lengths)),
+           "connected_components");
+    expect(same(a, wuzsanget_singular_vertices(file, n, number, uses)), "singular_vertices");
+    expect(same(a, wuzsanget_solid(file, n)), "solid");
+    expect(same(a, wuzsanget_cut_edge(file, n, number, name, name, bits, out, sizeof out)),
+           "cut_edge");
+    expect(same(a, wuzsanget_remove_vertex(file, n, number, name, out, 0)), "remove_vertex");
+    expect(same(a, wuzsanget_concat(file, n, name, name, out, 1)), "concat");
+    expect(same(a, wuzsanget_add_boundary(file, n, name, wire, 3, uses, 0, lengths, 0)),
+           "add_boundary");
+    expect(same(a, wuzsanget_cut_by_wire(file, n, name, wire, 0, uses, 1, lengths, 1)),
+           "cut_by_wire");
+    expect(same(a, wuzsanget_cut_by_edge(file, n, name, name, uses, 2, lengths, 2)), "cut_by_edge");
+    expect(same(a, wuzsanget_glue(file, n, name, name, uses, 2048, lengths, 2048)), "glue");
+    expect(all_kept(), "a refusal writes nothing");
+    expect(wuzsanget_report(file, n, text) > 0, "report");
+}
+
+static uint64_t state = 1;
+
+static uint64_t random_bits(void)
+{
+    state = state * UINT64_C(6364136223846793005) + UINT64_C(1442695040888963407);
+    return state >> 16;
+}
+
+static void strange(void)
+{
+    static uint8_t file[100000];
+    every_call(file, 0, 0, 0, 0);
+    every_call(file, sizeof file, SIZE_MAX, 65535, UINT64_MAX);
+    for (int k = 0; k < 2000; k++) {
+        size_t n = random_bits() % 50000;
+        for (size_t i = 0; i < n; i++)
+            file[i] = (uint8_t)random_bits();
+        every_call(file, n, random_bits(), (uint16_t)random_bits(), random_bits());
+    }
+    /* The triangle with one byte changed is refused or read, and no call faults on it. */
+    size_t n = triangle(file);
+    for (size_t i = 0; i < n; i++)
+        for (int value = 0; value < 256; value += 15) {
+            triangle(file);
+            file[i] = (uint8_t)value;
+            if (wuzsanget_read(file, n).outcome == WUZSANGET_UNREAD)
+                every_call(file, n, 0, 0, HALF);
+            else
+                expect(wuzsanget_report(file, n, text) > 0, "a report");
+        }
+}
+
+int main(void)
+{
+    uint8_t file[WUZSANGET_FILE];
+    size_t n = triangle(file);
+    reports(file, n);
+    edits(file, n);
+    strange();
+    return failures != 0;
+}

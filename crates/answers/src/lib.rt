@@ -1,0 +1,225 @@
+// Answers as numbers, for callers outside the library: how a call ended, document 01's number of the
+// refusal, and the values.
+ghost use mathlib.Core.Path.{_≡_};
+ghost use Rattle.answers.specs.Values.{checkValues, componentsValues, conditionValues, connectedValues, cutValues, done, faceValues, joinValues, openingsValues, placeValues, refused as refusedAnswer, singularValues, solidValues, unread as unreadAnswer, writtenValues};
+use calls::Conditioned;
+use calls::Connected;
+use calls::Grouped;
+use calls::Opened;
+use calls::Points;
+use edit_answers::CutAnswer;
+use edit_answers::FaceAnswer;
+use edit_answers::JoinAnswer;
+use edit_answers::edit_number;
+use edit_answers::face_edit_number;
+use errors::Check;
+use errors::Refusal;
+use errors::body_of;
+use errors::number_of;
+use errors::record_of;
+use pattern::WirePlace;
+use solid::reason_number;
+use solid_calls::SolidAnswer;
+use words::index;
+use writer::Written;
+
+// An answer. `outcome` is 0 done, 1 refused by the reading checks, 2 refused by the call. `fourth` is
+// 0: room for one number more.
+#[repr(C)]
+pub struct Answer {
+    pub outcome: usize,
+    pub number: usize,
+    pub first: usize,
+    pub second: usize,
+    pub third: usize,
+    pub fourth: usize,
+}
+
+// Done, with these values.
+pub fn done_with(first: usize, second: usize, third: usize) -> Answer
+    ensures { λ r. ⌜ r ≡ done first second third ⌝ }
+{
+    Answer {
+        outcome: 0,
+        number: 0,
+        first,
+        second,
+        third,
+        fourth: 0,
+    }
+}
+
+// Refused by the reading checks, with body and record.
+pub fn unread(f: Refusal) -> Answer
+    ensures { λ r. ⌜ r ≡ unreadAnswer f ⌝ }
+{
+    Answer {
+        outcome: 1,
+        number: number_of(f),
+        first: body_of(f),
+        second: record_of(f),
+        third: 0,
+        fourth: 0,
+    }
+}
+
+// Refused by the call: a number, and for a solid the shell.
+pub fn refused(number: usize, first: usize) -> Answer
+    ensures { λ r. ⌜ r ≡ refusedAnswer number first ⌝ }
+{
+    Answer {
+        outcome: 2,
+        number,
+        first,
+        second: 0,
+        third: 0,
+        fourth: 0,
+    }
+}
+
+// The answer of the reading checks.
+pub fn check_values(a: Check) -> Answer
+    ensures { λ r. ⌜ r ≡ checkValues a ⌝ }
+{
+    match a {
+        Check::Accepted => done_with(0, 0, 0),
+        Check::Refused(f) => unread(f),
+    }
+}
+
+// The place of a wire: its start and its number of uses.
+pub fn place_values(a: WirePlace) -> Answer
+    ensures { λ r. ⌜ r ≡ placeValues a ⌝ }
+{
+    match a {
+        WirePlace::At(start, n) => done_with(start, n, 0),
+        WirePlace::Refused(f) => unread(f),
+        WirePlace::NoWire => refused(3, 0),
+    }
+}
+
+// A written file: its length.
+pub fn written_values(a: Written) -> Answer
+    ensures { λ r. ⌜ r ≡ writtenValues a ⌝ }
+{
+    match a {
+        Written::Length(n) => done_with(n, 0, 0),
+        Written::Refused(f) => unread(f),
+        Written::NoSpace => refused(17, 0),
+    }
+}
+
+pub fn condition_values(a: Conditioned) -> Answer
+    ensures { λ r. ⌜ r ≡ conditionValues a ⌝ }
+{
+    match a {
+        Conditioned::Is(w) => done_with(w.0 as usize, 0, 0),
+        Conditioned::Refused(f) => unread(f),
+        Conditioned::NoShell => refused(3, 0),
+    }
+}
+
+// How many openings, their uses in all, the lookups.
+pub fn openings_values(a: Opened) -> Answer
+    ensures { λ r. ⌜ r ≡ openingsValues a ⌝ }
+{
+    match a {
+        Opened::Found(k, m, l) => done_with(k, m, l),
+        Opened::Refused(f) => unread(f),
+        Opened::NoShell => refused(3, 0),
+    }
+}
+
+// 1 if connected, else 0.
+pub fn connected_values(a: Connected) -> Answer
+    ensures { λ r. ⌜ r ≡ connectedValues a ⌝ }
+{
+    match a {
+        Connected::Is(b) => {
+            if b {
+                done_with(1, 0, 0)
+            } else {
+                done_with(0, 0, 0)
+            }
+        }
+        Connected::Refused(f) => unread(f),
+        Connected::NoShell => refused(3, 0),
+    }
+}
+
+// How many components, their pairs in all.
+pub fn components_values(a: Grouped) -> Answer
+    ensures { λ r. ⌜ r ≡ componentsValues a ⌝ }
+{
+    match a {
+        Grouped::Found(k, m) => done_with(k, m, 0),
+        Grouped::Refused(f) => unread(f),
+        Grouped::NoShell => refused(3, 0),
+    }
+}
+
+// How many singular points.
+pub fn singular_values(a: Points) -> Answer
+    ensures { λ r. ⌜ r ≡ singularValues a ⌝ }
+{
+    match a {
+        Points::Found(k) => done_with(k, 0, 0),
+        Points::Refused(f) => unread(f),
+        Points::NoShell => refused(3, 0),
+    }
+}
+
+// Refused: the shell's own reason, and the shell.
+pub fn solid_values(a: SolidAnswer) -> Answer
+    ensures { λ r. ⌜ r ≡ solidValues a ⌝ }
+{
+    match a {
+        SolidAnswer::Accepted => done_with(0, 0, 0),
+        SolidAnswer::Refused(e) => {
+            let reason = e.reason;
+            refused(reason_number(reason), e.shell)
+        }
+        SolidAnswer::Unread(f) => unread(f),
+    }
+}
+
+// The new edges of a cut, and the length of the edited file as it was written.
+pub fn cut_values(a: CutAnswer, w: Written) -> Answer
+    ensures { λ r. ⌜ r ≡ cutValues a w ⌝ }
+{
+    match a {
+        CutAnswer::Cut(e, g) => match w {
+            Written::Length(n) => done_with(index(e.0), index(g.0), n),
+            Written::Refused(f) => unread(f),
+            Written::NoSpace => refused(17, 0),
+        },
+        CutAnswer::Refused(f) => unread(f),
+        CutAnswer::Not(e) => refused(edit_number(e), 0),
+    }
+}
+
+// The new edge of a join, and the length of the edited file as it was written.
+pub fn join_values(a: JoinAnswer, w: Written) -> Answer
+    ensures { λ r. ⌜ r ≡ joinValues a w ⌝ }
+{
+    match a {
+        JoinAnswer::Joined(e) => match w {
+            Written::Length(n) => done_with(index(e.0), 0, n),
+            Written::Refused(f) => unread(f),
+            Written::NoSpace => refused(17, 0),
+        },
+        JoinAnswer::Refused(f) => unread(f),
+        JoinAnswer::Not(e) => refused(edit_number(e), 0),
+    }
+}
+
+// How many uses and how many wires were written.
+pub fn face_values(a: FaceAnswer) -> Answer
+    ensures { λ r. ⌜ r ≡ faceValues a ⌝ }
+{
+    match a {
+        FaceAnswer::Written(m, k) => done_with(m, k, 0),
+        FaceAnswer::Refused(f) => unread(f),
+        FaceAnswer::Not(e) => refused(face_edit_number(e), 0),
+    }
+}

@@ -1,0 +1,31 @@
+-- A call on an accepted file, and on a refused one.
+use mathlib.Core.Path.{_∙_, _≡_, ap, sym}
+use Rattle.answers.specs.Values.{unread}
+use Rattle.answers.specs.declared.Answer.{Answer}
+use Rattle.errors.specs.declared.Check.{Check}
+use Rattle.errors.specs.declared.Check.the-variants.{Accepted, Refused}
+use Rattle.errors.specs.declared.Refusal.{Refusal}
+use Rattle.file_reports.specs.Read.{afterRead, whenRead}
+use Rattle.reader.specs.declared.Reading.{Reading}
+
+-- r is what the reader handed back
+module _ (r s : Reading) (e : r ≡ s) where
+  module _ (h : r .answer ≡ Accepted) where
+    accepted : s .answer ≡ Accepted
+    accepted = sym (ap (λ (x : Reading). x .answer) e) ∙ h
+
+    pub when-accepted : {a : Answer} (f : Reading → Answer) → a ≡ f r → a ≡ whenRead (s .answer) (f s)
+    when-accepted f q = q ∙ ap f e ∙ sym (ap (λ (k : Check). whenRead k (f s)) accepted)
+
+    pub after-accepted {ℓ} : {A : Type ℓ} {x : A} (before : A) (f : Reading → A) → x ≡ f r → x ≡ afterRead (s .answer) before (f s)
+    after-accepted before f q = q ∙ ap f e ∙ sym (ap (λ (k : Check). afterRead k before (f s)) accepted)
+
+  module _ (f : Refusal) (h : r .answer ≡ Refused f) where
+    turned-down : s .answer ≡ Refused f
+    turned-down = sym (ap (λ (x : Reading). x .answer) e) ∙ h
+
+    pub when-refused : {a : Answer} (b : Answer) → a ≡ unread f → a ≡ whenRead (s .answer) b
+    when-refused b q = q ∙ sym (ap (λ (k : Check). whenRead k b) turned-down)
+
+    pub after-refused {ℓ} : {A : Type ℓ} (before after : A) → before ≡ afterRead (s .answer) before after
+    after-refused before after = sym (ap (λ (k : Check). afterRead k before after) turned-down)

@@ -1,0 +1,56 @@
+use mathlib.Core.Path.{_∙_, ap, refl}
+use Rattle.answers.specs.Values.{writtenValues}
+use borrow.Author.Needs.{needs}
+use Rattle.reader.specs.declared.Reading.{Reading}
+use Rattle.writer.specs.Writing.{written, writtenBytes}
+use Rattle.file_reports.proofs.Read.{after-accepted, when-accepted}
+use Rattle.file_reports.proofs.rewrite_file.Statement.{statement}
+use Rattle.file_reports.proofs.rewrite_file.Tie as tie
+
+read-requires : tie.Need-read-requires
+read-requires c κs = search needs
+
+enum-known-checked : tie.Need-enum-known-checked
+enum-known-checked c = search needs
+
+unread-requires : tie.Need-unread-requires
+unread-requires c κs = search needs
+
+enum-told : tie.Need-enum-told
+enum-told c = search needs
+
+write-requires : tie.Need-write-requires
+write-requires c κs = search needs
+
+written-values-requires : tie.Need-written-values-requires
+written-values-requires c κs = search needs
+
+returns : tie.Need-returns
+returns c = rw (← c .before .before .before .before .read .ensures, c .before .before .checked .given .1) (c .unread .ensures, refl)
+
+same-length : tie.Need-same-length
+same-length c = search needs
+
+returns-2 : tie.Need-returns-2
+returns-2 c =
+    let w = c .before .before .before .write .ensures in
+    let r = c .before .before .before .before .before .before .before .before .read in
+    let o = c .before .before .before .before .before .before .before .before .before .before .before .args .out .now in
+    let h = c .before .before .before .before .before .before .enum-told .given .1 in (
+      when-accepted _ _ (r .ensures) h (λ (x : Reading). writtenValues (written (x .pattern) o)) (c .written-values .ensures ∙ ap writtenValues (w .0)),
+      after-accepted _ _ (r .ensures) h o (λ (x : Reading). writtenBytes (x .pattern) o) (w .1),
+    )
+
+pub rewrite-file-spec : {M : Type 1} → statement M
+rewrite-file-spec =
+    tie.close
+    (tie.spec
+    read-requires
+    enum-known-checked
+    unread-requires
+    enum-told
+    write-requires
+    written-values-requires
+    returns
+    same-length
+    returns-2)

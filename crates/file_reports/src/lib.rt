@@ -1,0 +1,163 @@
+// Reading, writing and the reports as calls on a pattern file in memory, with answers in numbers.
+ghost use mathlib.Core.Path.{_≡_};
+ghost use mathlib.Core.List.{map};
+ghost use lib.ListN.{length};
+ghost use lib.Seq.{sets};
+ghost use Rattle.lists.specs.Lists.{flat};
+ghost use Rattle.file_reports.specs.FileReports.{fileCheck, fileComponents, fileComponentsOut, fileCondition, fileConnected, fileOpenings, fileOpeningsOut, fileOutline, fileSingular, fileSingularOut, fileSolid, fileWritten, fileWrittenBytes};
+use answers::Answer;
+use answers::check_values;
+use answers::components_values;
+use answers::condition_values;
+use answers::connected_values;
+use answers::openings_values;
+use answers::place_values;
+use answers::singular_values;
+use answers::solid_values;
+use answers::unread;
+use answers::written_values;
+use calls::connected_components;
+use calls::extract_boundaries;
+use calls::is_connected;
+use calls::shell_condition;
+use calls::singular_vertices;
+use errors::Check;
+use pattern::wire_place;
+use reader::read;
+use solid_calls::try_new;
+use writer::write;
+
+// The reading checks of a file.
+pub fn check_file(file: &[u8]) -> Answer
+    ensures { λ r. ⌜ r ≡ fileCheck (now (file .entry)) ⌝ }
+{
+    let reading = read(file);
+    let checked = reading.answer;
+    check_values(checked)
+}
+
+// Where the uses of wire w stand in the use list.
+pub fn file_outline(file: &[u8], w: usize) -> Answer
+    ensures { λ r. ⌜ r ≡ fileOutline (now (file .entry)) w ⌝ }
+{
+    let reading = read(file);
+    let checked = reading.answer;
+    match checked {
+        Check::Refused(f) => unread(f),
+        Check::Accepted => {
+            let p = reading.pattern;
+            place_values(wire_place(p, w))
+        }
+    }
+}
+
+// Reads a file and writes its pattern.
+pub fn rewrite_file(file: &[u8], out: &mut [u8]) -> Answer
+    ensures { λ r. ⌜ r ≡ fileWritten (now (file .entry)) (now (out .entry)) ⌝ }
+    ensures { λ _. ⌜ now (out .exit) ≡ fileWrittenBytes (now (file .entry)) (now (out .entry)) ⌝ }
+{
+    let reading = read(file);
+    let checked = reading.answer;
+    match checked {
+        Check::Refused(f) => unread(f),
+        Check::Accepted => {
+            let p = reading.pattern;
+            written_values(write(p, out))
+        }
+    }
+}
+
+// The condition of shell n.
+pub fn file_condition(file: &[u8], n: usize) -> Answer
+    ensures { λ r. ⌜ r ≡ fileCondition (now (file .entry)) n ⌝ }
+{
+    let reading = read(file);
+    let checked = reading.answer;
+    match checked {
+        Check::Refused(f) => unread(f),
+        Check::Accepted => {
+            let p = reading.pattern;
+            condition_values(shell_condition(p, n))
+        }
+    }
+}
+
+// The openings of shell n.
+pub fn file_openings(file: &[u8], n: usize, out: &mut [u16; 2048], lens: &mut [u16; 2048]) -> Answer
+    ensures { λ r. ⌜ r ≡ fileOpenings (now (file .entry)) n ⌝ }
+    ensures { λ _. ⌜ now (out .exit) ≡ sets (now (out .entry)) 0 (flat (fileOpeningsOut (now (file .entry)) n)) ⌝ }
+    ensures { λ _. ⌜ now (lens .exit) ≡ sets (now (lens .entry)) 0 (map length (fileOpeningsOut (now (file .entry)) n)) ⌝ }
+{
+    let reading = read(file);
+    let checked = reading.answer;
+    match checked {
+        Check::Refused(f) => unread(f),
+        Check::Accepted => {
+            let p = reading.pattern;
+            openings_values(extract_boundaries(p, n, out, lens))
+        }
+    }
+}
+
+// Whether shell n is connected.
+pub fn file_connected(file: &[u8], n: usize) -> Answer
+    ensures { λ r. ⌜ r ≡ fileConnected (now (file .entry)) n ⌝ }
+{
+    let reading = read(file);
+    let checked = reading.answer;
+    match checked {
+        Check::Refused(f) => unread(f),
+        Check::Accepted => {
+            let p = reading.pattern;
+            connected_values(is_connected(p, n))
+        }
+    }
+}
+
+// The components of shell n.
+pub fn file_components(file: &[u8], n: usize, out: &mut [u16; 512], lens: &mut [u16; 512]) -> Answer
+    ensures { λ r. ⌜ r ≡ fileComponents (now (file .entry)) n ⌝ }
+    ensures { λ _. ⌜ now (out .exit) ≡ sets (now (out .entry)) 0 (flat (fileComponentsOut (now (file .entry)) n)) ⌝ }
+    ensures { λ _. ⌜ now (lens .exit) ≡ sets (now (lens .entry)) 0 (map length (fileComponentsOut (now (file .entry)) n)) ⌝ }
+{
+    let reading = read(file);
+    let checked = reading.answer;
+    match checked {
+        Check::Refused(f) => unread(f),
+        Check::Accepted => {
+            let p = reading.pattern;
+            components_values(connected_components(p, n, out, lens))
+        }
+    }
+}
+
+// The singular points of shell n.
+pub fn file_singular(file: &[u8], n: usize, out: &mut [u16; 2048]) -> Answer
+    ensures { λ r. ⌜ r ≡ fileSingular (now (file .entry)) n ⌝ }
+    ensures { λ _. ⌜ now (out .exit) ≡ sets (now (out .entry)) 0 (fileSingularOut (now (file .entry)) n) ⌝ }
+{
+    let reading = read(file);
+    let checked = reading.answer;
+    match checked {
+        Check::Refused(f) => unread(f),
+        Check::Accepted => {
+            let p = reading.pattern;
+            singular_values(singular_vertices(p, n, out))
+        }
+    }
+}
+
+// Whether the shells make a solid.
+pub fn file_solid(file: &[u8]) -> Answer
+    ensures { λ r. ⌜ r ≡ fileSolid (now (file .entry)) ⌝ }
+{
+    let reading = read(file);
+    let checked = reading.answer;
+    match checked {
+        Check::Refused(f) => unread(f),
+        Check::Accepted => {
+            let p = reading.pattern;
+            solid_values(try_new(p))
+        }
+    }
+}

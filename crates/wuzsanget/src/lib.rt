@@ -1,0 +1,216 @@
+// The static library for clients: every callable part on a pattern file in memory, with C's calling
+// convention. include/wuzsanget.h says what each takes, returns and leaves behind.
+ghost use mathlib.Core.Path.{_≡_};
+ghost use mathlib.Core.List.{[], _∷_, map};
+ghost use lib.ListN.{length};
+ghost use lib.Seq.{sets};
+ghost use Rattle.lists.specs.Lists.{flat};
+ghost use Rattle.file_edits.specs.FileEdits.{fileConcat, fileConcatBytes, fileCut, fileCutBytes, fileRemove, fileRemoveBytes};
+ghost use Rattle.file_face_edits.specs.FileFaceEdits.{fileAdd, fileAddOut, fileCutFace, fileCutFaceOut, fileGlue, fileGlueOut};
+ghost use Rattle.file_reports.specs.FileReports.{fileCheck, fileComponents, fileComponentsOut, fileCondition, fileConnected, fileOpenings, fileOpeningsOut, fileOutline, fileSingular, fileSingularOut, fileSolid, fileWritten, fileWrittenBytes};
+ghost use Rattle.report_text.specs.Report.{reportOf};
+use answers::Answer;
+use file_edits::file_concat;
+use file_edits::file_cut;
+use file_edits::file_remove;
+use file_face_edits::file_add;
+use file_face_edits::file_cut_by_edge;
+use file_face_edits::file_cut_by_wire;
+use file_face_edits::file_glue;
+use file_reports::check_file;
+use file_reports::file_components;
+use file_reports::file_condition;
+use file_reports::file_connected;
+use file_reports::file_openings;
+use file_reports::file_outline;
+use file_reports::file_singular;
+use file_reports::file_solid;
+use file_reports::rewrite_file;
+use report_text::report;
+
+#[no_mangle]
+pub extern "C" fn wuzsanget_read(file: &[u8]) -> Answer
+    ensures { λ r. ⌜ r ≡ fileCheck (now (file .entry)) ⌝ }
+{
+    check_file(file)
+}
+
+#[no_mangle]
+pub extern "C" fn wuzsanget_outline(file: &[u8], wire: usize) -> Answer
+    ensures { λ r. ⌜ r ≡ fileOutline (now (file .entry)) wire ⌝ }
+{
+    file_outline(file, wire)
+}
+
+#[no_mangle]
+pub extern "C" fn wuzsanget_write(file: &[u8], out: &mut [u8]) -> Answer
+    ensures { λ r. ⌜ r ≡ fileWritten (now (file .entry)) (now (out .entry)) ⌝ }
+    ensures { λ _. ⌜ now (out .exit) ≡ fileWrittenBytes (now (file .entry)) (now (out .entry)) ⌝ }
+{
+    rewrite_file(file, out)
+}
+
+#[no_mangle]
+pub extern "C" fn wuzsanget_report(file: &[u8], text: &mut [u8; 1126400]) -> usize
+    ensures { λ r. ⌜ r ≡ length (reportOf (now (file .entry))) ⌝ }
+    ensures { λ _. ⌜ now (text .exit) ≡ sets (now (text .entry)) 0 (reportOf (now (file .entry))) ⌝ }
+{
+    report(file, text)
+}
+
+#[no_mangle]
+pub extern "C" fn wuzsanget_shell_condition(file: &[u8], shell: usize) -> Answer
+    ensures { λ r. ⌜ r ≡ fileCondition (now (file .entry)) shell ⌝ }
+{
+    file_condition(file, shell)
+}
+
+#[no_mangle]
+pub extern "C" fn wuzsanget_extract_boundaries(
+    file: &[u8],
+    shell: usize,
+    uses: &mut [u16; 2048],
+    lengths: &mut [u16; 2048],
+) -> Answer
+    ensures { λ r. ⌜ r ≡ fileOpenings (now (file .entry)) shell ⌝ }
+    ensures { λ _. ⌜ now (uses .exit) ≡ sets (now (uses .entry)) 0 (flat (fileOpeningsOut (now (file .entry)) shell)) ⌝ }
+    ensures { λ _. ⌜ now (lengths .exit) ≡ sets (now (lengths .entry)) 0 (map length (fileOpeningsOut (now (file .entry)) shell)) ⌝ }
+{
+    file_openings(file, shell, uses, lengths)
+}
+
+#[no_mangle]
+pub extern "C" fn wuzsanget_is_connected(file: &[u8], shell: usize) -> Answer
+    ensures { λ r. ⌜ r ≡ fileConnected (now (file .entry)) shell ⌝ }
+{
+    file_connected(file, shell)
+}
+
+#[no_mangle]
+pub extern "C" fn wuzsanget_connected_components(
+    file: &[u8],
+    shell: usize,
+    listings: &mut [u16; 512],
+    lengths: &mut [u16; 512],
+) -> Answer
+    ensures { λ r. ⌜ r ≡ fileComponents (now (file .entry)) shell ⌝ }
+    ensures { λ _. ⌜ now (listings .exit) ≡ sets (now (listings .entry)) 0 (flat (fileComponentsOut (now (file .entry)) shell)) ⌝ }
+    ensures { λ _. ⌜ now (lengths .exit) ≡ sets (now (lengths .entry)) 0 (map length (fileComponentsOut (now (file .entry)) shell)) ⌝ }
+{
+    file_components(file, shell, listings, lengths)
+}
+
+#[no_mangle]
+pub extern "C" fn wuzsanget_singular_vertices(
+    file: &[u8],
+    shell: usize,
+    points: &mut [u16; 2048],
+) -> Answer
+    ensures { λ r. ⌜ r ≡ fileSingular (now (file .entry)) shell ⌝ }
+    ensures { λ _. ⌜ now (points .exit) ≡ sets (now (points .entry)) 0 (fileSingularOut (now (file .entry)) shell) ⌝ }
+{
+    file_singular(file, shell, points)
+}
+
+#[no_mangle]
+pub extern "C" fn wuzsanget_solid(file: &[u8]) -> Answer
+    ensures { λ r. ⌜ r ≡ fileSolid (now (file .entry)) ⌝ }
+{
+    file_solid(file)
+}
+
+#[no_mangle]
+pub extern "C" fn wuzsanget_cut_edge(
+    file: &[u8],
+    shell: usize,
+    edge: u16,
+    point: u16,
+    parameter: u64,
+    out: &mut [u8],
+) -> Answer
+    ensures { λ r. ⌜ r ≡ fileCut (now (file .entry)) shell edge point parameter (now (out .entry)) ⌝ }
+    ensures { λ _. ⌜ now (out .exit) ≡ fileCutBytes (now (file .entry)) shell edge point parameter (now (out .entry)) ⌝ }
+{
+    file_cut(file, shell, edge, point, parameter, out)
+}
+
+#[no_mangle]
+pub extern "C" fn wuzsanget_remove_vertex(
+    file: &[u8],
+    shell: usize,
+    point: u16,
+    out: &mut [u8],
+) -> Answer
+    ensures { λ r. ⌜ r ≡ fileRemove (now (file .entry)) shell point (now (out .entry)) ⌝ }
+    ensures { λ _. ⌜ now (out .exit) ≡ fileRemoveBytes (now (file .entry)) shell point (now (out .entry)) ⌝ }
+{
+    file_remove(file, shell, point, out)
+}
+
+#[no_mangle]
+pub extern "C" fn wuzsanget_concat(file: &[u8], a: u16, b: u16, out: &mut [u8]) -> Answer
+    ensures { λ r. ⌜ r ≡ fileConcat (now (file .entry)) a b (now (out .entry)) ⌝ }
+    ensures { λ _. ⌜ now (out .exit) ≡ fileConcatBytes (now (file .entry)) a b (now (out .entry)) ⌝ }
+{
+    file_concat(file, a, b, out)
+}
+
+#[no_mangle]
+pub extern "C" fn wuzsanget_add_boundary(
+    file: &[u8],
+    face: u16,
+    wire: &[u16],
+    uses: &mut [u16],
+    lengths: &mut [u16],
+) -> Answer
+    ensures { λ r. ⌜ r ≡ fileAdd (now (file .entry)) face (now (wire .entry)) (length (now (uses .entry))) (length (now (lengths .entry))) ⌝ }
+    ensures { λ _. ⌜ now (uses .exit) ≡ sets (now (uses .entry)) 0 (flat (fileAddOut (now (file .entry)) face (now (wire .entry)) (length (now (uses .entry))) (length (now (lengths .entry))))) ⌝ }
+    ensures { λ _. ⌜ now (lengths .exit) ≡ sets (now (lengths .entry)) 0 (map length (fileAddOut (now (file .entry)) face (now (wire .entry)) (length (now (uses .entry))) (length (now (lengths .entry))))) ⌝ }
+{
+    file_add(file, face, wire, uses, lengths)
+}
+
+#[no_mangle]
+pub extern "C" fn wuzsanget_cut_by_wire(
+    file: &[u8],
+    face: u16,
+    wire: &[u16],
+    uses: &mut [u16],
+    lengths: &mut [u16],
+) -> Answer
+    ensures { λ r. ⌜ r ≡ fileCutFace (now (file .entry)) face (now (wire .entry)) (length (now (uses .entry))) (length (now (lengths .entry))) ⌝ }
+    ensures { λ _. ⌜ now (uses .exit) ≡ sets (now (uses .entry)) 0 (flat (fileCutFaceOut (now (file .entry)) face (now (wire .entry)) (length (now (uses .entry))) (length (now (lengths .entry))))) ⌝ }
+    ensures { λ _. ⌜ now (lengths .exit) ≡ sets (now (lengths .entry)) 0 (map length (fileCutFaceOut (now (file .entry)) face (now (wire .entry)) (length (now (uses .entry))) (length (now (lengths .entry))))) ⌝ }
+{
+    file_cut_by_wire(file, face, wire, uses, lengths)
+}
+
+#[no_mangle]
+pub extern "C" fn wuzsanget_cut_by_edge(
+    file: &[u8],
+    face: u16,
+    edge: u16,
+    uses: &mut [u16],
+    lengths: &mut [u16],
+) -> Answer
+    ensures { λ r. ⌜ r ≡ fileCutFace (now (file .entry)) face (edge ∷ []) (length (now (uses .entry))) (length (now (lengths .entry))) ⌝ }
+    ensures { λ _. ⌜ now (uses .exit) ≡ sets (now (uses .entry)) 0 (flat (fileCutFaceOut (now (file .entry)) face (edge ∷ []) (length (now (uses .entry))) (length (now (lengths .entry))))) ⌝ }
+    ensures { λ _. ⌜ now (lengths .exit) ≡ sets (now (lengths .entry)) 0 (map length (fileCutFaceOut (now (file .entry)) face (edge ∷ []) (length (now (uses .entry))) (length (now (lengths .entry))))) ⌝ }
+{
+    file_cut_by_edge(file, face, edge, uses, lengths)
+}
+
+#[no_mangle]
+pub extern "C" fn wuzsanget_glue(
+    file: &[u8],
+    face: u16,
+    other: u16,
+    uses: &mut [u16],
+    lengths: &mut [u16],
+) -> Answer
+    ensures { λ r. ⌜ r ≡ fileGlue (now (file .entry)) face other (length (now (uses .entry))) (length (now (lengths .entry))) ⌝ }
+    ensures { λ _. ⌜ now (uses .exit) ≡ sets (now (uses .entry)) 0 (flat (fileGlueOut (now (file .entry)) face other (length (now (uses .entry))) (length (now (lengths .entry))))) ⌝ }
+    ensures { λ _. ⌜ now (lengths .exit) ≡ sets (now (lengths .entry)) 0 (map length (fileGlueOut (now (file .entry)) face other (length (now (uses .entry))) (length (now (lengths .entry))))) ⌝ }
+{
+    file_glue(file, face, other, uses, lengths)
+}
