@@ -13,10 +13,11 @@ use Rattle.curve.specs.declared.Halves.the-variants.{Both, Refused}
 use Rattle.curve.specs.declared.Parameter.{Parameter}
 use Rattle.cut_edge.proofs.Stored.{edge-at}
 use Rattle.cut_edge.proofs.Wires.{cuts-has, cuts-long, each-same, uses-flagged}
-use Rattle.cut_edge.specs.Flags.{cutFlagged, cutsWhere, usesWhere}
-use Rattle.cut_edge.specs.Judgement.{judgement, laterFaults}
-use Rattle.cut_edge.specs.declared.Judgement.{Judgement}
-use Rattle.cut_edge.specs.declared.Judgement.the-variants.{Accepted, Not}
+use Rattle.cut_wires.specs.Halves.{cutFlagged}
+use Rattle.cut_faults.specs.Flags.{cutsWhere, usesWhere}
+use Rattle.cut_faults.specs.Judgement.{judgement, laterFaults}
+use Rattle.cut_faults.specs.declared.Judgement.{Judgement}
+use Rattle.cut_faults.specs.declared.Judgement.the-variants.{Accepted, Not}
 use Rattle.edge.proofs.Laws.{noEdge}
 use Rattle.edge.specs.Edges.{backNumber, edge, frontNumber, isSpan}
 use Rattle.edge.specs.Uses.{edgeNumber}

@@ -6,8 +6,8 @@ use native.Mathlib.Numerals.{add-one}
 use native.Mathlib.Omega.{arith}
 use lib.ListN.{List·getD-map, getD, length, length-set, set, take}
 use lib.Seq.{getD-set-other, getD-set-same, getD-take, set-getD, sets}
-use Rattle.cut_edge.proofs.Halves.{against, along, turned-small}
-use Rattle.cut_edge.specs.Halves.{Halved}
+use Rattle.cut_wires.proofs.Halves.{against, along, turned-small}
+use Rattle.cut_wires.specs.Halves.{Halved}
 use Rattle.edge.proofs.Laws.{noEdge}
 use Rattle.edge.specs.Edges.{backNumber, edge, frontNumber}
 use Rattle.edge.specs.Uses.{edgeNumber, frontOf, turned}

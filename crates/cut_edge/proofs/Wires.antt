@@ -9,9 +9,10 @@ use native.Mathlib.Omega.{arith}
 use lib.Dec.{eqb, ltb}
 use lib.ListN.{List·getD-eq-default, drop, getD, length, length-append, length-drop, length-take, take}
 use borrow.Author.Tests.{eq-eqb, eqb-true, lt-ltb, ltb-false, ltb-true}
-use Rattle.cut_edge.proofs.Flags.{cuts-next, cuts-none, found-at, found-has, has-next, has-none, isAt}
-use Rattle.cut_edge.proofs.Halves.{halves-long}
-use Rattle.cut_edge.specs.Flags.{cutFlagged, cutsWhere, usesWhere}
+use Rattle.cut_faults.proofs.Flags.{cuts-next, cuts-none, found-at, found-has, has-next, has-none, isAt}
+use Rattle.cut_wires.proofs.Halves.{halves-long}
+use Rattle.cut_wires.specs.Halves.{cutFlagged}
+use Rattle.cut_faults.specs.Flags.{cutsWhere, usesWhere}
 use Rattle.edge.specs.Uses.{edgeNumber}
 use Rattle.lists.proofs.Count.{bit}
 use Rattle.lists.proofs.Laws.{cases, has-append, left-true, right-true}

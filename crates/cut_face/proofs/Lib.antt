@@ -1,3 +1,2 @@
-pub mod Few
-pub mod Laws
+pub mod Parts
 pub mod Top

@@ -10,8 +10,9 @@ use lib.Dec.{eqb, ltb}
 use lib.ListN.{drop, getD, length, take}
 use lib.Seq.{length-take-le, sets, take-all}
 use borrow.Author.Tests.{le-leb, le-ltb, lt-leb, lt-ltb, ne-eqb}
-use Rattle.cut_face.proofs.Laws.{Owes}
-use Rattle.cut_face.specs.Cuts.{Ends, UsesOf, begins, cutAfter, cutAlong, cutOutline, cutTwo, ends, firstOf, fromEnd, keeps, outcome, secondOf, stop}
+use Rattle.cut_results.proofs.Results.{Owes}
+use Rattle.cut_results.specs.Results.{Ends, UsesOf, cutAfter, cutTwo, firstOf, keeps, outcome, secondOf}
+use Rattle.cut_outline.specs.Cuts.{begins, cutAlong, cutOutline, ends, fromEnd, stop}
 use Rattle.edge.specs.Edges.{backNumber, frontNumber}
 use Rattle.edge.specs.Uses.{backOf, edgeNumber, frontOf}
 use Rattle.edit_answers.specs.Answers.{judged}

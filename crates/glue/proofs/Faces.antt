@@ -35,7 +35,8 @@ use Rattle.shell.specs.Openings.{Kept}
 use Rattle.shell.specs.Shells.{faceNumber}
 use Rattle.shell_edits.proofs.Remove.{end-named}
 use Rattle.shell_wires.proofs.Facts.{Fine, backs-long, fronts-long, records-fine}
-use Rattle.glue.specs.Glues.{Columns, Shown, Within, Wrote, restFaults}
+use Rattle.glue_walk.specs.Walks.{Columns, Within}
+use Rattle.glue_wires.specs.Glues.{Shown, Wrote, restFaults}
 
 module _ (p : Pattern) (s : Fine p) where
   abbrev points : ℕ

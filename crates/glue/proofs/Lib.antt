@@ -1,6 +1,2 @@
-pub mod Keeping
-pub mod Meeting
-pub mod Chaining
-pub mod Every
-pub mod Judging
+pub mod Places
 pub mod Faces

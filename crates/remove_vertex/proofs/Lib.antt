@@ -1,4 +1,2 @@
-pub mod Endings
-pub mod Wires
 pub mod Removals
 pub mod Stored

@@ -1,62 +1,30 @@
--- The refusals of a removal in sequence, and the wires and corners that the code finds.
-use Prim.Native.Nat.{_+_, _-_, _<_, _≤_, suc, zero, ℕ}
+-- The refusals of a removal in sequence, and the wires that the code finds.
+use Prim.Native.Nat.{_-_, _<_, _≤_, suc, zero, ℕ}
 use Prim.{⊥}
-use mathlib.Core.Bool.{Bool, _&&_, _||_, false, not, true, true≢false}
-use mathlib.Core.List.{List, [], _++_, _∷_, map}
+use mathlib.Core.Bool.{Bool, _&&_, false, true, true≢false}
+use mathlib.Core.List.{List, [], _∷_}
 use mathlib.Core.Logic.{⊎-elim}
-use mathlib.Core.Path.{_∙_, _≡_, ap, refl, sym}
+use mathlib.Core.Path.{_≡_, ap, refl, sym}
 use native.Mathlib.Omega.{arith}
-use lib.Dec.{eqb, leb, ltb}
-use lib.ListN.{List·getD-eq-default, List·getD-map, drop, getD, length, length-drop, replicate, take}
-use lib.Seq.{length-take-le}
-use borrow.Author.Tests.{eq-eqb, le-leb, le-ltb, lt-leb, lt-ltb, ltb-true, ltb-false, ne-eqb}
+use lib.Dec.{leb, ltb}
+use lib.ListN.{List·getD-eq-default, getD, length}
+use borrow.Author.Tests.{le-leb, le-ltb, lt-leb, lt-ltb, ltb-true, ltb-false}
 use Rattle.concat.specs.Joins.{joint}
 use Rattle.concat.specs.declared.Joint.the-variants.{Not as Joint·Not, Whole}
-use Rattle.edge.specs.Uses.{edgeNumber}
 use Rattle.edge.specs.declared.Edge.{Edge}
 use Rattle.edit_answers.specs.declared.EditError.{EditError}
-use Rattle.edit_answers.specs.declared.EditError.the-variants.{NotOneOrTwoWires, SharedFace, Unmatched, Unnamed}
+use Rattle.edit_answers.specs.declared.EditError.the-variants.{NotOneOrTwoWires, SharedFace, Unnamed}
 use Rattle.lists.proofs.Count.{All}
-use Rattle.lists.proofs.Laws.{cases, length-split}
-use Rattle.lists.proofs.Parts.{all-place, only-same}
-use Rattle.lists.proofs.Split.{getD-split}
-use Rattle.lists.specs.Lists.{has, only, padded, pick, split, sum, unless}
+use Rattle.lists.proofs.Laws.{cases}
+use Rattle.lists.proofs.Parts.{all-place}
+use Rattle.lists.specs.Lists.{has, only}
 use Rattle.pattern.specs.Contents.{Content}
-use Rattle.remove_vertex.proofs.Endings.{getD-padded}
-use Rattle.remove_vertex.specs.Endings.{endingOf, endsAt, flagged}
-use Rattle.remove_vertex.specs.Removals.{fit, pairEdge, pairFaults, removal}
-use Rattle.remove_vertex.specs.declared.Corner.{Corner}
-use Rattle.remove_vertex.specs.declared.Ending.{Ending}
+use Rattle.endings.specs.Endings.{endingOf, endsAt}
+use Rattle.remove_vertex.specs.Removals.{pairFaults, removal}
+use Rattle.endings.specs.declared.Ending.{Ending}
 use Rattle.remove_vertex.specs.declared.Removal.{Removal}
 use Rattle.remove_vertex.specs.declared.Removal.the-variants.{Joins, Not}
-use Rattle.shell_edits.specs.Edits.{endUse, endingWires, joinFaults, lastWire, matched, nextUse, removeFaults, sharesFace, firstWire}
-
--- ---- the two corners
-module _ (e : Ending) (a b : Corner) where
-  pub fit-one : e .number < 2 → true ≡ fit e a b
-  fit-one h = rw (lt-ltb (e .number) 2 h)
-
-  pub fit-two : 2 ≤ e .number → edgeNumber (a .ending) ≡ edgeNumber (b .next) → eqb (edgeNumber (b .ending)) (edgeNumber (a .next)) ≡ fit e a b
-  fit-two h m = rw (le-ltb (e .number) 2 h, eq-eqb (edgeNumber (a .ending)) (edgeNumber (b .next)) m)
-
-  pub fit-none : 2 ≤ e .number → (edgeNumber (a .ending) ≡ edgeNumber (b .next) → ⊥) → false ≡ fit e a b
-  fit-none h m = rw (le-ltb (e .number) 2 h, ne-eqb (edgeNumber (a .ending)) (edgeNumber (b .next)) m)
-
--- ---- the wires with a use that ends at the point
-module _ (fronts backs : List ℕ) (v : ℕ) (wires uses ws : List ℕ) where
-  pub flags-are : {flags : List Bool} → flags ≡ padded 1024 false (map (endsAt fronts backs v) (split wires uses))
-      → flagged flags ws ≡ only (λ (w : ℕ). endsAt fronts backs v (getD (split wires uses) w [])) ws
-  unfolding has
-  flags-are {flags} made =
-      let xs = split wires uses in
-      let g : List ℕ → Bool = endsAt fronts backs v in
-      let same : (w : ℕ) → getD flags w false ≡ g (getD xs w []) =
-      λ w. ap (λ (r : List Bool). getD r w false) made ∙ getD-padded (1024 - length (map g xs)) false (map g xs) w ∙ List·getD-map g xs w [] in
-      only-same (λ (w : ℕ). getD flags w false) (λ (w : ℕ). g (getD xs w [])) ws (everywhere same ws)
-    where
-      everywhere : {q r : ℕ → Bool} → ((w : ℕ) → q w ≡ r w) → (xs : List ℕ) → All (λ (w : ℕ). q w ≡ r w) xs
-      everywhere h [] = tt
-      everywhere h (x ∷ xs) = (h x, everywhere h xs)
+use Rattle.shell_edits.specs.Edits.{endingWires, lastWire, removeFaults, sharesFace, firstWire}
 
 -- those that pass a test pass it
 passes : (q : ℕ → Bool) (xs : List ℕ) → All (λ (x : ℕ). q x ≡ true) (only q xs)

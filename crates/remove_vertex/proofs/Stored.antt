@@ -1,12 +1,12 @@
 -- What the reading checks say of the tables; the storage after a removal.
-use Prim.Native.Nat.{_+_, _-_, _<_, _≤_, suc, zero, ℕ}
+use Prim.Native.Nat.{_+_, _<_, _≤_, suc, ℕ}
 use mathlib.Core.Bool.{Bool, _&&_, _||_, false, not, true, true≢false}
 use mathlib.Core.List.{List, [], _++_, _∷_, map}
-use mathlib.Core.Path.{_∙_, _≡_, ap, refl, sym}
+use mathlib.Core.Path.{_∙_, _≡_, ap, sym}
 use native.Mathlib.Omega.{arith}
 use lib.Dec.{eqb, leb, ltb}
-use lib.ListN.{drop, getD, length, length-drop, length-map, set, take}
-use lib.Seq.{length-take-le, sets}
+use lib.ListN.{getD, length, length-map, set, take}
+use lib.Seq.{sets}
 use borrow.Author.Tests.{ltb-true}
 use Rattle.concat.proofs.Judged.{edge-read, joined-is, joins-are, room-there}
 use Rattle.concat.specs.Joins.{appended, endFaults, joinedEnds, joint}
@@ -25,31 +25,26 @@ use Rattle.face.specs.Faces.{faceFaults, faceRule, outlineFaults, sharedFaults,
 use Rattle.lists.proofs.Count.{All, all-each, all-split}
 use Rattle.lists.proofs.Laws.{eqb-sym, length-split, map-take}
 use Rattle.lists.proofs.Parts.{all-flat, all-place, flat-split}
-use Rattle.lists.proofs.Split.{getD-split, walk-fits}
-use Rattle.lists.specs.Lists.{flat, noDup, only, split, sum, unless}
+use Rattle.lists.specs.Lists.{flat, noDup, only, split, unless}
 use Rattle.pattern.proofs.Counts.{edges-counted, wires-counted}
 use Rattle.pattern.proofs.Named.{ends-apart, faces-summed, use-named, wires-summed}
-use Rattle.pattern.specs.Checks.{contentFaults, countFaults, outlines, patternFaults, recordFaults}
+use Rattle.pattern.specs.Checks.{contentFaults, countFaults, outlines, recordFaults}
 use Rattle.pattern.specs.Contents.{Content, content}
 use Rattle.pattern.specs.declared.Pattern.{Pattern}
-use Rattle.remove_vertex.specs.Endings.{Paired, cornerOf, endingOf, endsAt, removedWire}
-use Rattle.remove_vertex.specs.declared.Corner.{Corner}
+use Rattle.endings.specs.Tables.{Paired, Tables}
+use Rattle.corners.specs.Corners.{cornerOf, removedWire, fit}
+use Rattle.endings.specs.Endings.{endingOf, endsAt}
+use Rattle.corners.specs.declared.Corner.{Corner}
 use Rattle.remove_vertex.proofs.Removals.{ending-inside}
-use Rattle.remove_vertex.specs.Removals.{Columns, Tables, fit, pairEdge, pairFaults, pairStored, pairWires}
-use Rattle.remove_vertex.specs.declared.Ending.{Ending}
-use Rattle.remove_vertex.proofs.Wires.{length-each}
+use Rattle.remove_vertex.specs.Removals.{Columns, pairEdge, pairFaults, pairStored, pairWires}
+use Rattle.endings.specs.declared.Ending.{Ending}
+use Rattle.corners.proofs.Wires.{length-each}
 use Rattle.shell.specs.Shells.{listingsOf}
 use Rattle.shell_edits.proofs.Storage.{seven-are}
 use Rattle.shell_edits.specs.Edits.{eachWire, edgeOf, endUse, endingWires, firstWire, joinFaults, joinedEdge, lastWire, listedWires, matched, nextUse, removeFaults, sharesFace, wiresIn, wiresOf}
-use Rattle.shell_wires.proofs.Facts.{Fine, backs-long, fronts-long, records-fine, stored-edited, uses-named, wires-sum}
+use Rattle.shell_wires.proofs.Facts.{Fine, backs-long, fronts-long, stored-edited, uses-named, wires-sum}
 use Rattle.wire.specs.Wires.{closed, points, runs, wireFaults}
-
--- part w has the length that is given
-pub part-long : (ns xs : List ℕ) (w : ℕ) → sum ns ≡ length xs → w < length ns → length (getD (split ns xs) w []) ≡ getD ns w 0
-part-long ns xs w e h =
-    let at = sum (take w ns) in
-    let fits : at + getD ns w 0 ≤ sum ns = walk-fits ns w at (getD ns w 0) (record { low = omega arith; here = refl }) h refl in
-    ap length (getD-split ns xs w) ∙ length-take-le (getD ns w 0) (drop at xs) (omega (arith, length-drop at xs))
+use Rattle.corners.proofs.Places.{part-long}
 
 -- ---- every wire has two uses or more
 module _ (fronts backs : List ℕ) where

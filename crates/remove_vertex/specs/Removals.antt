@@ -1,46 +1,27 @@
 -- The removal of a point, from the wires with a use that ends there.
-use Prim.Native.Nat.{ℕ, _+_, _<_, _≤_}
-use mathlib.Core.Bool.{Bool, not, _&&_, _||_}
-use mathlib.Core.List.{List, [], _∷_, _++_, map}
+use Prim.Native.Nat.{ℕ}
+use mathlib.Core.List.{List, [], map, _∷_, _++_}
+use lib.ListN.{length}
+use Rattle.endings.specs.declared.Ending.{Ending}
+use mathlib.Core.Bool.{_||_}
 use mathlib.Core.Path.{_≡_}
-use lib.Dec.{eqb, ltb}
-use lib.ListN.{getD, length, take}
-use Rattle.lists.specs.Lists.{flat, sum, unless}
+use lib.Dec.{ltb}
+use Rattle.lists.specs.Lists.{flat, unless}
 use Rattle.edge.specs.Edges.{backNumber, frontNumber}
-use Rattle.edge.specs.Uses.{edgeNumber}
 use Rattle.edge.specs.declared.Edge.{Edge}
-use Rattle.wire.specs.Wires.{Named}
 use Rattle.pattern.specs.Contents.{Content, content}
 use Rattle.pattern.specs.declared.Pattern.{Pattern}
 use Rattle.edit_answers.specs.declared.EditError.{EditError}
 use Rattle.edit_answers.specs.declared.EditError.the-variants.{Unmatched}
 use Rattle.shell_edits.specs.Answers.{storedIn}
-use Rattle.shell_edits.specs.Edits.{eachWire, edited, endUse, endingWires, joinFaults, joinedEdge, matched, nextUse, wiresIn}
-use Rattle.remove_vertex.specs.Endings.{Paired, endingOf, removedWire}
-use Rattle.remove_vertex.specs.declared.Corner.{Corner}
-use Rattle.remove_vertex.specs.declared.Ending.{Ending}
+use Rattle.shell_edits.specs.Edits.{eachWire, edited, endUse, joinFaults, joinedEdge, matched, nextUse, wiresIn}
+use Rattle.corners.specs.Corners.{removedWire}
 use Rattle.remove_vertex.specs.declared.Removal.{Removal}
 use Rattle.remove_vertex.specs.declared.Removal.the-variants.{Joins, Not}
-
--- the first uses, wires and edges of tables in storage: the uses name edges, every wire has two uses or more
-pub record Tables (uses : List ℕ) (ucount : ℕ) (wires : List ℕ) (wcount : ℕ) (fronts backs : List ℕ) (ecount : ℕ) : Type 0 where
-  pub uses-in : ucount ≤ length uses
-  pub few-uses : ucount ≤ 4096
-  pub wires-in : wcount ≤ length wires
-  pub few-wires : wcount ≤ 1024
-  pub fronts-in : ecount ≤ length fronts
-  pub backs-in : ecount ≤ length backs
-  pub named : Named (take ecount fronts) (take ecount backs) (take ucount uses)
-  pub summed : sum (take wcount wires) ≡ ucount
-  pub paired : Paired (take wcount wires)
 
 -- the ends of the edges in storage
 abbrev pub Columns : Pattern → List ℕ → List ℕ → Type 0
 Columns p fronts backs = (fronts ≡ map frontNumber (p .edges)) × (backs ≡ map backNumber (p .edges))
-
--- one wire, or the edge of each one's use is the edge of the other's next use
-abbrev pub fit : Ending → Corner → Corner → Bool
-fit e a b = ltb (e .number) 2 || (eqb (edgeNumber (a .ending)) (edgeNumber (b .next)) && eqb (edgeNumber (b .ending)) (edgeNumber (a .next)))
 
 -- the new edge: the last wire's pair, joined
 abbrev pub pairEdge : Content → ℕ → Ending → Edge

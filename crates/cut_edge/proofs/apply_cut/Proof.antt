@@ -7,7 +7,7 @@ use borrow.Author.Needs.{needs}
 use Rattle.cut_edge.proofs.Stored.{cut-done, new-halved, new-named}
 use Rattle.cut_edge.proofs.Wires.{each-long}
 use Rattle.cut_edge.proofs.apply_cut.Statement.{statement}
-use Rattle.cut_edge.specs.Flags.{cutFlagged}
+use Rattle.cut_wires.specs.Halves.{cutFlagged}
 use Rattle.lists.proofs.Laws.{length-split}
 use Rattle.lists.specs.Lists.{flat}
 use Rattle.pattern.proofs.Counts.{Full, wires-counted}

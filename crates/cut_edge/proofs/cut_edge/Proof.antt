@@ -1,7 +1,6 @@
 -- Each way out: refused by the checks, unnamed, judged, cut.
 use Prim.Native.Nat.{_<_}
 use mathlib.Core.Bool.{_&&_, true}
-use mathlib.Core.List.{[]}
 use mathlib.Core.Path.{_∙_, _≡_, ap, sym}
 use native.Mathlib.Omega.{arith}
 use lib.Dec.{ltb}

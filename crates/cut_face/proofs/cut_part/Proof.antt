@@ -1,7 +1,7 @@
 -- The part of the use list, and the first of the columns.
 use lib.ListN.{length}
 use borrow.Author.Needs.{needs}
-use Rattle.cut_face.proofs.Laws.{part-ends, part-same, part-short, stored-uses, wire-uses}
+use Rattle.cut_face.proofs.Parts.{part-ends, part-same, part-short, stored-uses, wire-uses}
 use Rattle.cut_face.proofs.cut_part.Statement.{statement}
 use Rattle.cut_face.proofs.cut_part.Tie as tie
 

@@ -3,7 +3,8 @@ use native.Mathlib.Omega.{arith}
 use borrow.Author.Needs.{needs}
 use Rattle.glue.proofs.glue_places.Statement.{statement}
 use Rattle.glue.proofs.glue_places.Tie as tie
-use Rattle.glue.proofs.Judging.{bare-long, bare-whole, first-part, next-part, shown-as, within-as}
+use Rattle.glue_wires.proofs.Judging.{first-part, within-as}
+use Rattle.glue.proofs.Places.{bare-long, bare-whole, next-part, shown-as}
 
 add-n : tie.Need-add-n
 add-n c = omega (arith, c .before .before .before .before .before .before .pre .0 .3, c .before .before .before .before .before .before .pre .0 .5)

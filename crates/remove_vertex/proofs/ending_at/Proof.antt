@@ -2,8 +2,7 @@ use native.Mathlib.Omega.{arith}
 use mathlib.Core.Path.{_∙_, _≡_, sym}
 use lib.ListN.{length, length-map}
 use Rattle.pattern.proofs.Counts.{Full}
-use Rattle.shell_wires.proofs.Facts.{Fine, fine}
-use Rattle.shell_wires.proofs.Facts.{faces-sum}
+use Rattle.shell_wires.proofs.Facts.{Fine, fine, faces-sum}
 use Rattle.shell_wires.proofs.Made.{own-are, own-names, part-inside}
 use Rattle.remove_vertex.proofs.Stored.{endings-are, tables}
 use borrow.Author.Needs.{needs}

@@ -6,9 +6,9 @@ use Rattle.shell_wires.proofs.Facts.{Fine, fine}
 use Rattle.pattern.specs.Contents.{content}
 use Rattle.remove_vertex.proofs.Removals.{faults-are, is-shared, many-wires, no-point, no-shell, no-wire, positive, removal-joins, removal-not}
 use Rattle.remove_vertex.proofs.Stored.{endings-inside}
-use Rattle.remove_vertex.specs.Endings.{endingOf}
+use Rattle.endings.specs.Endings.{endingOf}
 use Rattle.remove_vertex.specs.Removals.{pairEdge}
-use Rattle.remove_vertex.specs.declared.Ending.{Ending}
+use Rattle.endings.specs.declared.Ending.{Ending}
 use Rattle.shell_edits.specs.Edits.{endingWires, removeFaults}
 use Rattle.shell_wires.specs.declared.ShellWires.{ShellWires}
 use borrow.Author.Needs.{needs}

@@ -2,7 +2,7 @@ use native.Mathlib.Omega.{arith}
 use Prim.Native.Nat.{_<_}
 use mathlib.Core.List.{List, []}
 use mathlib.Core.Path.{_∙_, _≡_, ap, sym}
-use lib.ListN.{getD, length, length-map}
+use lib.ListN.{getD, length-map}
 use Rattle.concat.proofs.Stored.{judged-done, judged-not, judged-refused, next-is}
 use Rattle.concat.specs.Joins.{joint}
 use Rattle.edit_answers.specs.declared.EditError.{EditError}
@@ -13,7 +13,7 @@ use Rattle.pattern.specs.Checks.{contentFaults, countFaults, patternFaults}
 use Rattle.pattern.specs.Contents.{content}
 use Rattle.remove_vertex.proofs.Removals.{joins-whole, not-joint}
 use Rattle.remove_vertex.proofs.Stored.{removal-room}
-use Rattle.remove_vertex.specs.Endings.{endingOf}
+use Rattle.endings.specs.Endings.{endingOf}
 use Rattle.remove_vertex.specs.Removals.{pairEdge, pairStored}
 use Rattle.shell_edits.proofs.RemoveTheorem.{remove-pattern-accepted}
 use Rattle.shell_edits.specs.Answers.{afterRemove, nextEdge, storedIn}

@@ -1,3 +1,0 @@
-pub mod Flags
-pub mod Halves
-pub mod Judgement

@@ -1,0 +1,68 @@
+-- Each refusal in turn.
+use borrow.Author.Needs.{needs}
+use Rattle.cut_faults.proofs.Judging.{judge-curve, judge-edge, judge-edges, judge-fine, judge-met, judge-shared, judge-uses}
+use Rattle.cut_faults.proofs.judge.Statement.{statement}
+use Rattle.cut_faults.proofs.judge.Tie as tie
+
+returns : tie.Need-returns
+returns c =
+    let a = c .before .args in
+    judge-shared (a .shared) (a .met) (a .cuts) (a .halves) (a .ecount) (a .ucount) (c .if1 .taken)
+
+returns-2 : tie.Need-returns-2
+returns-2 c =
+    let a = c .before .before .args in
+    judge-met (a .shared) (a .met) (a .cuts) (a .halves) (a .ecount) (a .ucount) (c .before .if1 .left) (c .if2 .taken)
+
+returns-3 : tie.Need-returns-3
+returns-3 c =
+    let a = c .before .before .before .args in
+    judge-edge (a .shared) (a .met) (a .cuts) (a .halves) (a .ecount) (a .ucount) (c .before .before .if1 .left) (c .before .if2 .left) (c .if3 .taken)
+
+enum-told : tie.Need-enum-told
+enum-told c = search needs
+
+enum-known-halves : tie.Need-enum-known-halves
+enum-known-halves c = search needs
+
+add-if4 : tie.Need-add-if4
+add-if4 c = search needs
+
+returns-4 : tie.Need-returns-4
+returns-4 c =
+    let a = c .before .before .before .before .before .before .before .args in
+    judge-edges (a .shared) (a .met) (a .cuts) (a .halves) (a .ecount) (a .ucount) (c .before .before .before .before .before .before .if1 .left) (c .before .before .before .before .before .if2 .left) (c .before .before .before .before .if3 .left) (c .before .before .halves .given .1) (c .if4 .taken)
+
+add-if5 : tie.Need-add-if5
+add-if5 c = search needs
+
+returns-5 : tie.Need-returns-5
+returns-5 c =
+    let a = c .before .before .before .before .before .before .before .before .args in
+    judge-uses (a .shared) (a .met) (a .cuts) (a .halves) (a .ecount) (a .ucount) (c .before .before .before .before .before .before .before .if1 .left) (c .before .before .before .before .before .before .if2 .left) (c .before .before .before .before .before .if3 .left) (c .before .before .before .halves .given .1) (c .if5 .taken)
+
+returns-6 : tie.Need-returns-6
+returns-6 c =
+    let a = c .before .before .before .before .before .args in
+    judge-curve (a .shared) (a .met) (a .cuts) (a .halves) (a .ecount) (a .ucount) (c .before .before .before .before .if1 .left) (c .before .before .before .if2 .left) (c .before .before .if3 .left) (c .enum-told .given .1)
+
+returns-7 : tie.Need-returns-7
+returns-7 c =
+    let a = c .before .before .before .before .before .before .before .before .args in
+    judge-fine (a .shared) (a .met) (a .cuts) (a .halves) (a .ecount) (a .ucount) (c .before .before .before .before .before .before .before .if1 .left) (c .before .before .before .before .before .before .if2 .left) (c .before .before .before .before .before .if3 .left) (c .before .before .before .halves .given .1) (c .before .if4 .left) (c .if5 .left)
+
+pub judge-spec : {M : Type 1} → statement M
+judge-spec =
+    tie.close
+    (tie.spec
+    returns
+    returns-2
+    returns-3
+    enum-told
+    enum-known-halves
+    add-if4
+    returns-4
+    add-if5
+    returns-5
+    returns-6
+    returns-7)

@@ -1,0 +1,76 @@
+-- The uses of the wire from place i on.
+use Prim.Native.Nat.{_-_, _≤_}
+use mathlib.Core.List.{map}
+use mathlib.Core.Path.{_∙_, _≡_, sym}
+use native.Mathlib.Omega.{arith}
+use lib.ListN.{drop, length}
+use borrow.Author.Needs.{needs}
+use Rattle.cut_faults.proofs.Flags.{meets-off, meets-on, scan-here, scan-next, scan-past}
+use Rattle.cut_faults.proofs.wire_meets.Statement.{statement}
+use Rattle.edge.specs.Uses.{frontOf}
+use Rattle.lists.specs.Lists.{has}
+use Rattle.wire.proofs.Laws.{named-edge}
+use Rattle.wire.specs.Wires.{points}
+use Rattle.cut_faults.proofs.wire_meets.Tie as tie
+
+abbrev Inv-loop : tie.InvT-loop
+Inv-loop uses flag fronts backs p i₀ i = (i ≤ length uses) × (has p (points fronts backs uses) ≡ has p (map (frontOf fronts backs) (drop i uses)))
+
+abbrev μ-loop : tie.MeasureT-loop
+μ-loop uses flag fronts backs p i₀ i = length uses - i
+
+returns : tie.Need-returns Inv-loop μ-loop
+returns c = let a = c .before .before .before .before .args in meets-off (a .flag) (has (a .v .0) (map (frontOf (a .fronts .now) (a .backs .now)) (a .uses .now))) (c .if1 .taken)
+
+index-requires : tie.Need-index-requires Inv-loop μ-loop
+index-requires c κs = search needs
+
+loop-holds : tie.Need-loop-holds Inv-loop μ-loop
+loop-holds c = search needs
+
+mul-front-of : tie.Need-mul-front-of Inv-loop μ-loop
+mul-front-of c = search needs
+
+shared-slice-read-front-of : tie.Need-shared-slice-read-front-of Inv-loop μ-loop
+shared-slice-read-front-of c = search needs
+
+front-of-requires : tie.Need-front-of-requires Inv-loop μ-loop
+front-of-requires c κs = named-edge _ _ _ (c .before .before .before .before .before .before .before .before .pre) _ (c .before .loop-test .taken)
+
+returns-2 : tie.Need-returns-2 Inv-loop μ-loop
+returns-2 c = let a = c .before .before .before .before .before .before .before .before .before .before .args in
+    meets-on (a .flag) (frontOf (a .fronts .now) (a .backs .now)) (a .uses .now) (c .before .before .before .before .before .before .if1 .left) (c .before .before .before .before .before .index .ensures .0)
+    (c .before .before .before .before .loop .inv .1 ∙ scan-here (frontOf (a .fronts .now) (a .backs .now)) _ _ _ (c .before .before .before .loop-test .taken) (c .if2 .taken ∙ c .before .front-of .ensures))
+
+add-i : tie.Need-add-i Inv-loop μ-loop
+add-i c = search needs
+
+loop-less : tie.Need-loop-less Inv-loop μ-loop
+loop-less c = search needs
+
+loop-again : tie.Need-loop-again Inv-loop μ-loop
+loop-again c = let a = c .before .before .before .before .before .before .before .before .before .before .args in
+    (omega arith, c .before .before .before .before .loop .inv .1 ∙ scan-next (frontOf (a .fronts .now) (a .backs .now)) _ _ _ (c .before .before .before .loop-test .taken) (λ h. c .if2 .left (h ∙ sym (c .before .front-of .ensures))))
+
+returns-3 : tie.Need-returns-3 Inv-loop μ-loop
+returns-3 c = let a = c .before .before .before .before .before .before .before .args in
+    meets-on (a .flag) (frontOf (a .fronts .now) (a .backs .now)) (a .uses .now) (c .before .before .before .if1 .left) (c .before .before .index .ensures .0)
+    (c .before .loop .inv .1 ∙ scan-past (frontOf (a .fronts .now) (a .backs .now)) _ _ _ (c .loop-test .left))
+
+pub wire-meets-spec : {M : Type 1} → statement M
+wire-meets-spec =
+    tie.close
+    (tie.spec
+    Inv-loop
+    μ-loop
+    returns
+    index-requires
+    loop-holds
+    mul-front-of
+    shared-slice-read-front-of
+    front-of-requires
+    returns-2
+    add-i
+    loop-less
+    loop-again
+    returns-3)

@@ -1,0 +1,97 @@
+-- The wire's front is not on the outline, or the outline is cut there.
+use Prim.Native.Nat.{_-_, _<_, ℕ}
+use mathlib.Core.Path.{_∙_, _≡_, ap, sym}
+use native.Mathlib.Nat.{sub-zero}
+use native.Mathlib.Omega.{arith}
+use lib.ListN.{length, take}
+use lib.Seq.{length-take-le}
+use borrow.Author.Needs.{needs}
+use Rattle.cut_results.proofs.Few.{named-of}
+use Rattle.cut_outline.proofs.Laws.{end-some, part-named, part-none, part-some}
+use Rattle.cut_outline.specs.Cuts.{begins}
+use Rattle.wire.specs.Swaps.{endFrom}
+use Rattle.wire.specs.declared.Found.the-variants.{At}
+use Rattle.cut_outline.proofs.cut_along.Statement.{statement}
+use Rattle.cut_outline.proofs.cut_along.Tie as tie
+
+-- the uses of the outline
+part-long : (s : tie.Start) → length (take (s .args .n - 0) (s .args .along .now)) ≡ s .args .n
+part-long s = ap (λ (n : ℕ). length (take n (s .args .along .now))) (sub-zero (s .args .n)) ∙ length-take-le (s .args .n) (s .args .along .now) (s .pre .0 .0)
+
+-- where the front is
+place : (c : tie.After-found) → let s = c .before .before .before .before .before .before .before .before .before .before .before in endFrom (s .args .fronts .now) (s .args .backs .now) 0 (begins (s .args .fronts .now) (s .args .backs .now) (s .args .wire .now)) (take (s .args .n - 0) (s .args .along .now)) ≡ At (c .found .given .0 .0)
+place c =
+    let s = c .before .before .before .before .before .before .before .before .before .before .before in
+    ap (λ (v : ℕ). endFrom (s .args .fronts .now) (s .args .backs .now) 0 v (take (s .args .n - 0) (s .args .along .now))) (sym (c .before .before .before .first-point .ensures)) ∙ sym (c .before .before .find-end .ensures) ∙ c .found .given .1
+
+inside : (c : tie.After-found) → c .found .given .0 .0 < c .before .before .before .before .before .before .before .before .before .before .before .args .n
+inside c =
+    let s = c .before .before .before .before .before .before .before .before .before .before .before in
+    omega (arith, end-some (s .args .fronts .now) (s .args .backs .now) 0 (begins (s .args .fronts .now) (s .args .backs .now) (s .args .wire .now)) (take (s .args .n - 0) (s .args .along .now)) (c .found .given .0 .0) (place c) .1, part-long s)
+
+sub-part : tie.Need-sub-part
+sub-part c = search needs
+
+part-part-start : tie.Need-part-part-start
+part-part-start c = search needs
+
+part-part-end : tie.Need-part-part-end
+part-part-end c = search needs
+
+first-point-requires : tie.Need-first-point-requires
+first-point-requires c κs =
+    let s = c .before .before .before .before .before .before .before in
+    (s .pre .0 .2, named-of (s .args .fronts .now) (s .args .backs .now) (s .args .wire .now) (s .pre .1 .0) (s .pre .1 .1 .1))
+
+find-end-requires : tie.Need-find-end-requires
+find-end-requires c κs =
+    let s = c .before .before .before .before .before .before .before .before in
+    part-named (s .args .fronts .now) (s .args .backs .now) (s .args .along .now) (s .args .wire .now) (s .args .n) (s .pre .1 .0) (s .pre .1 .1 .0)
+
+enum-told : tie.Need-enum-told
+enum-told c = search needs
+
+enum-known-found : tie.Need-enum-known-found
+enum-known-found c = search needs
+
+add-cut-after : tie.Need-add-cut-after
+add-cut-after c = omega (arith, inside (c .before), c .before .before .before .before .before .before .before .before .before .before .before .before .pre .0 .1)
+
+cut-after-requires : tie.Need-cut-after-requires
+cut-after-requires c κs =
+    let s = c .before .before .before .before .before .before .before .before .before .before .before .before .before .before in
+    ((omega (arith, inside (c .before .before .before), part-long s), omega (arith, part-long s, s .pre .0 .1)), (s .pre .1 .0, (rw (sub-zero (s .args .n)) (s .pre .1 .1 .0), s .pre .1 .1 .1)))
+
+returns : tie.Need-returns
+returns c =
+    let s = c .before .before .before .before .before .before .before .before .before .before .before in
+    part-none (s .args .fronts .now) (s .args .backs .now) (s .args .along .now) (s .args .wire .now) (s .args .n) (s .args .uses .now) (s .args .lens .now) (ap (λ (v : ℕ). endFrom (s .args .fronts .now) (s .args .backs .now) 0 v (take (s .args .n - 0) (s .args .along .now))) (sym (c .before .before .before .first-point .ensures)) ∙ sym (c .before .before .find-end .ensures) ∙ c .enum-told .given .1)
+
+same-length : tie.Need-same-length
+same-length c = search needs
+
+same-length-2 : tie.Need-same-length-2
+same-length-2 c = search needs
+
+returns-2 : tie.Need-returns-2
+returns-2 c =
+    let s = c .before .before .before .before .before .before .before .before .before .before .before .before .before .before .before .before .before .before .before in
+    rw (← part-some (s .args .fronts .now) (s .args .backs .now) (s .args .along .now) (s .args .wire .now) (s .args .n) (length (s .args .uses .now)) (length (s .args .lens .now)) (c .before .before .before .before .before .before .before .before .found .given .0 .0) (place (c .before .before .before .before .before .before .before .before))) (c .before .before .before .before .cut-after .ensures)
+
+pub cut-along-spec : {M : Type 1} → statement M
+cut-along-spec =
+    tie.close
+    (tie.spec
+    sub-part
+    part-part-start
+    part-part-end
+    first-point-requires
+    find-end-requires
+    enum-told
+    enum-known-found
+    add-cut-after
+    cut-after-requires
+    returns
+    same-length
+    same-length-2
+    returns-2)

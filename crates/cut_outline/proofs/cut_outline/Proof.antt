@@ -1,0 +1,93 @@
+-- The wire has no use, or its back is not on the outline, or the outline is cut from there on.
+use Prim.Native.Nat.{_<_, ℕ}
+use mathlib.Core.Path.{_∙_, _≡_, ap, sym}
+use native.Mathlib.Omega.{arith}
+use lib.ListN.{length, replicate}
+use borrow.Author.Needs.{needs}
+use Rattle.cut_results.proofs.Few.{named-flipped, named-of, rotated-uses}
+use Rattle.cut_outline.proofs.Laws.{end-some, outline-empty, outline-none, outline-some, rotated-part}
+use Rattle.cut_outline.specs.Cuts.{ends}
+use Rattle.wire.specs.Swaps.{endFrom}
+use Rattle.wire.specs.declared.Found.the-variants.{At}
+use Rattle.cut_outline.proofs.cut_outline.Statement.{statement}
+use Rattle.cut_outline.proofs.cut_outline.Tie as tie
+
+-- where the back is
+place : (c : tie.After-found) → let s = c .before .before .before .before .before .before .before .before .before .before .before in endFrom (s .args .backs .now) (s .args .fronts .now) 0 (ends (s .args .fronts .now) (s .args .backs .now) (s .args .wire .now)) (s .args .outline .now) ≡ At (c .found .given .0 .0)
+place c =
+    let s = c .before .before .before .before .before .before .before .before .before .before .before in
+    ap (λ (v : ℕ). endFrom (s .args .backs .now) (s .args .fronts .now) 0 v (s .args .outline .now)) (sym (c .before .before .before .last-point .ensures)) ∙ sym (c .before .before .find-begin .ensures) ∙ c .found .given .1
+
+inside : (c : tie.After-found) → c .found .given .0 .0 < length (c .before .before .before .before .before .before .before .before .before .before .before .args .outline .now)
+inside c =
+    let s = c .before .before .before .before .before .before .before .before .before .before .before in
+    omega (arith, end-some (s .args .backs .now) (s .args .fronts .now) 0 (ends (s .args .fronts .now) (s .args .backs .now) (s .args .wire .now)) (s .args .outline .now) (c .found .given .0 .0) (place c) .1)
+
+returns : tie.Need-returns
+returns c =
+    let s = c .before .before .before .before .before .before .before in
+    outline-empty (s .args .fronts .now) (s .args .backs .now) (s .args .outline .now) (s .args .wire .now) (s .args .uses .now) (s .args .lens .now) (c .if1 .taken)
+
+last-point-requires : tie.Need-last-point-requires
+last-point-requires c κs =
+    let s = c .before .before .before .before .before .before .before in
+    (omega arith, named-of (s .args .fronts .now) (s .args .backs .now) (s .args .wire .now) (s .pre .1 .0) (s .pre .1 .1 .1))
+
+find-begin-requires : tie.Need-find-begin-requires
+find-begin-requires c κs =
+    let s = c .before .before .before .before .before .before .before .before in
+    named-flipped (s .args .fronts .now) (s .args .backs .now) (s .args .outline .now) (s .pre .1 .0) (s .pre .1 .1 .0)
+
+enum-told : tie.Need-enum-told
+enum-told c = search needs
+
+enum-known-found : tie.Need-enum-known-found
+enum-known-found c = search needs
+
+slice-aggregate-rotate-to : tie.Need-slice-aggregate-rotate-to
+slice-aggregate-rotate-to c = search needs
+
+rotate-to-requires : tie.Need-rotate-to-requires
+rotate-to-requires c κs = (omega (arith, inside (c .before .before)), omega (arith, c .before .before .before .before .before .before .before .before .before .before .before .before .before .pre .0))
+
+slice-aggregate-cut-along : tie.Need-slice-aggregate-cut-along
+slice-aggregate-cut-along c = search needs
+
+cut-along-requires : tie.Need-cut-along-requires
+cut-along-requires c κs =
+    let s = c .before .before .before .before .before .before .before .before .before .before .before .before .before .before .before .before .before .before in
+    ((omega (arith, s .pre .0), s .pre .0, omega arith), (s .pre .1 .0, (rw (rotated-part (s .args .fronts .now) (s .args .backs .now) (s .args .outline .now) (s .args .wire .now) (omega arith) (replicate {A = ℕ} 4096 0) _ (c .before .before .before .before .before .before .before .found .given .0 .0) (place (c .before .before .before .before .before .before .before)) (omega (arith, s .pre .0)) (c .before .before .before .before .rotate-to .ensures)) (rotated-uses (length (s .args .fronts .now)) (s .args .outline .now) (s .pre .1 .1 .0) (c .before .before .before .before .before .before .before .found .given .0 .0)), s .pre .1 .1 .1)))
+
+returns-2 : tie.Need-returns-2
+returns-2 c =
+    let s = c .before .before .before .before .before .before .before .before .before .before .before in
+    outline-none (s .args .fronts .now) (s .args .backs .now) (s .args .outline .now) (s .args .wire .now) (omega arith) (s .args .uses .now) (s .args .lens .now) (ap (λ (v : ℕ). endFrom (s .args .backs .now) (s .args .fronts .now) 0 v (s .args .outline .now)) (sym (c .before .before .before .last-point .ensures)) ∙ sym (c .before .before .find-begin .ensures) ∙ c .enum-told .given .1)
+
+same-length : tie.Need-same-length
+same-length c = search needs
+
+same-length-2 : tie.Need-same-length-2
+same-length-2 c = search needs
+
+returns-3 : tie.Need-returns-3
+returns-3 c =
+    let s = c .before .before .before .before .before .before .before .before .before .before .before .before .before .before .before .before .before .before .before .before .before .before .before in
+    rw (← outline-some (s .args .fronts .now) (s .args .backs .now) (s .args .outline .now) (s .args .wire .now) (omega arith) (replicate {A = ℕ} 4096 0) _ (c .before .before .before .before .before .before .before .before .before .before .before .before .found .given .0 .0) (length (s .args .uses .now)) (length (s .args .lens .now)) (place (c .before .before .before .before .before .before .before .before .before .before .before .before)) (omega (arith, s .pre .0)) (c .before .before .before .before .before .before .before .before .before .rotate-to .ensures)) (c .before .before .before .before .cut-along .ensures)
+
+pub cut-outline-spec : {M : Type 1} → statement M
+cut-outline-spec =
+    tie.close
+    (tie.spec
+    returns
+    last-point-requires
+    find-begin-requires
+    enum-told
+    enum-known-found
+    slice-aggregate-rotate-to
+    rotate-to-requires
+    slice-aggregate-cut-along
+    cut-along-requires
+    returns-2
+    same-length
+    same-length-2
+    returns-3)

@@ -1,0 +1,42 @@
+-- The last use decides.
+use Prim.Native.Nat.{_-_}
+use native.Mathlib.Omega.{arith}
+use lib.ListN.{length}
+use borrow.Author.Needs.{needs}
+use Rattle.wire.proofs.Laws.{named-edge}
+use Rattle.cut_outline.proofs.Laws.{last-is}
+use Rattle.cut_outline.proofs.last_point.Statement.{statement}
+use Rattle.cut_outline.proofs.last_point.Tie as tie
+
+sub-from-number : tie.Need-sub-from-number
+sub-from-number c = search needs
+
+mul-from-number : tie.Need-mul-from-number
+mul-from-number c = search needs
+
+shared-slice-read-from-number : tie.Need-shared-slice-read-from-number
+shared-slice-read-from-number c = search needs
+
+from-number-requires : tie.Need-from-number-requires
+from-number-requires c κs = search needs
+
+back-requires : tie.Need-back-requires
+back-requires c κs =
+    let s = c .before .before .before .before .before in
+    rw (c .from-number .ensures) (named-edge _ _ _ (s .pre .1) (length (s .args .wire .now) - 1) (omega (arith, s .pre .0)))
+
+returns : tie.Need-returns
+returns c =
+    let s = c .before .before .before .before .before .before in
+    last-is (s .args .fronts .now) (s .args .backs .now) (s .args .wire .now) (s .pre .0) _ _ (c .before .from-number .ensures) (c .back .ensures)
+
+pub last-point-spec : {M : Type 1} → statement M
+last-point-spec =
+    tie.close
+    (tie.spec
+    sub-from-number
+    mul-from-number
+    shared-slice-read-from-number
+    from-number-requires
+    back-requires
+    returns)

@@ -1,0 +1,64 @@
+-- A wire that is too long breaks the rule; else the two results are judged and written.
+use Prim.Native.Nat.{ℕ}
+use native.Mathlib.Omega.{arith}
+use lib.ListN.{length, replicate}
+use borrow.Author.Needs.{needs}
+use Rattle.cut_results.proofs.Few.{long-breaks}
+use Rattle.cut_results.proofs.Results.{after-long, after-made, made-named}
+use Rattle.cut_results.proofs.cut_after.Statement.{statement}
+use Rattle.cut_results.proofs.cut_after.Tie as tie
+
+returns : tie.Need-returns
+returns c =
+    let s = c .before .before .before .before .before .before .before in
+    after-long (s .args .fronts .now) (s .args .backs .now) (s .args .along .now) (s .args .wire .now) (s .args .uses .now) (s .args .lens .now) (s .args .k) (long-breaks (s .args .fronts .now) (s .args .backs .now) (s .args .along .now) (s .args .wire .now) (s .args .k) (s .pre .1 .0) (s .pre .1 .1 .0) (s .pre .1 .1 .1) (omega arith))
+
+slice-aggregate-put-two : tie.Need-slice-aggregate-put-two
+slice-aggregate-put-two c = search needs
+
+put-two-requires : tie.Need-put-two-requires
+put-two-requires c κs = search needs
+
+slice-aggregate-write-two : tie.Need-slice-aggregate-write-two
+slice-aggregate-write-two c = search needs
+
+add-write-two : tie.Need-add-write-two
+add-write-two c = search needs
+
+mul-write-two : tie.Need-mul-write-two
+mul-write-two c = search needs
+
+add-write-two-2 : tie.Need-add-write-two-2
+add-write-two-2 c = search needs
+
+write-two-requires : tie.Need-write-two-requires
+write-two-requires c κs =
+    let s = c .before .before .before .before .before .before .before .before .before .before .before .before .before in
+    ((omega arith, omega arith, omega arith), made-named (s .args .fronts .now) (s .args .backs .now) (s .args .along .now) (s .args .wire .now) (replicate {A = ℕ} 8192 0) (s .args .k) (s .pre .1 .0) (s .pre .1 .1 .0) (s .pre .1 .1 .1) (s .pre .0 .0) (omega arith) _ (c .before .before .before .before .put-two .ensures))
+
+same-length : tie.Need-same-length
+same-length c = search needs
+
+same-length-2 : tie.Need-same-length-2
+same-length-2 c = search needs
+
+returns-2 : tie.Need-returns-2
+returns-2 c =
+    let s = c .before .before .before .before .before .before .before .before .before .before .before .before .before .before .before .before .before .before in
+    rw (← after-made (s .args .fronts .now) (s .args .backs .now) (s .args .along .now) (s .args .wire .now) (replicate {A = ℕ} 8192 0) (s .args .k) (length (s .args .uses .now)) (length (s .args .lens .now)) (s .pre .0 .0) (omega arith) _ (c .before .before .before .before .before .before .before .before .before .put-two .ensures)) (c .before .before .before .before .write-two .ensures)
+
+pub cut-after-spec : {M : Type 1} → statement M
+cut-after-spec =
+    tie.close
+    (tie.spec
+    returns
+    slice-aggregate-put-two
+    put-two-requires
+    slice-aggregate-write-two
+    add-write-two
+    mul-write-two
+    add-write-two-2
+    write-two-requires
+    same-length
+    same-length-2
+    returns-2)

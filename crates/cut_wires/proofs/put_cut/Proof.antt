@@ -1,0 +1,124 @@
+-- The loop is at wire k, whose uses begin at `from` and are written at `at`.
+use Prim.Native.Nat.{_+_, _-_, _≤_}
+use native.Mathlib.Omega.{arith}
+use lib.ListN.{drop, length, take}
+use borrow.Author.Needs.{needs}
+use Rattle.cut_wires.proofs.Put.{Putting, putting-lens, putting-next, putting-out, putting-room, putting-size, putting-start}
+use Rattle.cut_wires.proofs.put_cut.Statement.{statement}
+use Rattle.cut_wires.specs.Halves.{cutFlagged}
+use Rattle.lists.proofs.Split.{walk-fits}
+use Rattle.wire.proofs.Laws.{named-part}
+use Rattle.cut_wires.proofs.put_cut.Tie as tie
+
+abbrev Inv-loop : tie.InvT-loop
+Inv-loop uses lens flags e a fronts backs out₀ sizes₀ from₀ at₀ k₀ out sizes from at k = Putting (cutFlagged flags (e .0) a) lens uses out₀ sizes₀ out sizes from at k
+
+abbrev μ-loop : tie.MeasureT-loop
+μ-loop uses lens flags e a fronts backs out₀ sizes₀ from₀ at₀ k₀ out sizes from at k = length lens - k
+
+fits : (c : tie.After-index Inv-loop μ-loop) → c .before .before .before .loop .from + c .index .result ≤ length (c .before .before .before .before .before .before .before .before .before .before .before .args .uses .now)
+fits c =
+    let l = c .before .before .before .loop in
+    omega (arith, walk-fits (c .before .before .before .before .before .before .before .before .before .before .before .args .lens .now) (l .k) (l .from) (c .index .result) (l .inv .walk) (c .before .before .loop-test .taken) (c .index .ensures .0), c .before .before .before .before .before .before .before .before .before .before .before .pre .1 .1 .0 .0)
+
+-- there is room for the wire
+room : (c : tie.After-index Inv-loop μ-loop)
+    → c .before .before .before .loop .at + length (cutFlagged (c .before .before .before .before .before .before .before .before .before .before .before .args .flags .now) (c .before .before .before .before .before .before .before .before .before .before .before .args .e .0) (c .before .before .before .before .before .before .before .before .before .before .before .args .a) (c .before .before .before .loop .k) (take (c .before .before .before .loop .from + c .index .result - c .before .before .before .loop .from) (drop (c .before .before .before .loop .from) (c .before .before .before .before .before .before .before .before .before .before .before .args .uses .now)))) ≤ length (c .before .before .before .loop .out)
+room c = putting-room _ _ _ (c .before .before .before .loop .inv) (c .index .result) (c .before .before .loop-test .taken) (c .index .ensures .0) (c .before .before .before .before .before .before .before .before .before .before .before .pre .1 .1 .1 .0)
+
+loop-holds : tie.Need-loop-holds Inv-loop μ-loop
+loop-holds c = putting-start _ _ _ _ _
+
+mul-index : tie.Need-mul-index Inv-loop μ-loop
+mul-index c = search needs
+
+shared-slice-read-index : tie.Need-shared-slice-read-index Inv-loop μ-loop
+shared-slice-read-index c = search needs
+
+index-requires : tie.Need-index-requires Inv-loop μ-loop
+index-requires c κs = search needs
+
+add-put-wire : tie.Need-add-put-wire Inv-loop μ-loop
+add-put-wire c = omega (arith, fits c)
+
+mul-put-wire : tie.Need-mul-put-wire Inv-loop μ-loop
+mul-put-wire c = omega (arith, fits c)
+
+sub-put-wire : tie.Need-sub-put-wire Inv-loop μ-loop
+sub-put-wire c = search needs
+
+part-put-wire-start : tie.Need-part-put-wire-start Inv-loop μ-loop
+part-put-wire-start c = search needs
+
+part-put-wire-end : tie.Need-part-put-wire-end Inv-loop μ-loop
+part-put-wire-end c = omega (arith, fits c)
+
+shared-slice-read-put-wire : tie.Need-shared-slice-read-put-wire Inv-loop μ-loop
+shared-slice-read-put-wire c = search needs
+
+put-wire-requires : tie.Need-put-wire-requires Inv-loop μ-loop
+put-wire-requires c κs = let a = c .before .before .before .before .before .before .before .before .before .before .before .before .before .before .args in
+    let l = c .before .before .before .before .before .before .loop in
+    (named-part (a .fronts .now) (a .backs .now) (a .uses .now) (c .before .before .before .before .before .before .before .before .before .before .before .before .before .before .pre .0) (l .from) (l .from + c .before .before .before .index .result - l .from), (c .before .before .before .before .before .before .before .before .before .before .before .before .before .before .pre .1 .0, room (c .before .before .before)))
+
+cast-sizes : tie.Need-cast-sizes Inv-loop μ-loop
+cast-sizes c = omega (arith, room (c .before .before .before .before .before .before), c .before .before .put-wire .ensures .0, c .before .before .before .before .before .before .before .before .before .loop .inv .out-long, c .before .before .before .before .before .before .before .before .before .before .before .before .before .before .before .before .before .pre .1 .1 .1 .2)
+
+mul-sizes : tie.Need-mul-sizes Inv-loop μ-loop
+mul-sizes c = search needs
+
+slice-write-sizes : tie.Need-slice-write-sizes Inv-loop μ-loop
+slice-write-sizes c = search needs
+
+add-from : tie.Need-add-from Inv-loop μ-loop
+add-from c = omega (arith, fits (c .before .before .before .before .before .before), c .before .before .before .before .before .before .before .before .before .before .before .before .before .before .before .before .before .pre .1 .1 .1 .1)
+
+add-at : tie.Need-add-at Inv-loop μ-loop
+add-at c = omega (arith, room (c .before .before .before .before .before .before), c .before .before .put-wire .ensures .0, c .before .before .before .before .before .before .before .before .before .loop .inv .out-long, c .before .before .before .before .before .before .before .before .before .before .before .before .before .before .before .before .before .pre .1 .1 .1 .2)
+
+add-k : tie.Need-add-k Inv-loop μ-loop
+add-k c = search needs
+
+loop-less : tie.Need-loop-less Inv-loop μ-loop
+loop-less c = search needs
+
+loop-again : tie.Need-loop-again Inv-loop μ-loop
+loop-again c = putting-next _ _ _ (c .before .before .before .before .before .before .before .before .before .loop .inv) (c .before .before .before .before .before .before .index .result) (c .before .before .before .before .before .before .before .before .loop-test .taken) (c .before .before .before .before .before .before .index .ensures .0) (c .before .before .put-wire .result) _ (c .before .before .put-wire .ensures .0) (c .before .before .put-wire .ensures .1)
+
+same-length : tie.Need-same-length Inv-loop μ-loop
+same-length c = search needs
+
+same-length-2 : tie.Need-same-length-2 Inv-loop μ-loop
+same-length-2 c = search needs
+
+returns : tie.Need-returns Inv-loop μ-loop
+returns c = (putting-size _ _ _ (c .before .loop .inv) (c .loop-test .left), (putting-out _ _ _ (c .before .loop .inv) (c .loop-test .left), putting-lens _ _ _ (c .before .loop .inv) (c .loop-test .left)))
+
+pub put-cut-spec : {M : Type 1} → statement M
+put-cut-spec =
+    tie.close
+    (tie.spec
+    Inv-loop
+    μ-loop
+    loop-holds
+    mul-index
+    shared-slice-read-index
+    index-requires
+    add-put-wire
+    mul-put-wire
+    sub-put-wire
+    part-put-wire-start
+    part-put-wire-end
+    shared-slice-read-put-wire
+    put-wire-requires
+    cast-sizes
+    mul-sizes
+    slice-write-sizes
+    add-from
+    add-at
+    add-k
+    loop-less
+    loop-again
+    same-length
+    same-length-2
+    returns)

@@ -1,0 +1,61 @@
+use Prim.Native.Nat.{_+_, _-_}
+use mathlib.Core.Bool.{false}
+use lib.ListN.{getD}
+use native.Mathlib.Omega.{arith}
+use Rattle.endings.proofs.Endings.{Among, among-all, among-few, among-next, among-start, one-few}
+use borrow.Author.Needs.{needs}
+use Rattle.endings.proofs.ending_among.Statement.{statement}
+use Rattle.endings.proofs.ending_among.Tie as tie
+
+abbrev Inv-loop : tie.InvT-loop
+Inv-loop flags start n e₀ k₀ e k = Among flags start n e k
+
+abbrev μ-loop : tie.MeasureT-loop
+μ-loop flags start n e₀ k₀ e k = n - k
+
+loop-holds : tie.Need-loop-holds Inv-loop μ-loop
+loop-holds c = among-start (c .before .args .flags .now) (c .before .args .start) (c .before .args .n)
+
+add-one-wire : tie.Need-add-one-wire Inv-loop μ-loop
+add-one-wire c = omega (arith, c .before .before .before .pre .0)
+
+shared-slice-read-one-wire : tie.Need-shared-slice-read-one-wire Inv-loop μ-loop
+shared-slice-read-one-wire c = omega (arith, c .before .before .before .before .pre .0)
+
+add-one-wire-2 : tie.Need-add-one-wire-2 Inv-loop μ-loop
+add-one-wire-2 c = omega (arith, c .before .before .before .before .pre .0)
+
+one-wire-requires : tie.Need-one-wire-requires Inv-loop μ-loop
+one-wire-requires c κs = search needs
+
+then-requires : tie.Need-then-requires Inv-loop μ-loop
+then-requires c κs = omega (arith, among-few (c .before .before .before .before .before .args .flags .now) (c .before .before .before .before .before .args .start) (c .before .before .before .before .before .args .n) (c .before .before .before .loop .inv), c .before .before .before .before .before .pre .1, one-few (getD (c .before .before .before .before .before .args .flags .now) (c .before .before .before .before .before .args .start + c .before .before .before .loop .k) false) (c .before .before .before .before .before .args .start + c .before .before .before .loop .k) (c .one-wire .ensures))
+
+add-k : tie.Need-add-k Inv-loop μ-loop
+add-k c = search needs
+
+loop-less : tie.Need-loop-less Inv-loop μ-loop
+loop-less c = search needs
+
+loop-again : tie.Need-loop-again Inv-loop μ-loop
+loop-again c = among-next (c .before .before .before .before .before .before .args .flags .now) (c .before .before .before .before .before .before .args .start) (c .before .before .before .before .before .before .args .n) (c .before .before .before .before .loop .inv) (omega arith) (c .before .one-wire .ensures) (c .then .ensures)
+
+returns : tie.Need-returns Inv-loop μ-loop
+returns c = among-all (c .before .before .before .args .flags .now) (c .before .before .before .args .start) (c .before .before .before .args .n) (c .before .loop .inv) (omega arith)
+
+pub ending-among-spec : {M : Type 1} → statement M
+ending-among-spec =
+    tie.close
+    (tie.spec
+    Inv-loop
+    μ-loop
+    loop-holds
+    add-one-wire
+    shared-slice-read-one-wire
+    add-one-wire-2
+    one-wire-requires
+    then-requires
+    add-k
+    loop-less
+    loop-again
+    returns)

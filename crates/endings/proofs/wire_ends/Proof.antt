@@ -1,0 +1,88 @@
+use lib.Ieee.{fits}
+use Prim.Native.Nat.{_+_, _-_}
+use native.Mathlib.Omega.{arith}
+use lib.ListN.{length}
+use Rattle.lists.proofs.Split.{walk-fits}
+use Rattle.endings.proofs.Flagging.{Flagging, flagging-all, flagging-next, flagging-start}
+use Rattle.endings.specs.Endings.{endsAt}
+use Rattle.wire.proofs.Laws.{named-part}
+use borrow.Author.Needs.{needs}
+use Rattle.endings.proofs.wire_ends.Statement.{statement}
+use Rattle.endings.proofs.wire_ends.Tie as tie
+
+abbrev Inv-loop : tie.InvT-loop
+Inv-loop uses wires fronts backs v out₀ at₀ w₀ out at w = Flagging (endsAt fronts backs (v .0)) wires uses out w at
+
+abbrev μ-loop : tie.MeasureT-loop
+μ-loop uses wires fronts backs v out₀ at₀ w₀ out at w = length wires - w
+
+loop-holds : tie.Need-loop-holds Inv-loop μ-loop
+loop-holds c = flagging-start (endsAt (c .before .before .before .before .args .fronts .now) (c .before .before .before .before .args .backs .now) (c .before .before .before .before .args .v .0)) (c .before .before .before .before .args .wires .now) (c .before .before .before .before .args .uses .now)
+
+mul-index : tie.Need-mul-index Inv-loop μ-loop
+mul-index c = search needs
+
+shared-slice-read-index : tie.Need-shared-slice-read-index Inv-loop μ-loop
+shared-slice-read-index c = search needs
+
+index-requires : tie.Need-index-requires Inv-loop μ-loop
+index-requires c κs = search needs
+
+add-ends-at : tie.Need-add-ends-at Inv-loop μ-loop
+add-ends-at c = omega (arith, c .before .before .before .before .before .before .before .before .pre .1 .1, c .before .before .before .before .before .before .before .before .pre .1 .2, walk-fits (c .before .before .before .before .before .before .before .before .args .wires .now) (c .before .before .before .loop .w) (c .before .before .before .loop .at) (c .index .result) (c .before .before .before .loop .inv .walk) (omega arith) (c .index .ensures .0))
+
+mul-ends-at : tie.Need-mul-ends-at Inv-loop μ-loop
+mul-ends-at c = record { fits = omega (arith, c .before .before .before .before .before .before .before .before .pre .1 .1, c .before .before .before .before .before .before .before .before .pre .1 .2, walk-fits (c .before .before .before .before .before .before .before .before .args .wires .now) (c .before .before .before .loop .w) (c .before .before .before .loop .at) (c .index .result) (c .before .before .before .loop .inv .walk) (omega arith) (c .index .ensures .0)) }
+
+sub-ends-at : tie.Need-sub-ends-at Inv-loop μ-loop
+sub-ends-at c = search needs
+
+part-ends-at-start : tie.Need-part-ends-at-start Inv-loop μ-loop
+part-ends-at-start c = search needs
+
+part-ends-at-end : tie.Need-part-ends-at-end Inv-loop μ-loop
+part-ends-at-end c = omega (arith, c .before .before .before .before .before .before .before .before .pre .1 .2, walk-fits (c .before .before .before .before .before .before .before .before .args .wires .now) (c .before .before .before .loop .w) (c .before .before .before .loop .at) (c .index .result) (c .before .before .before .loop .inv .walk) (omega arith) (c .index .ensures .0))
+
+ends-at-requires : tie.Need-ends-at-requires Inv-loop μ-loop
+ends-at-requires c κs = named-part (c .before .before .before .before .before .before .before .before .before .args .fronts .now) (c .before .before .before .before .before .before .before .before .before .args .backs .now) (c .before .before .before .before .before .before .before .before .before .args .uses .now) (c .before .before .before .before .before .before .before .before .before .pre .0) (c .before .before .before .before .loop .at) (c .before .before .before .before .loop .at + c .before .index .result - c .before .before .before .before .loop .at)
+
+array-write-out : tie.Need-array-write-out Inv-loop μ-loop
+array-write-out c = search needs
+
+add-at : tie.Need-add-at Inv-loop μ-loop
+add-at c = omega (arith, c .before .before .before .before .before .before .before .before .before .before .pre .1 .1, c .before .before .before .before .before .before .before .before .before .before .pre .1 .2, walk-fits (c .before .before .before .before .before .before .before .before .before .before .args .wires .now) (c .before .before .before .before .before .loop .w) (c .before .before .before .before .before .loop .at) (c .before .before .index .result) (c .before .before .before .before .before .loop .inv .walk) (omega arith) (c .before .before .index .ensures .0))
+
+add-w : tie.Need-add-w Inv-loop μ-loop
+add-w c = search needs
+
+loop-less : tie.Need-loop-less Inv-loop μ-loop
+loop-less c = search needs
+
+loop-again : tie.Need-loop-again Inv-loop μ-loop
+loop-again c = flagging-next (endsAt (c .before .before .before .before .before .before .before .before .before .before .args .fronts .now) (c .before .before .before .before .before .before .before .before .before .before .args .backs .now) (c .before .before .before .before .before .before .before .before .before .before .args .v .0)) (c .before .before .before .before .before .before .before .before .before .before .args .wires .now) (c .before .before .before .before .before .before .before .before .before .before .args .uses .now) (c .before .before .before .before .before .loop .inv) (omega arith) (c .before .before .before .before .before .before .before .before .before .before .pre .1 .0) (c .before .before .index .ensures .0) (c .ends-at .ensures)
+
+returns : tie.Need-returns Inv-loop μ-loop
+returns c = flagging-all (endsAt (c .before .before .before .before .before .before .args .fronts .now) (c .before .before .before .before .before .before .args .backs .now) (c .before .before .before .before .before .before .args .v .0)) (c .before .before .before .before .before .before .args .wires .now) (c .before .before .before .before .before .before .args .uses .now) (c .before .loop .inv) (omega arith)
+
+pub wire-ends-spec : {M : Type 1} → statement M
+wire-ends-spec =
+    tie.close
+    (tie.spec
+    Inv-loop
+    μ-loop
+    loop-holds
+    mul-index
+    shared-slice-read-index
+    index-requires
+    add-ends-at
+    mul-ends-at
+    sub-ends-at
+    part-ends-at-start
+    part-ends-at-end
+    ends-at-requires
+    array-write-out
+    add-at
+    add-w
+    loop-less
+    loop-again
+    returns)

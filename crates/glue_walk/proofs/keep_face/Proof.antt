@@ -1,0 +1,61 @@
+use borrow.Author.Needs.{needs}
+use native.Mathlib.Omega.{arith}
+use Prim.Native.Nat.{_-_}
+use lib.ListN.{length}
+use Rattle.glue_walk.proofs.keep_face.Statement.{statement}
+use Rattle.glue_walk.proofs.keep_face.Tie as tie
+use mathlib.Core.Path.{refl}
+use Rattle.glue_walk.proofs.Keeping.{Keeping, keeping-all, keeping-edge, keeping-front, keeping-next, keeping-start}
+
+abbrev Inv-loop : tie.InvT-loop
+Inv-loop kept₀ part fronts backs i₀ kept i = Keeping fronts backs part kept₀ kept i
+
+abbrev μ-loop : tie.MeasureT-loop
+μ-loop kept₀ part fronts backs i₀ kept i = length part - i
+
+loop-holds : tie.Need-loop-holds Inv-loop μ-loop
+loop-holds c = keeping-start _ _ _ _ (c .before .before .before .before .pre .0) (c .before .before .before .before .pre .1)
+
+mul-u : tie.Need-mul-u Inv-loop μ-loop
+mul-u c = search needs
+
+shared-slice-read-u : tie.Need-shared-slice-read-u Inv-loop μ-loop
+shared-slice-read-u c = search needs
+
+front-of-requires : tie.Need-front-of-requires Inv-loop μ-loop
+front-of-requires c κs = keeping-edge _ _ _ _ (c .before .before .before .before .before .before .before .pre .0) _ _ (c .before .before .loop .inv) _ (c .before .loop-test .taken) refl
+
+keep-at-requires : tie.Need-keep-at-requires Inv-loop μ-loop
+keep-at-requires c κs = keeping-front _ _ _ _ (c .before .before .before .before .before .before .before .before .before .pre .0) _ _ (c .before .before .before .before .loop .inv) _ (c .before .before .before .loop-test .taken) refl _ (c .before .front-of .ensures)
+
+add-i : tie.Need-add-i Inv-loop μ-loop
+add-i c = search needs
+
+loop-less : tie.Need-loop-less Inv-loop μ-loop
+loop-less c = search needs
+
+loop-again : tie.Need-loop-again Inv-loop μ-loop
+loop-again c = keeping-next _ _ _ _ (c .before .before .before .before .before .before .before .before .before .before .before .before .pre .0) _ _ (c .before .before .before .before .before .before .before .loop .inv) _ (c .before .before .before .before .before .before .loop-test .taken) refl _ (c .before .before .before .before .front-of .ensures) _ (c .before .before .keep-at .ensures)
+
+same-length : tie.Need-same-length Inv-loop μ-loop
+same-length c = c .before .loop .inv .long
+
+returns : tie.Need-returns Inv-loop μ-loop
+returns c = (keeping-all _ _ _ _ (c .before .before .before .before .before .before .pre .0) _ _ (c .before .loop .inv) (omega arith), c .before .loop .inv .holding)
+
+pub keep-face-spec : {M : Type 1} → statement M
+keep-face-spec =
+    tie.close
+    (tie.spec
+    Inv-loop
+    μ-loop
+    loop-holds
+    mul-u
+    shared-slice-read-u
+    front-of-requires
+    keep-at-requires
+    add-i
+    loop-less
+    loop-again
+    same-length
+    returns)

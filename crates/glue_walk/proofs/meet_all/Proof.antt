@@ -1,0 +1,66 @@
+use borrow.Author.Needs.{needs}
+use native.Mathlib.Omega.{arith}
+use Prim.Native.Nat.{_-_}
+use lib.ListN.{length}
+use Rattle.glue_walk.proofs.meet_all.Statement.{statement}
+use Rattle.glue_walk.proofs.meet_all.Tie as tie
+use mathlib.Core.Path.{_∙_}
+use Rattle.glue_walk.proofs.Meeting.{Meeting, meeting-all, meeting-fits, meeting-next, meeting-start, meeting-stop}
+use borrow.Author.Tests.{not-false, not-true}
+
+abbrev Inv-loop : tie.InvT-loop
+Inv-loop kept₀ part fronts backs i₀ kept i = Meeting fronts backs part kept₀ kept i
+
+abbrev μ-loop : tie.MeasureT-loop
+μ-loop kept₀ part fronts backs i₀ kept i = length part - i
+
+loop-holds : tie.Need-loop-holds Inv-loop μ-loop
+loop-holds c = meeting-start _ _ _ _ (c .before .before .before .before .pre .0) (c .before .before .before .before .pre .1)
+
+mul-meet-use : tie.Need-mul-meet-use Inv-loop μ-loop
+mul-meet-use c = search needs
+
+shared-slice-read-meet-use : tie.Need-shared-slice-read-meet-use Inv-loop μ-loop
+shared-slice-read-meet-use c = search needs
+
+meet-use-requires : tie.Need-meet-use-requires Inv-loop μ-loop
+meet-use-requires c κs = (c .before .before .before .before .before .before .before .before .pre .0 .ends, (meeting-fits _ _ _ _ (c .before .before .before .before .before .before .before .before .pre .0) _ _ (c .before .before .before .loop .inv) (c .before .before .loop-test .taken), c .before .before .before .loop .inv .holding))
+
+same-length : tie.Need-same-length Inv-loop μ-loop
+same-length c = c .before .before .before .meet-use .kept .0 ∙ c .before .before .before .before .before .before .before .loop .inv .long
+
+returns : tie.Need-returns Inv-loop μ-loop
+returns c = (meeting-stop _ _ _ _ (c .before .before .before .before .before .before .before .before .before .before .before .before .pre .0) _ _ (c .before .before .before .before .before .before .before .loop .inv) (c .before .before .before .before .before .before .loop-test .taken) _ (c .before .before .before .meet-use .ensures .1) (c .before .before .before .meet-use .result) (c .before .before .before .meet-use .ensures .0) (not-true (c .before .before .before .meet-use .result) (c .if1 .taken)), c .before .before .before .meet-use .ensures .1)
+
+add-i : tie.Need-add-i Inv-loop μ-loop
+add-i c = search needs
+
+loop-less : tie.Need-loop-less Inv-loop μ-loop
+loop-less c = search needs
+
+loop-again : tie.Need-loop-again Inv-loop μ-loop
+loop-again c = meeting-next _ _ _ _ (c .before .before .before .before .before .before .before .before .before .before .before .before .pre .0) _ _ (c .before .before .before .before .before .before .before .loop .inv) (c .before .before .before .before .before .before .loop-test .taken) _ (c .before .before .before .meet-use .ensures .1) (c .before .before .before .meet-use .result) (c .before .before .before .meet-use .ensures .0) (not-false (c .before .before .before .meet-use .result) (c .if1 .left)) (c .before .before .before .meet-use .kept .0)
+
+same-length-2 : tie.Need-same-length-2 Inv-loop μ-loop
+same-length-2 c = c .before .loop .inv .long
+
+returns-2 : tie.Need-returns-2 Inv-loop μ-loop
+returns-2 c = (meeting-all _ _ _ _ (c .before .before .before .before .before .before .pre .0) _ _ (c .before .loop .inv) (omega arith), c .before .loop .inv .holding)
+
+pub meet-all-spec : {M : Type 1} → statement M
+meet-all-spec =
+    tie.close
+    (tie.spec
+    Inv-loop
+    μ-loop
+    loop-holds
+    mul-meet-use
+    shared-slice-read-meet-use
+    meet-use-requires
+    same-length
+    returns
+    add-i
+    loop-less
+    loop-again
+    same-length-2
+    returns-2)
