@@ -2,7 +2,8 @@
 use Prim.Native.Nat.{_%_, _*_, _+_, _-_, _/_, _<_, _^_, _≤_, suc, zero, ℕ}
 use mathlib.Core.Path.{_≡_, refl}
 use native.Mathlib.Omega.{arith}
-use Rattle.condition.specs.Tallies.{digit, withDigit}
+use Rattle.condition.proofs.Least.{least-ge, least-le, least-top}
+use Rattle.condition.specs.Tallies.{digit, least, withDigit}
 
 -- four places
 four : (P : ℕ → Type 0) → P 0 → P 1 → P 2 → P 3 → (d : ℕ) → d < 4 → P d
@@ -50,3 +51,17 @@ module _ (b : ℕ) where
 
     pub on-is : (d : ℕ) → d < 4 → on d ≡ withDigit b d s
     on-is = four (λ (d : ℕ). on d ≡ withDigit b d s) (omega arith) (omega arith) (omega arith) (omega arith)
+
+-- what the four edges of a byte make of the condition
+module _ (x : ℕ → ℕ) where
+  abbrev made : ℕ → ℕ
+  made d = 3 - x d % 2
+
+  pub none-odd : x 0 % 2 + x 1 % 2 + (x 2 % 2 + x 3 % 2) ≡ 0 → 3 ≡ least 4 made
+  none-odd e =
+      omega (arith, least-top made 4, least-ge made 3 4 (omega arith) (four (λ (d : ℕ). 3 ≤ made d) (omega arith) (omega arith) (omega arith) (omega arith)))
+
+  pub some-odd : (x 0 % 2 + x 1 % 2 + (x 2 % 2 + x 3 % 2) ≡ 0 → ⊥) → 2 ≡ least 4 made
+  some-odd n =
+      let low = least-ge made 2 4 (omega arith) (λ d l. omega arith) in
+      omega (arith, n, low, least-le made 4 0 (omega arith), least-le made 4 1 (omega arith), least-le made 4 2 (omega arith), least-le made 4 3 (omega arith))

@@ -2,7 +2,8 @@
 use Prim.Native.Nat.{_+_, _<_, _≤_, min, suc, zero, ℕ}
 use mathlib.Core.Bool.{false, true}
 use mathlib.Core.Logic.{⊎-elim}
-use mathlib.Core.Path.{_≡_}
+use mathlib.Core.Path.{_≡_, refl}
+use native.Mathlib.Nat.{add-zero}
 use native.Mathlib.Omega.{arith}
 use lib.Dec.{eqb}
 use borrow.Author.Tests.{eqb-false, eqb-true}
@@ -57,3 +58,14 @@ least-lower f g n i v l here other =
 pub least-next : (f : ℕ → ℕ) (e worst made r : ℕ) → worst ≡ least e f → made ≡ f e → r ≡ min worst made → r ≡ least (e + 1) f
 unfolding least
 least-next f e worst made r h k j = let n : e + 1 ≡ suc e = omega arith in rw n (omega (arith, h, k, j))
+
+-- those of m and n more
+pub least-add : (f : ℕ → ℕ) (m n : ℕ) → least (m + n) f ≡ min (least m f) (least n (λ (k : ℕ). f (m + k)))
+unfolding least
+least-add f m zero = rw (add-zero m) (omega (arith, least-top f m))
+least-add f m (suc n) = let e : m + suc n ≡ suc (m + n) = omega arith in rw e (omega (arith, least-add f m n))
+
+pub least-alike : (f g : ℕ → ℕ) (n : ℕ) → ((k : ℕ) → k < n → f k ≡ g k) → least n f ≡ least n g
+unfolding least
+least-alike f g zero h = refl
+least-alike f g (suc n) h = omega (arith, h n (omega arith), least-alike f g n (λ k l. h k (omega arith)))

@@ -1,13 +1,13 @@
 -- The loops: the uses of a part; the edges of the tally.
-use Prim.Native.Nat.{_%_, _*_, _+_, _-_, _<_, _≤_, min, ℕ}
+use Prim.Native.Nat.{_%_, _*_, _+_, _-_, _/_, _<_, _≤_, min, ℕ}
 use mathlib.Core.List.{List, [], _++_, _∷_}
 use mathlib.Core.Path.{_∙_, _≡_, ap, refl, sym}
 use native.Mathlib.Numerals.{add-one}
 use native.Mathlib.Omega.{arith}
 use lib.ListN.{drop, drop-of-length-le, getD, length, length-replicate, replicate, set, take, take-append-drop}
 use lib.Seq.{drop-cons, drop-drop}
-use Rattle.condition.proofs.Least.{least-next}
-use Rattle.condition.specs.Tallies.{conditionIn, inserted, insertedAll, least, oddsIn, stateOf}
+use Rattle.condition.proofs.Least.{least-add, least-alike, least-next}
+use Rattle.condition.specs.Tallies.{conditionIn, digit, inserted, insertedAll, least, oddsIn, stateOf}
 use Rattle.condition.specs.declared.Tally.{Tally}
 use Rattle.lists.proofs.Laws.{Filling, filling-next, filling-padded, filling-start}
 
@@ -80,6 +80,15 @@ module _ (t : Tally) (n : ℕ) where
       low = omega arith;
       so-far = least-next (λ (k : ℕ). 3 - stateOf t k % 2) e worst made r (v .so-far) (q ∙ ap (λ (k : ℕ). 3 - k % 2) p) j;
     }
+
+    -- the four edges of a byte
+    pub joining-four : e % 4 ≡ 0 → 4 ≤ n - e → (made r : ℕ) → made ≡ least 4 (λ (d : ℕ). 3 - digit (getD (t .states) (e / 4) 0) d % 2) → r ≡ min worst made → Joining r (e + 4)
+    joining-four first l made r q j =
+        let f : ℕ → ℕ = λ (k : ℕ). 3 - stateOf t k % 2 in
+        let same =
+        least-alike (λ (d : ℕ). 3 - digit (getD (t .states) (e / 4) 0) d % 2) (λ (d : ℕ). f (e + d)) 4
+        (λ d m. let byte : (e + d) / 4 ≡ e / 4 = omega arith in let place : (e + d) % 4 ≡ d = omega arith in rw (byte, place)) in
+        record { low = omega (arith, v .low); so-far = omega (arith, j, v .so-far, q ∙ same, least-add f e 4) }
 
     pub joining-all : n ≤ e → (r : ℕ) → r ≡ min (t .worst) worst → r ≡ conditionIn t n
     joining-all h r j = let p : n ≡ e = omega (arith, v .low) in rw (p, ← v .so-far) j

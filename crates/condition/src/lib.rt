@@ -1,9 +1,9 @@
 // The condition of a shell, and the tally of its uses (shell.rs: ShellCondition, Boundaries).
 ghost use mathlib.Core.Path.{_≡_};
-ghost use Prim.Native.Nat.{_%_, _+_, _-_, _<_, _≤_, min};
+ghost use Prim.Native.Nat.{ℕ, _%_, _+_, _-_, _<_, _≤_, min};
 ghost use lib.ListN.{drop, length, replicate, take};
 ghost use Rattle.edge.specs.Uses.{edgeNumber};
-ghost use Rattle.condition.specs.Tallies.{conditionIn, digit, EdgesBelow, inserted, insertedAll, nextState, oddsIn, useCondition, withDigit};
+ghost use Rattle.condition.specs.Tallies.{conditionIn, digit, EdgesBelow, inserted, insertedAll, least, nextState, oddsIn, useCondition, withDigit};
 
 // The condition of a shell: a lower one is worse.
 pub struct Condition(pub u8);
@@ -96,6 +96,10 @@ pub fn condition_of(t: Tally, n: usize) -> Condition
 {
     let mut closed = Condition::CLOSED;
     let mut e: usize = 0;
+    while n - e >= 4 {
+        closed = closed.join(byte_condition(t.states[e / 4]));
+        e += 4;
+    }
     while e < n {
         closed = closed.join(state_condition(state_in(t.states[e / 4], e % 4)));
         e += 1;
@@ -164,4 +168,16 @@ fn state_condition(s: u8) -> Condition
     } else {
         Condition::CLOSED
     }
+}
+
+// The same for the four edges of a byte.
+fn byte_condition(b: u8) -> Condition
+    ensures { λ r. ⌜ r .0 ≡ least 4 (λ (d : ℕ). 3 - digit b d % 2) ⌝ }
+{
+    let low = state_in(b, 0) % 2 + state_in(b, 1) % 2;
+    let high = state_in(b, 2) % 2 + state_in(b, 3) % 2;
+    if low + high != 0 {
+        return Condition::ORIENTED;
+    }
+    Condition::CLOSED
 }

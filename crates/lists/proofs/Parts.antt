@@ -1,15 +1,16 @@
 -- Parts of a list, the elements that pass a test, and what holds at every place.
 use Prim.Native.Nat.{_<_, _≤_, suc, zero, ℕ}
-use mathlib.Core.Bool.{Bool, true}
+use mathlib.Core.Bool.{Bool, false, true}
 use mathlib.Core.List.{List, [], _++_, _∷_, append-assoc, append-nil, map}
+use mathlib.Core.Logic.{⊎-elim}
 use mathlib.Core.Path.{_∙_, _≡_, ap, refl, sym}
 use native.Mathlib.Nat.{le-of-suc-le-suc, not-suc-le-zero}
 use native.Mathlib.Omega.{arith}
 use lib.ListN.{drop, getD, length, length-drop, take-append-drop}
 use lib.Seq.{drop-append-seam, take-append-seam}
 use Rattle.lists.proofs.Count.{All, all-append, count-length, count-only-le}
-use Rattle.lists.proofs.Laws.{flat-append, map-tabulate, tabulate-suc}
-use Rattle.lists.specs.Lists.{flat, numbers, only, pick, split, sum, tabulate}
+use Rattle.lists.proofs.Laws.{cases, flat-append, map-tabulate, tabulate-suc}
+use Rattle.lists.specs.Lists.{count, flat, numbers, only, pick, split, sum, tabulate}
 
 module _ {ℓ} {A : Type ℓ} where
   -- the parts, one after the other, are the list
@@ -45,6 +46,21 @@ module _ {ℓ} {A : Type ℓ} where
   unfolding only
   only-same q r [] h = refl
   only-same q r (x ∷ xs) h = rw (h .0, only-same q r xs (h .1))
+
+  -- none passes
+  pub only-none : (q : A → Bool) (xs : List A) → All (λ (x : A). q x ≡ false) xs → only q xs ≡ []
+  unfolding only
+  only-none q [] h = refl
+  only-none q (x ∷ xs) h = rw (h .0) (only-none q xs (h .1))
+
+  pub none-counted : (q : A → Bool) (xs : List A) → count q xs ≡ 0 → All (λ (x : A). q x ≡ false) xs
+  unfolding count
+  none-counted q [] h = tt
+  none-counted q (x ∷ xs) h =
+      ⊎-elim
+      (λ (e : q x ≡ true). absurd (omega (arith, rw e at h)))
+      (λ (e : q x ≡ false). (e, none-counted q xs (omega (arith, rw e at h))))
+      (cases (q x))
 
   pub length-only : (q : A → Bool) (xs : List A) → length (only q xs) ≤ length xs
   length-only q xs = omega (arith, count-length (only q xs), count-length xs, count-only-le (λ (x : A). true) q xs)

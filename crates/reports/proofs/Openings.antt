@@ -17,7 +17,7 @@ use Rattle.condition.specs.declared.Tally.{Tally}
 use Rattle.edge.specs.Edges.{backNumber, frontNumber}
 use Rattle.edge.specs.Uses.{backOf, frontOf}
 use Rattle.extract.proofs.Free.{tally-free}
-use Rattle.extract.specs.Listings.{AllTally, AllWalk, Extractable, Written, noUses}
+use Rattle.extract.specs.Listings.{AllTally, AllWalk, Extractable, Written, noUses, nowhere}
 use Rattle.listing.proofs.Laws.{Placed}
 use Rattle.listing.specs.Parts.{partsOf}
 use Rattle.lists.proofs.Count.{All, all-weaker}
@@ -32,6 +32,7 @@ use Rattle.reports.proofs.Columned.{backs-are, fronts-are, listingsIn, 
 use Rattle.reports.proofs.Ready.{all-tally, all-walk, shell-placed, use-front, uses-are}
 use Rattle.reports.specs.Figures.{openingsFound}
 use Rattle.reports.specs.declared.ShellOpenings.{ShellOpenings}
+use Rattle.shell.proofs.Closed.{closed-walk}
 use Rattle.shell.proofs.Level.{IsUse}
 use Rattle.shell.specs.Conditions.{condition}
 use Rattle.shell.specs.Openings.{Walk, shellWalk, walkOf}
@@ -98,8 +99,25 @@ module _ (k : Columns) (n : ℕ) (p : Pattern) (s : Sound p) (e : k ≡ columnsI
     k-condition : conditionIn t (k .edges) ≡ condition us
     k-condition = tally-condition us t (k .edges) tallied named edges-few
 
+    abbrev front : ℕ → ℕ
+    front = frontOf (take (k .edges) (k .fronts)) (take (k .edges) (k .backs))
+
+    abbrev back : ℕ → ℕ
+    back = backOf (take (k .edges) (k .fronts)) (take (k .edges) (k .backs))
+
+    -- the walk, from the columns
+    abbrev walked : Walk
+    walked = walkOf front back (k .points) (usesIn k n)
+
+    pub k-closed : (w : ℕ) → w ≡ conditionIn t (k .edges) → w ≡ 3 → (out₀ lens₀ : List ℕ)
+        → Written walked out₀ lens₀ out₀ lens₀ nowhere
+    unfolding flat
+    k-closed w is closed out₀ lens₀ =
+        rw (closed-walk front back (k .points) (usesIn k n) (ap condition k-uses ∙ sym k-condition ∙ sym is ∙ closed))
+        (record { uses = refl; lengths = refl; place = refl; number = refl; asked = refl; few = (omega arith, omega arith, omega arith) })
+
     module _ (w : ℕ) (is : w ≡ conditionIn t (k .edges)) (out₀ lens₀ : List ℕ) (a : out₀ ≡ replicate 2048 0) (b : lens₀ ≡ replicate 2048 0) (out lens : List ℕ) (r : Walked)
-        (h : Written (walkOf (frontOf (take (k .edges) (k .fronts)) (take (k .edges) (k .backs))) (backOf (take (k .edges) (k .fronts)) (take (k .edges) (k .backs))) (k .points) (usesIn k n)) out₀ lens₀ out lens r) where
+        (h : Written walked out₀ lens₀ out lens r) where
       walk-is : Written (shellWalk (content p) n) (replicate 2048 0) (replicate 2048 0) out lens r
       walk-is = rw (k-uses, fronts-are k n p s e here, backs-are k n p s e here, points-are k n p s e here, a, b) at h
 

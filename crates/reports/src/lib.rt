@@ -147,6 +147,15 @@ pub fn put_openings<'a>(
     let end = places[n + 1];
     let t = tally_between(listings, first, end, uses, turned, starts);
     let condition = condition_of(t, edges);
+    if condition.0 == 3 {
+        // a Closed shell has no openings
+        return OpeningCounts {
+            condition: 3,
+            openings: 0,
+            used: 0,
+            lookups: 0,
+        };
+    }
     let odd = odd_of(t, edges);
     let w = openings_between(
         listings,

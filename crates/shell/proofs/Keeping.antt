@@ -33,7 +33,7 @@ there-in kept p r u l e =
     (λ (f : eqb p r ≡ false). rw (get-in kept p r u l, f) (omega arith))
     (cases (eqb p r))
 
-get-empty : (m p : ℕ) → getD {A = Option ℕ} (replicate m none) p none ≡ none
+pub get-empty : (m p : ℕ) → getD {A = Option ℕ} (replicate m none) p none ≡ none
 get-empty zero p = refl
 get-empty (suc m) zero = refl
 get-empty (suc m) (suc p) = get-empty m p

@@ -7,4 +7,5 @@ pub mod Chain
 pub mod Walked
 pub mod Keeping
 pub mod Rings
+pub mod Closed
 pub mod Theorem

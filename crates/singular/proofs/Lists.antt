@@ -21,12 +21,15 @@ unfolding only
 only-next q p =
     rw (tabulate-suc p (λ (k : ℕ). k), only-append q (numbers p) (p ∷ []), append-nil (pick (q p) (p ∷ []) []))
 
+-- what holds of each number below n
+pub all-numbers : (P : ℕ → Type 0) (n : ℕ) → ((p : ℕ) → p < n → P p) → All P (numbers n)
+all-numbers P n h =
+    all-each P 0 (numbers n)
+    (λ k l. let m : k < n = omega (arith, length-tabulate n (λ (j : ℕ). j)) in rw (getD-tabulate n (λ (j : ℕ). j) k 0 m) (h k m))
+
 -- tests that agree on the numbers below n
 pub only-alike : (q r : ℕ → Bool) (n : ℕ) → ((p : ℕ) → p < n → q p ≡ r p) → only q (numbers n) ≡ only r (numbers n)
-only-alike q r n h =
-    only-same q r (numbers n)
-    (all-each (λ (p : ℕ). q p ≡ r p) 0 (numbers n)
-    (λ k l. let m : k < n = omega (arith, length-tabulate n (λ (j : ℕ). j)) in rw (getD-tabulate n (λ (j : ℕ). j) k 0 m) (h k m)))
+only-alike q r n h = only-same q r (numbers n) (all-numbers (λ (p : ℕ). q p ≡ r p) n h)
 
 -- a loop that writes the numbers that pass: of those below p, n are written
 pub record Listed (q : ℕ → Bool) (points : ℕ) (out₀ out : List ℕ) (n p : ℕ) : Type 0 where

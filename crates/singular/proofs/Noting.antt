@@ -7,7 +7,7 @@ use mathlib.Core.Path.{_∙_, _≡_, ap, refl, sym}
 use native.Mathlib.Numerals.{add-one}
 use native.Mathlib.Omega.{arith}
 use lib.Dec.{eqb}
-use lib.ListN.{drop, drop-of-length-le, getD, getD-replicate, length, length-replicate, length-set, set}
+use lib.ListN.{drop, drop-of-length-le, getD, getD-replicate, length, length-replicate, length-set, replicate, set}
 use lib.Seq.{drop-cons, getD-set-other, getD-set-same}
 use borrow.Author.Tests.{eq-eqb, eqb-false, eqb-true, ne-eqb}
 use Rattle.edge.specs.Uses.{backOf, frontOf}
@@ -17,7 +17,7 @@ use Rattle.lists.proofs.Count.{All}
 use Rattle.lists.proofs.Laws.{cases}
 use Rattle.lists.specs.Lists.{flat, pick}
 use Rattle.shell.specs.Singular.{endsAt, firstEnd, lastEnd}
-use Rattle.singular.specs.Noted.{Noted, alsoNoted, noneNoted, noted, notes, useNoted, usesNoted}
+use Rattle.singular.specs.Noted.{Noted, Unmarked, alsoNoted, noneNoted, noted, notes, useNoted, usesNoted}
 
 -- ---- one root at one point, by cases
 module _ (roots : List ℕ) (several : List Bool) (p r : ℕ) where
@@ -171,33 +171,40 @@ module _ (fronts backs ps : List ℕ) (q : ℕ) where
       (noted-uses us ((ms ++ x) ++ y) (useNoted fronts backs ps s u) (a .1) two)
 
 -- the two ends of a use, one after the other
-pub two-ends : (fronts backs ps roots : List ℕ) (several : List Bool) (u : ℕ) {f l p q : ℕ} {roots₁ roots₂ : List ℕ} {several₁ several₂ : List Bool}
+pub two-ends : (fronts backs ps roots : List ℕ) (several : List Bool) (any : Bool) (u : ℕ) {f l p q : ℕ} {roots₁ roots₂ : List ℕ} {several₁ several₂ : List Bool} {any₁ any₂ : Bool}
     → f ≡ rootOf ps (firstEnd u) → l ≡ rootOf ps (lastEnd u) → p ≡ frontOf fronts backs u → q ≡ backOf fronts backs u
-    → (roots₁ ≡ noted roots several p f .roots) × (several₁ ≡ noted roots several p f .several)
-    → (roots₂ ≡ noted roots₁ several₁ q l .roots) × (several₂ ≡ noted roots₁ several₁ q l .several)
-    → (roots₂ ≡ useNoted fronts backs ps (notes roots several) u .roots) × (several₂ ≡ useNoted fronts backs ps (notes roots several) u .several)
-two-ends fronts backs ps roots several u ef el ep eq n₁ n₂ =
-    (rw (n₂ .0, n₁ .0, n₁ .1, ef, el, ep, eq), rw (n₂ .1, n₁ .0, n₁ .1, ef, el, ep, eq))
+    → (roots₁ ≡ noted roots several p f .roots) × ((several₁ ≡ noted roots several p f .several) × Unmarked any several any₁ several₁)
+    → (roots₂ ≡ noted roots₁ several₁ q l .roots) × ((several₂ ≡ noted roots₁ several₁ q l .several) × Unmarked any₁ several₁ any₂ several₂)
+    → (roots₂ ≡ useNoted fronts backs ps (notes roots several) u .roots) × ((several₂ ≡ useNoted fronts backs ps (notes roots several) u .several) × Unmarked any several any₂ several₂)
+two-ends fronts backs ps roots several any u ef el ep eq n₁ n₂ = (
+  rw (n₂ .0, n₁ .0, n₁ .1 .0, ef, el, ep, eq),
+  (rw (n₂ .1 .0, n₁ .0, n₁ .1 .0, ef, el, ep, eq), λ o. let y = n₂ .1 .1 o in let x = n₁ .1 .1 (y .0) in (x .0, y .1 ∙ x .1)),
+)
 
--- ---- the loop over the uses: i are noted
-pub record Noting (fronts backs ps uses roots : List ℕ) (several : List Bool) (i : ℕ) : Type 0 where
+-- ---- the loop over the uses: i are noted, and `any` says whether a point is marked
+pub record Noting (fronts backs ps uses roots : List ℕ) (several : List Bool) (any : Bool) (i : ℕ) : Type 0 where
   pub low : i ≤ length uses
   pub is : usesNoted fronts backs ps noneNoted uses ≡ usesNoted fronts backs ps (notes roots several) (drop i uses)
+  pub none : any ≡ false → several ≡ replicate 2048 false
 
 module _ (fronts backs ps uses : List ℕ) where
-  pub noting-start : Noting fronts backs ps uses (noneNoted .roots) (noneNoted .several) 0
-  noting-start = record { low = omega arith; is = refl }
+  pub noting-start : {several : List Bool} → several ≡ replicate 2048 false → Noting fronts backs ps uses (noneNoted .roots) several false 0
+  noting-start e = record { low = omega arith; is = rw e refl; none = λ o. e }
 
-  module _ {roots : List ℕ} {several : List Bool} {i : ℕ} (s : Noting fronts backs ps uses roots several i) where
-    pub noting-next : {roots′ : List ℕ} {several′ : List Bool} → i < length uses
-        → roots′ ≡ useNoted fronts backs ps (notes roots several) (getD uses i 0) .roots
-        → several′ ≡ useNoted fronts backs ps (notes roots several) (getD uses i 0) .several
-        → Noting fronts backs ps uses roots′ several′ (i + 1)
+  module _ {roots : List ℕ} {several : List Bool} {any : Bool} {i : ℕ} (s : Noting fronts backs ps uses roots several any i) where
+    pub noting-next : {roots′ : List ℕ} {several′ : List Bool} {any′ : Bool} → i < length uses
+        → (roots′ ≡ useNoted fronts backs ps (notes roots several) (getD uses i 0) .roots)
+        × ((several′ ≡ useNoted fronts backs ps (notes roots several) (getD uses i 0) .several) × Unmarked any several any′ several′)
+        → Noting fronts backs ps uses roots′ several′ any′ (i + 1)
     unfolding usesNoted
-    noting-next h e f = record { low = omega arith; is = s .is ∙ rw (e, f, add-one i, drop-cons {A = ℕ} uses i 0 h) }
+    noting-next h n = record {
+      low = omega arith;
+      is = s .is ∙ rw (n .0, n .1 .0, add-one i, drop-cons {A = ℕ} uses i 0 h);
+      none = λ o. let x = n .1 .1 o in x .1 ∙ s .none (x .0);
+    }
 
-    pub noting-all : length uses ≤ i → several ≡ usesNoted fronts backs ps noneNoted uses .several
+    pub noting-all : length uses ≤ i → (several ≡ usesNoted fronts backs ps noneNoted uses .several) × (any ≡ false → several ≡ replicate 2048 false)
     unfolding usesNoted
     noting-all h =
         let e : usesNoted fronts backs ps noneNoted uses ≡ notes roots several = s .is ∙ rw (drop-of-length-le uses h) in
-        sym (ap (λ (t : Noted). t .several) e)
+        (sym (ap (λ (t : Noted). t .several) e), s .none)

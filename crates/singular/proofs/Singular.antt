@@ -2,10 +2,10 @@
 use Prim.Native.Nat.{_*_, _<_, ℕ}
 use mathlib.Core.Bool.{Bool, false, true}
 use mathlib.Core.List.{List, [], _∷_, map}
-use mathlib.Core.Path.{_∙_, _≡_}
+use mathlib.Core.Path.{_∙_, _≡_, sym}
 use native.Mathlib.Omega.{arith}
 use lib.Dec.{eqb}
-use lib.ListN.{drop, getD, length, replicate, take}
+use lib.ListN.{drop, getD, getD-replicate, length, replicate, take}
 use Rattle.edge.specs.Uses.{backOf, frontOf}
 use Rattle.groups.proofs.Alike.{of-flat-map}
 use Rattle.groups.proofs.Climbing.{climbs, root-below}
@@ -14,13 +14,13 @@ use Rattle.groups.proofs.Meaning.{of-each}
 use Rattle.groups.proofs.Rooting.{one-root-is}
 use Rattle.groups.specs.Forest.{Forest, Grouped, Trees, joinedAll, started, trees}
 use Rattle.groups.specs.Groups.{Inside}
-use Rattle.lists.proofs.Parts.{all-flat, all-place, flat-split}
+use Rattle.lists.proofs.Parts.{all-flat, all-place, flat-split, only-none}
 use Rattle.lists.proofs.Count.{All, all-append, all-each, all-map, all-weaker}
 use Rattle.lists.proofs.Split.{getD-split}
 use Rattle.lists.specs.Lists.{flat, numbers, only, pick, split, sum}
 use Rattle.shell.specs.Singular.{corners, endsAt, endsOf, firstEnd, isSingular, lastEnd, singularOf}
 use Rattle.singular.proofs.Ends.{Member, Named, below-part, corners-below, first-below, last-below}
-use Rattle.singular.proofs.Lists.{only-alike}
+use Rattle.singular.proofs.Lists.{all-numbers, only-alike}
 use Rattle.singular.proofs.Noting.{Rooted, noted-none, noted-uses}
 use Rattle.singular.specs.Ends.{Cornered, Wired, endParents}
 use Rattle.singular.specs.Noted.{Noteable, marked, noneNoted, usesNoted}
@@ -120,3 +120,12 @@ module _ (uses lens fronts backs : List ℕ) (points : ℕ) (out : List ℕ) (h 
       → only (marked several) (numbers points) ≡ singularOf (frontOf fronts backs) (backOf fronts backs) edges points (split lens uses)
   unfolding singularOf
   singular-marked o e = rw (e, o) (only-alike (marked (usesNoted fronts backs ps noneNoted uses .several)) (isSingular (frontOf fronts backs) (backOf fronts backs) edges (split lens uses)) points marked-singular)
+
+  -- without a mark none is singular
+  pub singular-none : {parents : List ℕ} {several : List Bool} → parents ≡ ps → several ≡ usesNoted fronts backs parents noneNoted uses .several → several ≡ replicate 2048 false
+      → singularOf (frontOf fronts backs) (backOf fronts backs) edges points (split lens uses) ≡ []
+  singular-none o e z =
+      sym (singular-marked o e)
+      ∙ rw z
+      (only-none (marked (replicate 2048 false)) (numbers points)
+      (all-numbers (λ (p : ℕ). marked (replicate 2048 false) p ≡ false) points (λ p l. getD-replicate 2048 p false false (omega (arith, h .few-points)))))

@@ -2,6 +2,7 @@
 use Prim.Native.Nat.{_<_, ℕ}
 use mathlib.Core.Bool.{Bool, false, true}
 use mathlib.Core.List.{List, [], _∷_}
+use mathlib.Core.Path.{_≡_}
 use lib.Dec.{eqb}
 use lib.ListN.{getD, length, replicate, set}
 use Rattle.edge.specs.Uses.{backOf, edgeNumber, frontOf}
@@ -26,6 +27,10 @@ unfoldable pub noted : List ℕ → List Bool → ℕ → ℕ → Noted
 noted roots several p r =
     pick (eqb (getD roots p 0) 65535) (notes (set roots p r) several)
     (pick (eqb (getD roots p 0) r) (notes roots several) (notes roots (set several p true)))
+
+-- where no point is marked after, none was marked before, and the marks are the same
+abbrev pub Unmarked : Bool → List Bool → Bool → List Bool → Type 0
+Unmarked any several any′ several′ = any′ ≡ false → (any ≡ false) × (several′ ≡ several)
 
 abbrev pub alsoNoted : Noted → ℕ → ℕ → Noted
 alsoNoted s p r = noted (s .roots) (s .several) p r

@@ -1,6 +1,7 @@
 // Singular points (singular_vertices): points where the edges, linked when neighbours on a wire
 // there, fall into more than one group. Member 2e of the groups is edge e where it begins, 2e + 1
 // edge e where it ends.
+ghost use mathlib.Core.Bool.{false};
 ghost use mathlib.Core.Path.{_≡_};
 ghost use mathlib.Core.List.{[], _∷_, map};
 ghost use Prim.Native.Nat.{_*_, _+_, _<_, _≤_, ℕ};
@@ -11,7 +12,7 @@ ghost use Rattle.edge.specs.Uses.{backOf, frontOf};
 ghost use Rattle.groups.specs.Forest.{Forest, joinedAll, trees};
 ghost use Rattle.shell.specs.Singular.{corners, firstEnd, lastEnd, singularOf};
 ghost use Rattle.singular.specs.Ends.{Cornered, EdgesBelow, Wired, endParents, rotated};
-ghost use Rattle.singular.specs.Noted.{Noteable, marked, noneNoted, noted, notes, useNoted, usesNoted};
+ghost use Rattle.singular.specs.Noted.{Noteable, marked, noneNoted, noted, notes, Unmarked, useNoted, usesNoted};
 use edge::back_of;
 use edge::front_of;
 use groups::find;
@@ -91,20 +92,23 @@ fn join_ends(parents: &mut [u16], uses: &[u16], lens: &[u16], edges: usize)
     join_wires(parents, &mut sizes, edges, uses, lens);
 }
 
-// Notes that root r is met at point p.
-fn note(roots: &mut [u16; 2048], several: &mut [bool; 2048], p: usize, r: u16)
+// Notes that root r is met at point p. Returns whether a point is marked: `any` says whether one was.
+fn note(roots: &mut [u16; 2048], several: &mut [bool; 2048], p: usize, r: u16, any: bool) -> bool
     requires { ⌜ p < 2048 ⌝ }
     ensures { λ _. ⌜ now (roots .exit) ≡ noted (now (roots .entry)) (now (several .entry)) p r .roots ⌝ }
     ensures { λ _. ⌜ now (several .exit) ≡ noted (now (roots .entry)) (now (several .entry)) p r .several ⌝ }
+    ensures { λ more. ⌜ Unmarked any (now (several .entry)) more (now (several .exit)) ⌝ }
 {
     let first = roots[p];
     if first == 65535 {
         roots[p] = r;
-        return;
+        return any;
     }
     if first != r {
         several[p] = true;
+        return true;
     }
+    any
 }
 
 // Notes the roots of the two ends of a use, each at its point.
@@ -115,30 +119,40 @@ fn note_use(
     parents: &[u16],
     roots: &mut [u16; 2048],
     several: &mut [bool; 2048],
-)
+    any: bool,
+) -> bool
     requires { ⌜ Noteable (now fronts) (now backs) (now parents) u ⌝ }
     ensures { λ _. ⌜ now (roots .exit) ≡ useNoted (now (fronts .entry)) (now (backs .entry)) (now (parents .entry)) (notes (now (roots .entry)) (now (several .entry))) u .roots ⌝ }
     ensures { λ _. ⌜ now (several .exit) ≡ useNoted (now (fronts .entry)) (now (backs .entry)) (now (parents .entry)) (notes (now (roots .entry)) (now (several .entry))) u .several ⌝ }
+    ensures { λ more. ⌜ Unmarked any (now (several .entry)) more (now (several .exit)) ⌝ }
 {
     let first = find(parents, index(first_end(u))) as u16;
     let last = find(parents, index(last_end(u))) as u16;
-    note(roots, several, front_of(u, fronts, backs), first);
-    note(roots, several, back_of(u, fronts, backs), last);
+    let front = note(roots, several, front_of(u, fronts, backs), first, any);
+    note(roots, several, back_of(u, fronts, backs), last, front)
 }
 
-// The points where several roots are met.
-fn several_roots(uses: &[u16], fronts: &[u16], backs: &[u16], parents: &[u16]) -> [bool; 2048]
+// Marks the points where several roots are met. Returns whether there are any.
+fn several_roots(
+    uses: &[u16],
+    fronts: &[u16],
+    backs: &[u16],
+    parents: &[u16],
+    several: &mut [bool; 2048],
+) -> bool
     requires { ⌜ ((k : ℕ) → k < length (now uses) → Noteable (now fronts) (now backs) (now parents) (getD (now uses) k 0)) ⌝ }
-    ensures { λ r. ⌜ r ≡ usesNoted (now (fronts .entry)) (now (backs .entry)) (now (parents .entry)) noneNoted (now (uses .entry)) .several ⌝ }
+    requires { ⌜ now several ≡ replicate 2048 false ⌝ }
+    ensures { λ _. ⌜ now (several .exit) ≡ usesNoted (now (fronts .entry)) (now (backs .entry)) (now (parents .entry)) noneNoted (now (uses .entry)) .several ⌝ }
+    ensures { λ any. ⌜ (any ≡ false → now (several .exit) ≡ replicate 2048 false) ⌝ }
 {
     let mut roots = [65535u16; 2048];
-    let mut several = [false; 2048];
+    let mut any = false;
     let mut i: usize = 0;
     while i < uses.len() {
-        note_use(uses[i], fronts, backs, parents, &mut roots, &mut several);
+        any = note_use(uses[i], fronts, backs, parents, &mut roots, several, any);
         i += 1;
     }
-    several
+    any
 }
 
 // Writes point p at place n, if it is marked; the next place.
@@ -155,8 +169,8 @@ fn put_point(out: &mut [u16], n: usize, p: usize, marked: bool) -> usize
 }
 
 // Writes the points that are marked, the lowest first; their number.
-fn put_points(marks: &[bool], points: usize, out: &mut [u16]) -> usize
-    requires { ⌜ (points ≤ 2048) × ((points ≤ length (now marks)) × (points ≤ length (now out))) ⌝ }
+fn put_points(marks: &[bool; 2048], points: usize, out: &mut [u16]) -> usize
+    requires { ⌜ (points ≤ 2048) × (points ≤ length (now out)) ⌝ }
     ensures { λ r. ⌜ (now (out .exit) ≡ sets (now (out .entry)) 0 (only (marked (now (marks .entry))) (numbers points))) × (r ≡ length (only (marked (now (marks .entry))) (numbers points))) ⌝ }
     ensures { λ r. ⌜ r ≤ points ⌝ }
 {
@@ -186,6 +200,9 @@ pub fn singular_of(
 {
     let mut parents = [0u16; 2048];
     join_ends(&mut parents, uses, lens, fronts.len());
-    let several = several_roots(uses, fronts, backs, &parents);
+    let mut several = [false; 2048];
+    if !several_roots(uses, fronts, backs, &parents, &mut several) {
+        return 0;
+    }
     put_points(&several, points, out)
 }

@@ -1,46 +1,78 @@
--- At each turn: the lowest that the edges so far make of the condition.
-use Prim.Native.Nat.{_-_}
+-- At each turn: the lowest that the edges so far make of the condition. First four edges at a turn, then one.
+use Prim.Native.Nat.{_%_, _-_}
+use mathlib.Core.Path.{_≡_}
 use native.Mathlib.Omega.{arith}
 use borrow.Author.Needs.{needs}
-use Rattle.condition.proofs.Loops.{Joining, joining-all, joining-next, joining-start}
+use Rattle.condition.proofs.Loops.{Joining, joining-all, joining-four, joining-next, joining-start}
 use Rattle.condition.proofs.condition_of.Statement.{statement}
 use Rattle.condition.proofs.condition_of.Tie as tie
 
 abbrev Inv-loop : tie.InvT-loop
-Inv-loop n t closed₀ e₀ closed e = Joining t n (closed .0) e
+Inv-loop n t closed₀ e₀ closed e = Joining t n (closed .0) e × (e % 4 ≡ 0)
 
 abbrev μ-loop : tie.MeasureT-loop
 μ-loop n t closed₀ e₀ closed e = n - e
 
-loop-holds : tie.Need-loop-holds Inv-loop μ-loop
-loop-holds c = joining-start (c .args .t1) (c .args .n)
+abbrev Inv-loop2 : tie.InvT-loop2
+Inv-loop2 n t closed₀ e₀ closed e = Joining t n (closed .0) e
 
-element-copy-out-state-in : tie.Need-element-copy-out-state-in Inv-loop μ-loop
-element-copy-out-state-in c = search needs
+abbrev μ-loop2 : tie.MeasureT-loop2
+μ-loop2 n t closed₀ e₀ closed e = n - e
 
-state-in-requires : tie.Need-state-in-requires Inv-loop μ-loop
-state-in-requires c κs = search needs
+loop-holds : tie.Need-loop-holds Inv-loop μ-loop Inv-loop2 μ-loop2
+loop-holds c = (joining-start (c .args .t1) (c .args .n), omega arith)
 
-state-condition-requires : tie.Need-state-condition-requires Inv-loop μ-loop
-state-condition-requires c κs = search needs
+sub-loop : tie.Need-sub-loop Inv-loop μ-loop Inv-loop2 μ-loop2
+sub-loop c = omega (arith, c .loop .inv .0 .low)
 
-join-requires : tie.Need-join-requires Inv-loop μ-loop
+element-copy-out-byte-condition :
+    tie.Need-element-copy-out-byte-condition Inv-loop μ-loop Inv-loop2 μ-loop2
+element-copy-out-byte-condition c = search needs
+
+byte-condition-requires : tie.Need-byte-condition-requires Inv-loop μ-loop Inv-loop2 μ-loop2
+byte-condition-requires c κs = search needs
+
+join-requires : tie.Need-join-requires Inv-loop μ-loop Inv-loop2 μ-loop2
 join-requires c κs = search needs
 
-add-e : tie.Need-add-e Inv-loop μ-loop
+add-e : tie.Need-add-e Inv-loop μ-loop Inv-loop2 μ-loop2
 add-e c = search needs
 
-loop-less : tie.Need-loop-less Inv-loop μ-loop
+loop-less : tie.Need-loop-less Inv-loop μ-loop Inv-loop2 μ-loop2
 loop-less c = search needs
 
-loop-again : tie.Need-loop-again Inv-loop μ-loop
-loop-again c = joining-next _ _ _ _ (c .before .before .before .before .before .loop .inv) (c .before .before .before .before .loop-test .taken) _ _ _ (c .before .before .state-in .ensures .0) (c .before .state-condition .ensures) (c .join .ensures)
+loop-again : tie.Need-loop-again Inv-loop μ-loop Inv-loop2 μ-loop2
+loop-again c = (joining-four _ _ _ _ (c .before .before .before .before .loop .inv .0) (c .before .before .before .before .loop .inv .1) (c .before .before .before .loop-test .taken) _ _ (c .before .byte-condition .ensures) (c .join .ensures), omega (arith, c .before .before .before .before .loop .inv .1))
 
-join-requires-2 : tie.Need-join-requires-2 Inv-loop μ-loop
+loop2-holds : tie.Need-loop2-holds Inv-loop μ-loop Inv-loop2 μ-loop2
+loop2-holds c = c .before .loop .inv .0
+
+element-copy-out-state-in : tie.Need-element-copy-out-state-in Inv-loop μ-loop Inv-loop2 μ-loop2
+element-copy-out-state-in c = search needs
+
+state-in-requires : tie.Need-state-in-requires Inv-loop μ-loop Inv-loop2 μ-loop2
+state-in-requires c κs = search needs
+
+state-condition-requires : tie.Need-state-condition-requires Inv-loop μ-loop Inv-loop2 μ-loop2
+state-condition-requires c κs = search needs
+
+join-requires-2 : tie.Need-join-requires-2 Inv-loop μ-loop Inv-loop2 μ-loop2
 join-requires-2 c κs = search needs
 
-returns : tie.Need-returns Inv-loop μ-loop
-returns c = joining-all _ _ _ _ (c .before .before .loop .inv) (omega arith) _ (c .join2 .ensures)
+add-e-2 : tie.Need-add-e-2 Inv-loop μ-loop Inv-loop2 μ-loop2
+add-e-2 c = search needs
+
+loop2-less : tie.Need-loop2-less Inv-loop μ-loop Inv-loop2 μ-loop2
+loop2-less c = search needs
+
+loop2-again : tie.Need-loop2-again Inv-loop μ-loop Inv-loop2 μ-loop2
+loop2-again c = joining-next _ _ _ _ (c .before .before .before .before .before .loop2 .inv) (c .before .before .before .before .loop2-test .taken) _ _ _ (c .before .before .state-in .ensures .0) (c .before .state-condition .ensures) (c .join2 .ensures)
+
+join-requires-3 : tie.Need-join-requires-3 Inv-loop μ-loop Inv-loop2 μ-loop2
+join-requires-3 c κs = search needs
+
+returns : tie.Need-returns Inv-loop μ-loop Inv-loop2 μ-loop2
+returns c = joining-all _ _ _ _ (c .before .before .loop2 .inv) (omega arith) _ (c .join3 .ensures)
 
 pub condition-of-spec : {M : Type 1} → statement M
 condition-of-spec =
@@ -48,13 +80,23 @@ condition-of-spec =
     (tie.spec
     Inv-loop
     μ-loop
+    Inv-loop2
+    μ-loop2
     loop-holds
-    element-copy-out-state-in
-    state-in-requires
-    state-condition-requires
+    sub-loop
+    element-copy-out-byte-condition
+    byte-condition-requires
     join-requires
     add-e
     loop-less
     loop-again
+    loop2-holds
+    element-copy-out-state-in
+    state-in-requires
+    state-condition-requires
     join-requires-2
+    add-e-2
+    loop2-less
+    loop2-again
+    join-requires-3
     returns)

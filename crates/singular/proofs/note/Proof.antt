@@ -1,4 +1,5 @@
 -- The first root at the point, the same one, or another.
+use mathlib.Core.Bool.{true≢false}
 use mathlib.Core.Path.{refl}
 use borrow.Author.Needs.{needs}
 use Rattle.singular.proofs.Noting.{noted-first, noted-other, noted-same}
@@ -19,21 +20,24 @@ element-write-roots c = search needs
 
 returns : tie.Need-returns
 returns c =
-    let e = noted-first (c .before .before .args .roots .now) (c .before .before .args .several .now) (c .before .before .args .p) (c .before .before .args .r) (c .if1 .taken) in
-    rw e (refl, refl)
+    let a = c .before .before .args in
+    let e = noted-first (a .roots .now) (a .several .now) (a .p) (a .r) (c .if1 .taken) in
+    rw e (refl, (refl, λ o. (o, refl)))
 
 element-write-several : tie.Need-element-write-several
 element-write-several c = search needs
 
 returns-2 : tie.Need-returns-2
 returns-2 c =
-    let e = noted-other (c .before .before .before .args .roots .now) (c .before .before .before .args .several .now) (c .before .before .before .args .p) (c .before .before .before .args .r) (c .before .if1 .left) (c .if2 .taken) in
-    rw e (refl, refl)
+    let a = c .before .before .before .args in
+    let e = noted-other (a .roots .now) (a .several .now) (a .p) (a .r) (c .before .if1 .left) (c .if2 .taken) in
+    rw e (refl, (refl, λ o. absurd (true≢false o)))
 
 returns-3 : tie.Need-returns-3
 returns-3 c =
-    let e = noted-same (c .before .before .before .args .roots .now) (c .before .before .before .args .several .now) (c .before .before .before .args .p) (c .before .before .before .args .r) (c .before .if1 .left) (c .if2 .left) in
-    rw e (refl, refl)
+    let a = c .before .before .before .args in
+    let e = noted-same (a .roots .now) (a .several .now) (a .p) (a .r) (c .before .if1 .left) (c .if2 .left) in
+    rw e (refl, (refl, λ o. (o, refl)))
 
 pub note-spec : {M : Type 1} → statement M
 note-spec =

@@ -47,7 +47,7 @@ returns : tie.Need-returns
 returns c =
     let a = c .before .before .before .before .before .before .before .before .before .before .before .before .before .before .before .before .before .args in
     let ps = a .parents .now in
-    two-ends (a .fronts .now) (a .backs .now) ps (a .roots .now) (a .several .now) (a .u)
+    two-ends (a .fronts .now) (a .backs .now) ps (a .roots .now) (a .several .now) (a .any) (a .u)
     (c .before .before .before .before .before .before .before .before .before .before .before .find .ensures ∙ ap (rootOf ps) (c .before .before .before .before .before .before .before .before .before .before .before .before .index .ensures .0 ∙ c .before .before .before .before .before .before .before .before .before .before .before .before .before .first-end .ensures))
     (c .before .before .before .before .before .before .before .before .find2 .ensures ∙ ap (rootOf ps) (c .before .before .before .before .before .before .before .before .before .index2 .ensures .0 ∙ c .before .before .before .before .before .before .before .before .before .before .last-end .ensures))
     (c .before .before .before .before .before .front-of .ensures)

@@ -3,8 +3,8 @@ use Prim.Native.Nat.{_-_}
 use native.Mathlib.Omega.{arith}
 use borrow.Author.Needs.{needs}
 use Rattle.singular.proofs.Lists.{Listed, listed-all, listed-long, listed-next, listed-start}
-use Rattle.singular.proofs.put_points.Statement.{statement}
 use Rattle.singular.specs.Noted.{marked}
+use Rattle.singular.proofs.put_points.Statement.{statement}
 use Rattle.singular.proofs.put_points.Tie as tie
 
 abbrev Inv-loop : tie.InvT-loop
@@ -16,11 +16,11 @@ abbrev μ-loop : tie.MeasureT-loop
 loop-holds : tie.Need-loop-holds Inv-loop μ-loop
 loop-holds c = listed-start _ _ _
 
-shared-slice-read-put-point : tie.Need-shared-slice-read-put-point Inv-loop μ-loop
-shared-slice-read-put-point c = search needs
+element-copy-out-put-point : tie.Need-element-copy-out-put-point Inv-loop μ-loop
+element-copy-out-put-point c = search needs
 
 put-point-requires : tie.Need-put-point-requires Inv-loop μ-loop
-put-point-requires c κs = (omega (arith, c .before .before .before .before .before .before .pre .0), omega (arith, c .before .before .before .loop .inv .few, listed-long (c .before .before .before .loop .inv), c .before .before .before .before .before .before .pre .1 .1))
+put-point-requires c κs = let s = c .before .before .before .loop .inv in (omega (arith, c .before .before .before .before .before .pre .0), omega (arith, s .few, listed-long s, c .before .before .before .before .before .pre .1))
 
 add-p : tie.Need-add-p Inv-loop μ-loop
 add-p c = search needs
@@ -44,7 +44,7 @@ put-points-spec =
     Inv-loop
     μ-loop
     loop-holds
-    shared-slice-read-put-point
+    element-copy-out-put-point
     put-point-requires
     add-p
     loop-less

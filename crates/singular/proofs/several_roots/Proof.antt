@@ -8,13 +8,13 @@ use Rattle.singular.proofs.several_roots.Statement.{statement}
 use Rattle.singular.proofs.several_roots.Tie as tie
 
 abbrev Inv-loop : tie.InvT-loop
-Inv-loop uses fronts backs parents roots₀ several₀ i₀ roots several i = Noting fronts backs parents uses roots several i
+Inv-loop uses fronts backs parents several₀ roots₀ any₀ i₀ several roots any i = Noting fronts backs parents uses roots several any i
 
 abbrev μ-loop : tie.MeasureT-loop
-μ-loop uses fronts backs parents roots₀ several₀ i₀ roots several i = length uses - i
+μ-loop uses fronts backs parents several₀ roots₀ any₀ i₀ several roots any i = length uses - i
 
 loop-holds : tie.Need-loop-holds Inv-loop μ-loop
-loop-holds c = noting-start _ _ _ _
+loop-holds c = noting-start _ _ _ _ (c .before .before .before .before .pre .1)
 
 mul-note-use : tie.Need-mul-note-use Inv-loop μ-loop
 mul-note-use c = search needs
@@ -23,7 +23,7 @@ shared-slice-read-note-use : tie.Need-shared-slice-read-note-use Inv-loop μ-loo
 shared-slice-read-note-use c = search needs
 
 note-use-requires : tie.Need-note-use-requires Inv-loop μ-loop
-note-use-requires c κs = c .before .before .before .before .before .before .before .before .before .pre (c .before .before .before .before .loop .i) (c .before .before .before .loop-test .taken)
+note-use-requires c κs = c .before .before .before .before .before .before .before .before .before .pre .0 (c .before .before .before .before .loop .i) (c .before .before .before .loop-test .taken)
 
 add-i : tie.Need-add-i Inv-loop μ-loop
 add-i c = search needs
@@ -32,7 +32,7 @@ loop-less : tie.Need-loop-less Inv-loop μ-loop
 loop-less c = search needs
 
 loop-again : tie.Need-loop-again Inv-loop μ-loop
-loop-again c = noting-next _ _ _ _ (c .before .before .before .before .before .loop .inv) (c .before .before .before .before .loop-test .taken) (c .note-use .ensures .0) (c .note-use .ensures .1)
+loop-again c = noting-next _ _ _ _ (c .before .before .before .before .before .loop .inv) (c .before .before .before .before .loop-test .taken) (c .note-use .ensures)
 
 returns : tie.Need-returns Inv-loop μ-loop
 returns c = noting-all _ _ _ _ (c .before .loop .inv) (omega arith)

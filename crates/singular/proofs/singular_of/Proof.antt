@@ -1,6 +1,9 @@
 -- The points where several roots are met are the singular ones.
+use mathlib.Core.Path.{refl}
+use native.Mathlib.Omega.{arith}
 use borrow.Author.Needs.{needs}
-use Rattle.singular.proofs.Singular.{noteable, singular-marked}
+use borrow.Author.Tests.{not-true}
+use Rattle.singular.proofs.Singular.{noteable, singular-marked, singular-none}
 use Rattle.singular.proofs.singular_of.Statement.{statement}
 use Rattle.singular.proofs.singular_of.Tie as tie
 
@@ -15,11 +18,14 @@ slice-aggregate-several-roots c = search needs
 
 several-roots-requires : tie.Need-several-roots-requires
 several-roots-requires c κs =
-    let a = c .before .before .before .before .before .before .before .before .before .args in
-    noteable (a .uses .now) (a .lens .now) (a .fronts .now) (a .backs .now) (a .points) (a .out .now) (c .before .before .before .before .before .before .before .before .before .pre) (c .before .before .join-ends .ensures)
+    let a = c .before .before .before .before .before .before .before .before .before .before .args in
+    (noteable (a .uses .now) (a .lens .now) (a .fronts .now) (a .backs .now) (a .points) (a .out .now) (c .before .before .before .before .before .before .before .before .before .before .pre) (c .before .before .before .join-ends .ensures), refl)
 
-slice-aggregate-put-points : tie.Need-slice-aggregate-put-points
-slice-aggregate-put-points c = search needs
+returns : tie.Need-returns
+returns c =
+    let a = c .before .before .before .before .before .before .before .before .before .before .before .before .args in
+    let n = c .before .several-roots .ensures in
+    rw (singular-none (a .uses .now) (a .lens .now) (a .fronts .now) (a .backs .now) (a .points) (a .out .now) (c .before .before .before .before .before .before .before .before .before .before .before .before .pre) (c .before .before .before .before .before .join-ends .ensures) (n .0) (n .1 (not-true _ (c .if1 .taken)))) ((refl, refl), omega arith)
 
 put-points-requires : tie.Need-put-points-requires
 put-points-requires c κs = search needs
@@ -27,10 +33,10 @@ put-points-requires c κs = search needs
 same-length : tie.Need-same-length
 same-length c = search needs
 
-returns : tie.Need-returns
-returns c =
-    let a = c .before .before .before .before .before .before .before .before .before .before .before .before .before .before .before .args in
-    let e = singular-marked (a .uses .now) (a .lens .now) (a .fronts .now) (a .backs .now) (a .points) (a .out .now) (c .before .before .before .before .before .before .before .before .before .before .before .before .before .before .before .pre) (c .before .before .before .before .before .before .before .before .join-ends .ensures) (c .before .before .before .before .before .several-roots .ensures) in
+returns-2 : tie.Need-returns-2
+returns-2 c =
+    let a = c .before .before .before .before .before .before .before .before .before .before .before .before .before .before .before .before .before .args in
+    let e = singular-marked (a .uses .now) (a .lens .now) (a .fronts .now) (a .backs .now) (a .points) (a .out .now) (c .before .before .before .before .before .before .before .before .before .before .before .before .before .before .before .before .before .pre) (c .before .before .before .before .before .before .before .before .before .before .join-ends .ensures) (c .before .before .before .before .before .before .several-roots .ensures .0) in
     rw (← e) (c .before .before .put-points .ensures)
 
 pub singular-of-spec : {M : Type 1} → statement M
@@ -41,7 +47,7 @@ singular-of-spec =
     join-ends-requires
     slice-aggregate-several-roots
     several-roots-requires
-    slice-aggregate-put-points
+    returns
     put-points-requires
     same-length
-    returns)
+    returns-2)
