@@ -1,7 +1,7 @@
--- The glue loses nothing that is kept: the chained outlines hold every kept use once, and nothing else.
-use Prim.Native.Nat.{_%_, _+_, _<_, suc, zero, ℕ}
-use mathlib.Core.Bool.{Bool, false, or-true, true, true≢false}
-use mathlib.Core.List.{List, [], _∷_}
+-- The glue loses nothing that is kept: the chained outlines hold every kept use once, and nothing else. What is not refused keeps the face rule.
+use Prim.Native.Nat.{_%_, _/_, _+_, _<_, suc, zero, ℕ}
+use mathlib.Core.Bool.{Bool, _&&_, false, or-true, true, true≢false}
+use mathlib.Core.List.{List, [], _++_, _∷_}
 use mathlib.Core.Logic.{⊎-elim}
 use mathlib.Core.Option.{Option, Option·none-ne-some, Option·some-injective, none, some}
 use mathlib.Core.Path.{_∙_, _≡_, ap, refl, sym}
@@ -10,10 +10,12 @@ use lib.Dec.{eqb, ltb}
 use lib.ListN.{List·getD-eq-default, getD, length, length-replicate, length-set, replicate, set}
 use lib.Seq.{set-getD}
 use borrow.Author.Tests.{eq-eqb, eqb-true, ltb-false, ltb-true}
-use Rattle.face_edits.specs.FaceEdits.{andThen, boundaries, chainAt, chained, glued, keptOf, meet, meetAll, meeting}
+use Rattle.edit_answers.specs.declared.FaceEditError.the-variants.{FaceRule, FacesDiffer, NoSpace, NothingRemains, OppositeEdges, Unnamed}
+use Rattle.errors.proofs.Laws.{none-left, none-right, unless-passes}
+use Rattle.face_edits.specs.FaceEdits.{andThen, boundaries, chainAt, chained, fits, glued, glueFaults, isFace, isSome, keepsRule, keptOf, meet, meetAll, meeting, surfaceOf}
 use Rattle.lists.proofs.Count.{count-cons, count-flat}
 use Rattle.lists.proofs.Laws.{cases}
-use Rattle.lists.specs.Lists.{count, flat, has, numbers, pick, tabulate}
+use Rattle.lists.specs.Lists.{count, flat, has, numbers, pick, tabulate, unless}
 use Rattle.pattern.specs.Contents.{Content}
 use Rattle.shell.proofs.Held.{chain-takes, get-out, get-same, held, held-none, held-out}
 use Rattle.shell.specs.Openings.{Found, Kept, backIn, chain, follow, frontIn, keep, lookUp}
@@ -122,3 +124,10 @@ module _ (c : Content) where
 
   pub glued-all : (f g : ℕ) (kept : Kept) → meeting c f g ≡ some kept → (q : ℕ → Bool) → count q (flat (glued c f g)) ≡ count q (held kept)
   glued-all f g kept e q = rw e (chained-counts c q (numbers (length (c .points))) kept (all-points kept (length (c .points)) (length-meeting f g kept e)))
+
+  -- a glue that is not refused keeps the face rule
+  pub glue-kept : (f g m k : ℕ) → glueFaults c f g m k ≡ [] → keepsRule c (glued c f g) ≡ true
+  glue-kept f g m k ok =
+      let wires = glued c f g in
+      let before = unless (isFace c f && isFace c g) Unnamed ++ unless (eqb (surfaceOf c f) (surfaceOf c g) && eqb (f / 32768) (g / 32768)) FacesDiffer ++ unless (isSome (meeting c f g)) OppositeEdges ++ unless (ltb 0 (length wires)) NothingRemains in
+      unless-passes (keepsRule c wires) FaceRule (none-right before (unless (keepsRule c wires) FaceRule) (none-left (before ++ unless (keepsRule c wires) FaceRule) (unless (fits wires m k) NoSpace) ok))
