@@ -124,8 +124,12 @@ room-there c u v h =
     let room = leb (length (c .edges) + 1) 1024 in
     omega (arith, leb-true (length (c .edges) + 1) 1024 (unless-passes room NoSpace (none-right ends (unless room NoSpace) h)))
 
-pub concat-room : (c : Content) (u v : ℕ) (d : Edge) {k : Edge} → joint (concatFaults c u v) d ≡ Whole k → length (c .edges) < 1024
-concat-room c u v d h =
+-- where two uses are joined, no refusal of the join is left
+pub joins-none : (c : Content) (u v : ℕ) (d : Edge) {k : Edge} → joint (concatFaults c u v) d ≡ Whole k → joinFaults c u v ≡ []
+joins-none c u v d h =
     let named = unless (ltb (edgeNumber u) (length (c .edges)) && ltb (edgeNumber v) (length (c .edges))) Unnamed in
     let met = unless (eqb (backIn c u) (frontIn c v)) Disconnected in
-    room-there c u v (none-right (named ++ met) (joinFaults c u v) (joint-none (concatFaults c u v) d h))
+    none-right (named ++ met) (joinFaults c u v) (joint-none (concatFaults c u v) d h)
+
+pub concat-room : (c : Content) (u v : ℕ) (d : Edge) {k : Edge} → joint (concatFaults c u v) d ≡ Whole k → length (c .edges) < 1024
+concat-room c u v d h = room-there c u v (joins-none c u v d h)

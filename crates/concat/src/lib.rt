@@ -73,7 +73,7 @@ pub fn judge_join(a: Edge, u: u16, b: Edge, v: u16, edges: usize) -> Joint
 }
 
 // The same where the first use must end where the second begins: 29 first.
-fn judge_concat(a: Edge, u: u16, b: Edge, v: u16, edges: usize) -> Joint
+pub fn judge_concat(a: Edge, u: u16, b: Edge, v: u16, edges: usize) -> Joint
     ensures { λ r. ⌜ r ≡ joint (meetFaults a u b v edges) (joinedEnds a u b v) ⌝ }
 {
     let meet = use_back(a, u);

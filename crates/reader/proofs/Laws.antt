@@ -15,7 +15,7 @@ use borrow.Author.Tests.{eq-eqb, eqb-true, le-leb, le-ltb, leb-true, lt-leb, lt-
 use Rattle.edge.proofs.Laws.{noEdge}
 use Rattle.edge.specs.Edges.{backNumber, frontNumber}
 use Rattle.edge.specs.declared.Edge.{Edge}
-use Rattle.errors.proofs.Laws.{Passed, accepted-none, none-left, none-right, passed-all, passed-next, passed-stop, refused-first, unless-passes}
+use Rattle.errors.proofs.Laws.{Passed, accepted-none, none-both, none-left, none-right, passed-all, passed-next, passed-stop, refused-first, unless-passes}
 use Rattle.errors.specs.Faults.{each, first}
 use Rattle.errors.specs.declared.Check.the-variants.{Accepted, Refused}
 use Rattle.errors.specs.declared.Refusal.{Refusal}
@@ -28,7 +28,7 @@ use Rattle.lists.specs.Lists.{padded, tabulate, unless}
 use Rattle.pattern.proofs.Columns.{checkable, content-columns}
 use Rattle.pattern.proofs.Counts.{Full, Limited, count-kept, limited}
 use Rattle.pattern.proofs.Edges.{edge-faults, edge-refused}
-use Rattle.pattern.specs.Checks.{Checkable, columnFaults, contentFaults, countFaults, edgeFaults}
+use Rattle.pattern.specs.Checks.{Checkable, columnFaults, contentFaults, countFaults, edgeFaults, patternFaults}
 use Rattle.pattern.specs.Contents.{Content, content, countsOf, layout, stored, zeroEdge, zeroFace}
 use Rattle.pattern.specs.declared.Pattern.{Pattern}
 use Rattle.pattern_file.proofs.Places.{offsetFault, start-le, start-next}
@@ -312,3 +312,10 @@ reading-refused s f h = refused-by (fileFaults s) (fileContent s) f h
 pub reading-accepted : (s : List ℕ) → fileFaults s ≡ [] → _≡_ {A = Reading} (record { answer = Accepted; pattern = stored (fileContent s) }) (reading s)
 unfolding readingOf
 reading-accepted s e = rw e
+
+-- the pattern of an accepted file passes the checks
+pub stored-passes : (s : List ℕ) → fileFaults s ≡ [] → patternFaults (stored (fileContent s)) ≡ []
+stored-passes s ok =
+    none-both (countFaults (countsOf (fileContent s))) (contentFaults (content (stored (fileContent s))))
+    (ap countFaults (sym (counts-of-content s)) ∙ table-counts s (none-left (tableFaults s) (contentFaults (fileContent s)) ok))
+    (ap contentFaults (content-of-stored (fileContent s)) ∙ none-right (tableFaults s) (contentFaults (fileContent s)) ok)

@@ -100,7 +100,7 @@ fn f64_at(s: &[u8], at: usize) -> f64
     f64::from_bits(bits)
 }
 
-fn edge_at(s: &[u8], at: usize) -> Edge
+pub fn edge_at(s: &[u8], at: usize) -> Edge
     requires { ⌜ at + 20 ≤ length (now s) ⌝ }
     ensures { λ r. ⌜ r ≡ edgeAt (now (s .entry)) at ⌝ }
 {

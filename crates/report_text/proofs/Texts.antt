@@ -29,7 +29,7 @@ use Rattle.pattern.specs.Contents.{Content, content, countsOf, stored}
 use Rattle.pattern.specs.declared.Pattern.{Pattern}
 use Rattle.pattern_file.proofs.RoundTrip.{content-of-stored}
 use Rattle.pattern_file.specs.File.{fileContent, fileCounts, fileFaults, tableFaults}
-use Rattle.reader.proofs.Laws.{counts-of-content, full, limits, table-counts}
+use Rattle.reader.proofs.Laws.{counts-of-content, full, limits, stored-passes}
 use Rattle.reader.specs.Reading.{Tables}
 use Rattle.report_text.specs.Report.{reportOf, reportText, shellReport, solidText, textFor}
 use Rattle.report_text.specs.Texts.{Shelled, Tabled, arrayLines}
@@ -277,15 +277,15 @@ module _ (s : List ℕ) where
       none : contentFaults (fileContent s) ≡ []
       none = accepted-none (contentFaults (fileContent s)) right
 
+      all-none : fileFaults s ≡ []
+      all-none = none-both (tableFaults s) (contentFaults (fileContent s)) ok none
+
       pub content-passes : patternFaults (stored (fileContent s)) ≡ []
-      content-passes =
-          none-both (countFaults (countsOf (fileContent s))) (contentFaults (content (stored (fileContent s))))
-          (ap countFaults (sym (counts-of-content s)) ∙ table-counts s ok)
-          (ap contentFaults (content-of-stored (fileContent s)) ∙ none)
+      content-passes = stored-passes s all-none
 
       pub content-accepted : reportText (content (stored (fileContent s))) ≡ reportOf s
       unfolding reportOf
-      content-accepted = rw (none-both (tableFaults s) (contentFaults (fileContent s)) ok none, content-of-stored (fileContent s))
+      content-accepted = rw (all-none, content-of-stored (fileContent s))
 
       -- the columns that were read
       pub file-tabled : (counts fronts backs uses wires faces shells listings : List ℕ) → counts ≡ fileCounts s → Tables (stored (fileContent s)) fronts backs uses wires faces shells listings

@@ -5,7 +5,7 @@ use mathlib.Core.Path.{_∙_, _≡_, ap, refl, sym}
 use lib.ListN.{drop, getD, length, take}
 use lib.Seq.{take-append-seam}
 use borrow.Author.Tests.{le-leb}
-use Rattle.errors.proofs.Laws.{none-both, none-left, none-right}
+use Rattle.errors.proofs.Laws.{none-left, none-right}
 use Rattle.errors.specs.declared.Check.the-variants.{Accepted}
 use Rattle.errors.specs.declared.Refusal.{Refusal}
 use Rattle.pattern.proofs.Counts.{Full}
@@ -14,8 +14,8 @@ use Rattle.pattern.specs.Contents.{Content, content, countsOf, stored}
 use Rattle.pattern.specs.declared.Pattern.{Pattern}
 use Rattle.pattern_file.proofs.Fits.{Fits}
 use Rattle.pattern_file.proofs.RoundTrip.{content-of-stored, read-of-written, written-of-read}
-use Rattle.pattern_file.specs.File.{fileBytes, fileContent, fileFaults, tableFaults}
-use Rattle.reader.proofs.Laws.{counts-of-content, reading-accepted, table-counts}
+use Rattle.pattern_file.specs.File.{fileBytes, fileContent, fileFaults}
+use Rattle.reader.proofs.Laws.{reading-accepted, stored-passes}
 use Rattle.reader.specs.Reading.{reading}
 use Rattle.writer.proofs.Parts.{counts-same}
 use Rattle.writer.specs.Writing.{writeAnswer, writeBytes, written, writtenBytes}
@@ -49,8 +49,4 @@ pub written-back : (s out : List ℕ) → ((k : ℕ) → getD s k 0 < 256) → f
 written-back s out bytes ok room =
     let same = content-of-stored (fileContent s) in
     let file = written-of-read s bytes ok in
-    let pass : patternFaults (stored (fileContent s)) ≡ [] =
-    none-both (countFaults (countsOf (fileContent s))) (contentFaults (content (stored (fileContent s))))
-    (ap countFaults (sym (counts-of-content s)) ∙ table-counts s (none-left (tableFaults s) (contentFaults (fileContent s)) ok))
-    (ap contentFaults same ∙ none-right (tableFaults s) (contentFaults (fileContent s)) ok) in
-    whole (patternFaults (stored (fileContent s))) (fileBytes (content (stored (fileContent s)))) s out pass (ap fileBytes same ∙ file) room
+    whole (patternFaults (stored (fileContent s))) (fileBytes (content (stored (fileContent s)))) s out (stored-passes s ok) (ap fileBytes same ∙ file) room

@@ -22,7 +22,7 @@ use Rattle.pattern_file.specs.File.{bodyLengths, edgeBytes, faceBytes, fileByte
 use Rattle.words.specs.Words.{bytes16, bytes32}
 
 -- the bodies
-abbrev parts : Content → List (List ℕ)
+abbrev pub parts : Content → List (List ℕ)
 parts c =
     flat (map bytes32 (c .points))
     ∷ flat (map edgeBytes (c .edges))
@@ -34,7 +34,7 @@ parts c =
     ∷ []
 
 -- the file up to body b
-abbrev upto : Content → ℕ → List ℕ
+abbrev pub upto : Content → ℕ → List ℕ
 upto c zero = tableBytes (countsOf c)
 upto c (suc b) = upto c b ++ getD (parts c) b []
 
@@ -50,11 +50,11 @@ part-lengths c = λ i.
     ∷ length-flat bytes16 2 (λ x. refl) (c .listings) i
     ∷ []
 
-table-length : (ns : List ℕ) → length (tableBytes ns) ≡ 56
+pub table-length : (ns : List ℕ) → length (tableBytes ns) ≡ 56
 unfolding flat tabulate
 table-length ns = refl
 
-upto-length : (c : Content) (b : ℕ) → startOf (countsOf c) b ≡ length (upto c b)
+pub upto-length : (c : Content) (b : ℕ) → startOf (countsOf c) b ≡ length (upto c b)
 upto-length c zero = start-first (countsOf c) ∙ sym (table-length (countsOf c))
 upto-length c (suc b) =
     let part : length (getD (parts c) b []) ≡ getD (layout .sizes) b 0 * getD (countsOf c) b 0 =

@@ -43,7 +43,7 @@ pub fn written_number(w: Written) -> usize
 }
 
 // Writes the first n numbers, of two bytes each, from `at` on.
-fn put_u16s(out: &mut [u8], at: usize, ns: &[u16], n: usize)
+pub fn put_u16s(out: &mut [u8], at: usize, ns: &[u16], n: usize)
     requires { ⌜ (at + 2 * n ≤ length (now out)) × (n ≤ length (now ns)) ⌝ }
     ensures { λ _. ⌜ now (out .exit) ≡ sets (now (out .entry)) at (flat (map bytes16 (take n (now (ns .entry))))) ⌝ }
 {
@@ -67,7 +67,7 @@ fn put_points(out: &mut [u8], at: usize, points: &[u32], n: usize)
 }
 
 // Writes an edge from `at` on: its points, then the ends of its curve.
-fn put_edge(out: &mut [u8], at: usize, e: Edge)
+pub fn put_edge(out: &mut [u8], at: usize, e: Edge)
     requires { ⌜ (at + 20 ≤ length (now out)) × (isSpan (e .curve) ≡ true) ⌝ }
     ensures { λ _. ⌜ now (out .exit) ≡ sets (now (out .entry)) at (edgeBytes e) ⌝ }
 {
@@ -123,7 +123,7 @@ fn put_entry(out: &mut [u8], at: usize, offset: usize, count: usize)
 }
 
 // Writes the contents table of a file with these counts, whose bodies have these starts.
-fn put_table(out: &mut [u8], counts: [usize; 7], starts: [usize; 8])
+pub fn put_table(out: &mut [u8], counts: [usize; 7], starts: [usize; 8])
     requires { ⌜ (56 ≤ length (now out)) × (countFaults counts ≡ []) × (starts ≡ tabulate 8 (startOf counts)) ⌝ }
     ensures { λ _. ⌜ now (out .exit) ≡ sets (now (out .entry)) 0 (tableBytes counts) ⌝ }
 {

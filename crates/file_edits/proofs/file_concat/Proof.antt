@@ -1,16 +1,18 @@
-use Rattle.file_edits.proofs.Edited.{join-answered, join-written}
-use Rattle.file_edits.specs.FileEdits.{concatFile, concatFileBytes}
-use Rattle.file_reports.proofs.Read.{after-accepted, after-refused, when-accepted, when-refused}
-use Rattle.reader.specs.declared.Reading.{Reading}
+-- A wrong contents table is refused first.
+use mathlib.Core.Path.{_∙_, sym}
+use Rattle.errors.proofs.Laws.{accepted-none, refused-first}
+use Rattle.file_edits.proofs.Spliced.{answer-refused, bytes-refused}
+use Rattle.pattern.specs.Checks.{contentFaults}
+use Rattle.pattern_file.specs.File.{fileContent, tableFaults}
 use borrow.Author.Needs.{needs}
 use Rattle.file_edits.proofs.file_concat.Statement.{statement}
 use Rattle.file_edits.proofs.file_concat.Tie as tie
 
-read-requires : tie.Need-read-requires
-read-requires c κs = search needs
+check-table-requires : tie.Need-check-table-requires
+check-table-requires c κs = search needs
 
-enum-known-checked : tie.Need-enum-known-checked
-enum-known-checked c = search needs
+enum-known-table : tie.Need-enum-known-table
+enum-known-table c = search needs
 
 unread-requires : tie.Need-unread-requires
 unread-requires c κs = search needs
@@ -18,43 +20,30 @@ unread-requires c κs = search needs
 enum-told : tie.Need-enum-told
 enum-told c = search needs
 
-concat-requires : tie.Need-concat-requires
-concat-requires c κs = search needs
-
-put-join-requires : tie.Need-put-join-requires
-put-join-requires c κs = search needs
+concat-columns-requires : tie.Need-concat-columns-requires
+concat-columns-requires c κs = accepted-none (tableFaults (c .before .before .before .before .before .before .args .file .now)) (sym (c .before .before .before .check-table .ensures) ∙ c .before .enum-told .given .1)
 
 returns : tie.Need-returns
-returns c =
-    let r = c .before .before .before .before .read .ensures in
-    let h = c .before .before .checked .given .1 in
-    (when-refused _ _ r _ h _ (c .unread .ensures), after-refused _ _ r _ h _ _)
+returns c = 
+    let f = c .before .before .before .before .before .before .before .args .file .now in
+    let h = refused-first (tableFaults f) (contentFaults (fileContent f)) _ (sym (c .before .before .before .before .check-table .ensures) ∙ c .before .before .table .given .1) in
+    (answer-refused f _ h _ (c .unread .ensures), bytes-refused f _ h _ _)
 
 same-length : tie.Need-same-length
 same-length c = search needs
 
 returns-2 : tie.Need-returns-2
-returns-2 c =
-    let a = c .before .before .before .before .before .before .before .before .before .before .before .before .args in
-    let o = a .out .now in
-    let r = c .before .before .before .before .before .before .before .before .before .read in
-    let h = c .before .before .before .before .before .before .before .enum-told .given .1 in
-    let e = c .before .before .before .before .before .concat .ensures in
-    let w = c .before .before .put-join .ensures in (
-      when-accepted _ _ (r .ensures) h (λ (x : Reading). concatFile (x .pattern) (a .u) (a .v) o) (join-answered _ _ o (e .1 .0) _ _ (e .0) (w .0)),
-      after-accepted _ _ (r .ensures) h o (λ (x : Reading). concatFileBytes (x .pattern) (a .u) (a .v) o) (join-written _ _ o (e .1 .0) _ _ (e .0) (w .1)),
-    )
+returns-2 c = search needs
 
 pub file-concat-spec : {M : Type 1} → statement M
 file-concat-spec =
     tie.close
     (tie.spec
-    read-requires
-    enum-known-checked
+    check-table-requires
+    enum-known-table
     unread-requires
     enum-told
-    concat-requires
-    put-join-requires
+    concat-columns-requires
     returns
     same-length
     returns-2)

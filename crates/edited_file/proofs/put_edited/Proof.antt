@@ -1,0 +1,122 @@
+-- Too long for the slice, or written whole.
+use Prim.Native.Nat.{_+_, ℕ}
+use mathlib.Core.List.{List, [], _++_}
+use mathlib.Core.Path.{_∙_, _≡_, ap, refl}
+use native.Mathlib.Omega.{arith}
+use lib.ListN.{drop, getD, length, set}
+use borrow.Author.Needs.{needs}
+use Rattle.edited_file.proofs.Counted.{counts-edited, edited-within, end-is, table-right}
+use Rattle.edited_file.specs.EditedFile.{editedFile}
+use Rattle.lists.proofs.Flat.{getD-tabulate}
+use Rattle.lists.specs.Lists.{tabulate}
+use Rattle.pattern.specs.Checks.{countFaults}
+use Rattle.pattern.specs.Contents.{Content, countsOf}
+use Rattle.pattern_file.specs.File.{countAt, fileBytes, startOf}
+use Rattle.reader.proofs.Laws.{table-counts, table-long}
+use Rattle.writer.proofs.Laws.{write-short, write-whole}
+use Rattle.edited_file.proofs.put_edited.Statement.{statement}
+use Rattle.edited_file.proofs.put_edited.Tie as tie
+
+abbrev start : tie.After-counts-of → tie.Start
+start c = c .before .before .before .before .before
+
+abbrev after : tie.Start → Content
+after s = let a = s .args in editedFile (a .s .now) (a .a) (a .b) (a .more) (a .uses .now) (a .used) (a .wires .now) (a .wired)
+
+abbrev newCounts : tie.After-counts-of → List ℕ
+newCounts c =
+    let a = start c .args in
+    let old = c .counts-of .result in
+    set (set (set old 1 (getD old 1 0 + a .more)) 2 (a .used)) 3 (a .wired)
+
+counted : (c : tie.After-counts-of) → newCounts c ≡ countsOf (after (start c))
+counted c =
+    let a = start c .args in
+    let given = start c .pre in
+    counts-edited (a .s .now) (given .0) (a .a) (a .b) (a .more) (a .uses .now) (a .used) (a .wires .now) (a .wired) (given .1 .0 .1) (given .1 .1 .1) (given .1 .1 .3) (c .counts-of .result) (c .counts-of .ensures)
+
+few : (c : tie.After-counts-of) → countFaults (newCounts c) ≡ []
+few c =
+    let a = start c .args in
+    let given = start c .pre in
+    ap countFaults (counted c)
+    ∙ edited-within (a .s .now) (given .0) (a .a) (a .b) (a .more) (a .uses .now) (a .used) (a .wires .now) (a .wired) (given .1 .0 .1) (given .1 .1 .1) (given .1 .1 .3)
+    (given .1 .0 .4) (given .1 .1 .0) (given .1 .1 .2)
+
+end : (c : tie.After-starts-of) → getD (c .starts-of .result) 7 0 ≡ length (fileBytes (after (start (c .before))))
+end c = end-is (after (start (c .before))) (newCounts (c .before)) _ (counted (c .before)) (c .starts-of .ensures)
+
+counts-of-requires : tie.Need-counts-of-requires
+counts-of-requires c κs = let s = c .before .before .before .before in table-long (s .args .s .now) (table-right (s .args .s .now) (s .pre .0))
+
+array-read-counts : tie.Need-array-read-counts
+array-read-counts c = search needs
+
+add-counts : tie.Need-add-counts
+add-counts c = 
+    let s = start c in
+    omega (arith, s .pre .1 .0 .4, ap (λ (ns : List ℕ). getD ns 1 0) (c .counts-of .ensures), getD-tabulate 7 (countAt (s .args .s .now)) 1 0 (omega arith))
+
+array-write-counts : tie.Need-array-write-counts
+array-write-counts c = search needs
+
+array-write-counts-2 : tie.Need-array-write-counts-2
+array-write-counts-2 c = search needs
+
+array-write-counts-3 : tie.Need-array-write-counts-3
+array-write-counts-3 c = search needs
+
+starts-of-requires : tie.Need-starts-of-requires
+starts-of-requires c κs = few c
+
+array-read-end : tie.Need-array-read-end
+array-read-end c = search needs
+
+returns : tie.Need-returns
+returns c = let s = start (c .before .before) in write-short (fileBytes (after s)) (s .args .out .now) [] refl (omega (arith, end (c .before), c .if1 .taken))
+
+starts-of-requires-2 : tie.Need-starts-of-requires-2
+starts-of-requires-2 c κs = 
+    let s = start (c .before .before) in
+    let f = s .args .s .now in
+    ap countFaults (c .before .before .counts-of .ensures) ∙ table-counts f (table-right f (s .pre .0))
+
+put-parts-requires : tie.Need-put-parts-requires
+put-parts-requires c κs = 
+    let k = c .before .before .before .before in
+    let given = start k .pre in
+    let more = given .1 .0 in
+    let first = given .1 .1 in
+    (
+      (given .0, c .before .starts-of2 .ensures ∙ ap (λ (ns : List ℕ). tabulate 8 (startOf ns)) (k .counts-of .ensures)),
+      ((more .0, more .1, more .2, more .3), ((first .1, first .3), ((few k, counted k), (c .before .before .before .starts-of .ensures, c .before .before .if1 .left)))),
+    )
+
+same-length : tie.Need-same-length
+same-length c = search needs
+
+returns-2 : tie.Need-returns-2
+returns-2 c = 
+    let t = c .before .before .before .before .before .before in
+    let s = start (t .before) in
+    let file = fileBytes (after s) in
+    let out = s .args .out .now in
+    write-whole file out [] refl _ _ (omega (arith, end t, c .before .before .before .before .before .if1 .left)) (end t) (c .before .before .put-parts .ensures ∙ ap (λ (n : ℕ). file ++ drop n out) (end t))
+
+pub put-edited-spec : {M : Type 1} → statement M
+put-edited-spec =
+    tie.close
+    (tie.spec
+    counts-of-requires
+    array-read-counts
+    add-counts
+    array-write-counts
+    array-write-counts-2
+    array-write-counts-3
+    starts-of-requires
+    array-read-end
+    returns
+    starts-of-requires-2
+    put-parts-requires
+    same-length
+    returns-2)

@@ -1,0 +1,50 @@
+use borrow.Author.Needs.{needs}
+use native.Mathlib.Omega.{arith}
+use Prim.Native.Nat.{ℕ, _≤_, _<_, _+_, _-_, _*_}
+use lib.ListN.{length, getD, set, take, drop}
+use Rattle.edited_file.proofs.Splice.{edge-put, edges-put}
+use Rattle.edited_file.proofs.put_new.Statement.{statement}
+use Rattle.edited_file.proofs.put_new.Tie as tie
+use Rattle.edited_file.proofs.put_new.Reads as reads
+use Rattle.edited_file.proofs.put_new.Lts as lts
+use Rattle.writer.proofs.put_edge.Reads as put-edge-reads
+
+-- src/lib.rt:42:5
+put-edge-requires : tie.Need-put-edge-requires
+put-edge-requires c κs = search needs
+
+-- src/lib.rt:44:9
+same-length : tie.Need-same-length
+same-length c = search needs
+
+-- src/lib.rt:44:9
+returns : tie.Need-returns
+returns c = let s = c .before .before .before .before .before .before .args in edge-put (s .out .now) (s .at) (s .a) (s .b) (s .more) (c .before .before .before .put-edge .ensures) (c .if1 .taken)
+
+-- src/lib.rt:46:19
+add-put-edge : tie.Need-add-put-edge
+add-put-edge c = search needs
+
+-- src/lib.rt:46:5
+put-edge-requires-2 : tie.Need-put-edge-requires-2
+put-edge-requires-2 c κs = search needs
+
+-- src/lib.rt:37:1
+same-length-2 : tie.Need-same-length-2
+same-length-2 c = search needs
+
+-- src/lib.rt:37:1
+returns-2 : tie.Need-returns-2
+returns-2 c = let s = c .before .before .before .before .before .before .before .before .before .before .args in edges-put (s .out .now) (s .at) (s .a) (s .b) (s .more) (c .before .before .before .before .before .before .before .put-edge .ensures) (omega (arith, c .before .before .before .before .before .before .before .before .before .before .pre .0 .0, c .before .before .before .before .before .before .before .before .before .before .pre .0 .1, c .before .before .before .before .if1 .left)) (c .before .before .put-edge2 .ensures)
+
+pub put-new-spec : {M : Type 1} → statement M
+put-new-spec =
+    tie.close
+    (tie.spec
+    put-edge-requires
+    same-length
+    returns
+    add-put-edge
+    put-edge-requires-2
+    same-length-2
+    returns-2)

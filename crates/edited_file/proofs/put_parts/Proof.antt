@@ -1,0 +1,171 @@
+-- Each piece is written where the pieces before it end.
+use Prim.Native.Nat.{_*_, _+_, _≤_, ℕ}
+use mathlib.Core.List.{List, [], _∷_, map}
+use mathlib.Core.Path.{_∙_, _≡_, ap, refl}
+use native.Mathlib.Omega.{arith}
+use lib.ListN.{length, take}
+use lib.Seq.{length-take-le}
+use borrow.Author.Needs.{needs}
+use Rattle.edge.specs.declared.Edge.{Edge}
+use Rattle.edited_file.proofs.Splice.{Ready, Stage, at-edges, at-kept, at-rest, at-uses, at-wires, kept-inside, stage-all, stage-long, stage-next, stage-room, table-room}
+use Rattle.lists.proofs.Flat.{length-flat}
+use Rattle.lists.specs.Lists.{flat}
+use Rattle.pattern_file.specs.File.{edgeBytes}
+use Rattle.words.specs.Words.{bytes16}
+use Rattle.edited_file.proofs.put_parts.Statement.{statement}
+use Rattle.edited_file.proofs.put_parts.Tie as tie
+
+abbrev start : tie.After-slice-known → tie.Start
+start c = c .before .before .before .before
+
+abbrev newEdges : tie.Start → List Edge
+newEdges s = take (s .args .more) (s .args .a ∷ s .args .b ∷ [])
+
+abbrev newUses : tie.Start → List ℕ
+newUses s = take (s .args .used) (s .args .uses .now)
+
+abbrev newWires : tie.Start → List ℕ
+newWires s = take (s .args .wired) (s .args .wires .now)
+
+-- what is known of the parameters
+ready : (c : tie.After-slice-known) → Ready (start c .args .s .now) (start c .args .t2) (newEdges (start c)) (newUses (start c)) (newWires (start c)) (start c .args .counts) (start c .args .t4) (start c .args .out .now)
+ready c =
+    let given = start c .pre in
+    record { bytes = λ k. omega (arith, c .before .before .before .shared-slice-known .given k); ok = given .0 .0; begins = given .0 .1; counted = given .1 .1 .1 .0 .1; placed = given .1 .1 .1 .1 .0; room = given .1 .1 .1 .1 .1 }
+
+-- the lengths of the new records
+edges-long : (s : tie.Start) → length (flat (map edgeBytes (newEdges s))) ≡ 20 * s .args .more
+edges-long s =
+    let two = s .args .a ∷ s .args .b ∷ [] in
+    length-flat edgeBytes 20 (λ x. refl) (newEdges s) ∙ ap (λ (n : ℕ). 20 * n) (length-take-le (s .args .more) two (s .pre .1 .0 .1))
+
+-- the first n numbers of a list fit where their bytes do
+numbers-fit : (ns : List ℕ) (n at room : ℕ) → n ≤ length ns → at + length (flat (map bytes16 (take n ns))) ≤ room → (at + 2 * n ≤ room) × (n ≤ length ns)
+numbers-fit ns n at room h fit = (omega (arith, length-flat bytes16 2 (λ x. refl) (take n ns), length-take-le n ns h), h)
+
+abbrev known1 : tie.After-put-table → tie.After-slice-known
+known1 c = c .before .before
+
+stage1 : (c : tie.After-put-table) → Stage (ready (known1 c)) 1 (c .put-table .last .0)
+stage1 c = c .put-table .ensures
+
+abbrev known2 : tie.After-put-bytes → tie.After-slice-known
+known2 c = known1 (c .before .before .before .before .before)
+
+stage2 : (c : tie.After-put-bytes) → Stage (ready (known2 c)) 2 (c .put-bytes .last .0)
+stage2 c = let r = ready (known2 c) in stage-next r 1 56 (at-kept r) (stage1 (c .before .before .before .before .before)) (c .put-bytes .ensures)
+
+abbrev known3 : tie.After-put-new → tie.After-slice-known
+known3 c = known2 (c .before .before .before .before)
+
+stage3 : (c : tie.After-put-new) → Stage (ready (known3 c)) 3 (c .put-new .last .0)
+stage3 c = let r = ready (known3 c) in stage-next r 2 _ (at-edges r) (stage2 (c .before .before .before .before)) (c .put-new .ensures)
+
+abbrev known4 : tie.After-put-u16s → tie.After-slice-known
+known4 c = known3 (c .before .before .before .before)
+
+stage4 : (c : tie.After-put-u16s) → Stage (ready (known4 c)) 4 (c .put-u16s .last .0)
+stage4 c = let r = ready (known4 c) in stage-next r 3 _ (at-uses r) (stage3 (c .before .before .before .before)) (c .put-u16s .ensures)
+
+abbrev known5 : tie.After-put-u16s2 → tie.After-slice-known
+known5 c = known4 (c .before .before .before .before)
+
+stage5 : (c : tie.After-put-u16s2) → Stage (ready (known5 c)) 5 (c .put-u16s2 .last .0)
+stage5 c = let r = ready (known5 c) in stage-next r 4 _ (at-wires r) (stage4 (c .before .before .before .before)) (c .put-u16s2 .ensures)
+
+abbrev known6 : tie.After-put-bytes2 → tie.After-slice-known
+known6 c = known5 (c .before .before .before .before .before)
+
+stage6 : (c : tie.After-put-bytes2) → Stage (ready (known6 c)) 6 (c .put-bytes2 .last .0)
+stage6 c = let r = ready (known6 c) in stage-next r 5 _ (at-rest r) (stage5 (c .before .before .before .before .before)) (c .put-bytes2 .ensures)
+
+array-read-old : tie.Need-array-read-old
+array-read-old c = search needs
+
+array-read-kept : tie.Need-array-read-kept
+array-read-kept c = search needs
+
+put-table-requires : tie.Need-put-table-requires
+put-table-requires c κs = let r = ready (c .before) in (table-room r, start (c .before) .pre .1 .1 .1 .0 .0, r .placed)
+
+sub-put-bytes : tie.Need-sub-put-bytes
+sub-put-bytes c = omega (arith, kept-inside (ready (c .before .before .before .before .before)) .0)
+
+part-put-bytes-start : tie.Need-part-put-bytes-start
+part-put-bytes-start c = kept-inside (ready (c .before .before .before .before .before)) .0
+
+part-put-bytes-end : tie.Need-part-put-bytes-end
+part-put-bytes-end c = kept-inside (ready (c .before .before .before .before .before)) .1
+
+put-bytes-requires : tie.Need-put-bytes-requires
+put-bytes-requires c κs = let r = ready (c .before .before .before .before .before .before) in stage-room r 1 56 (at-kept r) (stage1 (c .before .before .before .before)) (omega arith)
+
+put-new-requires : tie.Need-put-new-requires
+put-new-requires c κs = 
+    let t = c .before .before .before in
+    let r = ready (known2 t) in
+    let given = start (known2 t) .pre .1 .0 in
+    ((given .0, given .1, omega (arith, stage-room r 2 _ (at-edges r) (stage2 t) (omega arith), edges-long (start (known2 t)))), (given .2, given .3))
+
+array-read-put-u16s : tie.Need-array-read-put-u16s
+array-read-put-u16s c = search needs
+
+put-u16s-requires : tie.Need-put-u16s-requires
+put-u16s-requires c κs = 
+    let t = c .before .before .before in
+    let r = ready (known3 t) in
+    numbers-fit (start (known3 t) .args .uses .now) _ _ _ (start (known3 t) .pre .1 .1 .0 .0) (stage-room r 3 _ (at-uses r) (stage3 t) (omega arith))
+
+array-read-put-u16s-2 : tie.Need-array-read-put-u16s-2
+array-read-put-u16s-2 c = search needs
+
+put-u16s-requires-2 : tie.Need-put-u16s-requires-2
+put-u16s-requires-2 c κs = 
+    let t = c .before .before .before in
+    let r = ready (known4 t) in
+    numbers-fit (start (known4 t) .args .wires .now) _ _ _ (start (known4 t) .pre .1 .1 .0 .1) (stage-room r 4 _ (at-wires r) (stage4 t) (omega arith))
+
+array-read-put-bytes : tie.Need-array-read-put-bytes
+array-read-put-bytes c = search needs
+
+sub-put-bytes-2 : tie.Need-sub-put-bytes-2
+sub-put-bytes-2 c = omega (arith, kept-inside (ready (known5 (c .before .before .before))) .2)
+
+part-put-bytes-start-2 : tie.Need-part-put-bytes-start-2
+part-put-bytes-start-2 c = kept-inside (ready (known5 (c .before .before .before))) .2
+
+part-put-bytes-end-2 : tie.Need-part-put-bytes-end-2
+part-put-bytes-end-2 c = search needs
+
+put-bytes-requires-2 : tie.Need-put-bytes-requires-2
+put-bytes-requires-2 c κs = let t = c .before .before .before .before in let r = ready (known5 t) in stage-room r 5 _ (at-rest r) (stage5 t) (omega arith)
+
+same-length : tie.Need-same-length
+same-length c = search needs
+
+returns : tie.Need-returns
+returns c = let t = c .before .before in stage-all (ready (known6 t)) (stage6 t)
+
+pub put-parts-spec : {M : Type 1} → statement M
+put-parts-spec =
+    tie.close
+    (tie.spec
+    array-read-old
+    array-read-kept
+    put-table-requires
+    sub-put-bytes
+    part-put-bytes-start
+    part-put-bytes-end
+    put-bytes-requires
+    put-new-requires
+    array-read-put-u16s
+    put-u16s-requires
+    array-read-put-u16s-2
+    put-u16s-requires-2
+    array-read-put-bytes
+    sub-put-bytes-2
+    part-put-bytes-start-2
+    part-put-bytes-end-2
+    put-bytes-requires-2
+    same-length
+    returns)
