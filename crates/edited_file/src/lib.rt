@@ -109,6 +109,19 @@ pub fn put_edited(
         return Written::NoSpace;
     }
     let starts = starts_of(old);
-    put_parts(s, starts, counts, places, a, b, more, uses, used, wires, wired, out);
+    put_parts(
+        s,
+        starts,
+        counts,
+        places,
+        a,
+        b,
+        more,
+        uses,
+        used,
+        wires,
+        wired,
+        out,
+    );
     Written::Length(end)
 }

@@ -19,11 +19,11 @@ use concat::judge_concat;
 use curve::parameter_of;
 use cut_edge::cut_edge;
 use edge::EdgeID;
-use edited_file::put_edited;
 use edit_answers::CutAnswer;
 use edit_answers::EditError;
 use edit_answers::JoinAnswer;
 use edit_answers::edit_number;
+use edited_file::put_edited;
 use errors::Check;
 use pattern::Pattern;
 use pattern_file::starts_of;
@@ -122,7 +122,14 @@ fn join_uses(file: &[u8], u: u16, v: u16) -> Joint
 }
 
 // Joins uses u and v of an accepted file with these uses and wires.
-fn concat_accepted(file: &[u8], u: u16, v: u16, uses: &[u16], wires: &[u16], out: &mut [u8]) -> Answer
+fn concat_accepted(
+    file: &[u8],
+    u: u16,
+    v: u16,
+    uses: &[u16],
+    wires: &[u16],
+    out: &mut [u8],
+) -> Answer
     requires { ⌜ (fileFaults (now file) ≡ []) × (now uses ≡ stored (fileContent (now file)) .uses) × (now wires ≡ stored (fileContent (now file)) .wires) ⌝ }
     ensures { λ r. ⌜ r ≡ concatFile (stored (fileContent (now (file .entry)))) u v (now (out .entry)) ⌝ }
     ensures { λ _. ⌜ now (out .exit) ≡ concatFileBytes (stored (fileContent (now (file .entry)))) u v (now (out .entry)) ⌝ }

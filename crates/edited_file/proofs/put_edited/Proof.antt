@@ -53,7 +53,7 @@ array-read-counts : tie.Need-array-read-counts
 array-read-counts c = search needs
 
 add-counts : tie.Need-add-counts
-add-counts c = 
+add-counts c =
     let s = start c in
     omega (arith, s .pre .1 .0 .4, ap (λ (ns : List ℕ). getD ns 1 0) (c .counts-of .ensures), getD-tabulate 7 (countAt (s .args .s .now)) 1 0 (omega arith))
 
@@ -76,18 +76,17 @@ returns : tie.Need-returns
 returns c = let s = start (c .before .before) in write-short (fileBytes (after s)) (s .args .out .now) [] refl (omega (arith, end (c .before), c .if1 .taken))
 
 starts-of-requires-2 : tie.Need-starts-of-requires-2
-starts-of-requires-2 c κs = 
+starts-of-requires-2 c κs =
     let s = start (c .before .before) in
     let f = s .args .s .now in
     ap countFaults (c .before .before .counts-of .ensures) ∙ table-counts f (table-right f (s .pre .0))
 
 put-parts-requires : tie.Need-put-parts-requires
-put-parts-requires c κs = 
+put-parts-requires c κs =
     let k = c .before .before .before .before in
     let given = start k .pre in
     let more = given .1 .0 in
-    let first = given .1 .1 in
-    (
+    let first = given .1 .1 in (
       (given .0, c .before .starts-of2 .ensures ∙ ap (λ (ns : List ℕ). tabulate 8 (startOf ns)) (k .counts-of .ensures)),
       ((more .0, more .1, more .2, more .3), ((first .1, first .3), ((few k, counted k), (c .before .before .before .starts-of .ensures, c .before .before .if1 .left)))),
     )
@@ -96,7 +95,7 @@ same-length : tie.Need-same-length
 same-length c = search needs
 
 returns-2 : tie.Need-returns-2
-returns-2 c = 
+returns-2 c =
     let t = c .before .before .before .before .before .before in
     let s = start (t .before) in
     let file = fileBytes (after s) in

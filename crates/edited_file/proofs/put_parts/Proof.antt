@@ -101,7 +101,7 @@ put-bytes-requires : tie.Need-put-bytes-requires
 put-bytes-requires c κs = let r = ready (c .before .before .before .before .before .before) in stage-room r 1 56 (at-kept r) (stage1 (c .before .before .before .before)) (omega arith)
 
 put-new-requires : tie.Need-put-new-requires
-put-new-requires c κs = 
+put-new-requires c κs =
     let t = c .before .before .before in
     let r = ready (known2 t) in
     let given = start (known2 t) .pre .1 .0 in
@@ -111,7 +111,7 @@ array-read-put-u16s : tie.Need-array-read-put-u16s
 array-read-put-u16s c = search needs
 
 put-u16s-requires : tie.Need-put-u16s-requires
-put-u16s-requires c κs = 
+put-u16s-requires c κs =
     let t = c .before .before .before in
     let r = ready (known3 t) in
     numbers-fit (start (known3 t) .args .uses .now) _ _ _ (start (known3 t) .pre .1 .1 .0 .0) (stage-room r 3 _ (at-uses r) (stage3 t) (omega arith))
@@ -120,7 +120,7 @@ array-read-put-u16s-2 : tie.Need-array-read-put-u16s-2
 array-read-put-u16s-2 c = search needs
 
 put-u16s-requires-2 : tie.Need-put-u16s-requires-2
-put-u16s-requires-2 c κs = 
+put-u16s-requires-2 c κs =
     let t = c .before .before .before in
     let r = ready (known4 t) in
     numbers-fit (start (known4 t) .args .wires .now) _ _ _ (start (known4 t) .pre .1 .1 .0 .1) (stage-room r 4 _ (at-wires r) (stage4 t) (omega arith))

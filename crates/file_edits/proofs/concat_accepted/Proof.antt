@@ -39,7 +39,7 @@ array-read-put-edited-2 : tie.Need-array-read-put-edited-2
 array-read-put-edited-2 c = search needs
 
 put-edited-requires : tie.Need-put-edited-requires
-put-edited-requires c κs = 
+put-edited-requires c κs =
     let s = c .before .before .before .before .before .before .before .before .before .before in
     let f = s .args .file .now in
     let ok = s .pre .0 in
@@ -49,18 +49,19 @@ put-edited-requires c κs =
     let span = joined-span f ok (s .args .u) (s .args .v) o e h in
     let count : (b : ℕ) → getD (c .before .counts-of .result) b 0 ≡ getD (countsOf (fileContent f)) b 0 = λ b. ap (λ (ns : List ℕ). getD ns b 0) (c .before .counts-of .ensures ∙ counts-of-content f) in
     let l = limits f (table-right f ok) in
-    let w = full f (table-right f ok) in
-    (
+    let w = full f (table-right f ok) in (
       ok,
-      ((omega arith, omega arith, span, span, omega (arith, joined-room f ok (s .args .u) (s .args .v) o e h, edges-counted f)),
-      (omega (arith, count 2, l .uses), omega (arith, count 2, l .uses, ap length (s .pre .1), w .uses), omega (arith, count 3, l .wires), omega (arith, count 3, l .wires, ap length (s .pre .2), w .wires))),
+      (
+        (omega arith, omega arith, span, span, omega (arith, joined-room f ok (s .args .u) (s .args .v) o e h, edges-counted f)),
+        (omega (arith, count 2, l .uses), omega (arith, count 2, l .uses, ap length (s .pre .1), w .uses), omega (arith, count 3, l .wires), omega (arith, count 3, l .wires, ap length (s .pre .2), w .wires)),
+      ),
     )
 
 array-read-t17 : tie.Need-array-read-t17
 array-read-t17 c = search needs
 
 cast-t25 : tie.Need-cast-t25
-cast-t25 c = 
+cast-t25 c =
     let s = c .before .before .before .before .before .before .before .before .before .before .before .before .before in
     let f = s .args .file .now in
     omega (arith, edges-are f (s .pre .0) _ (c .before .before .before .before .counts-of .ensures), joined-room f (s .pre .0) (s .args .u) (s .args .v) (s .args .out .now) (c .before .before .before .before .before .before .before .before .join-uses .ensures) (c .before .before .before .before .before .before .made2 .given .1))
@@ -69,7 +70,7 @@ join-values-requires : tie.Need-join-values-requires
 join-values-requires c κs = search needs
 
 returns : tie.Need-returns
-returns c = 
+returns c =
     let s = c .before .before .before .before .before .before .before .before .before .before in
     let t = not-joined (s .args .file .now) (s .pre .0) (s .args .u) (s .args .v) (s .args .out .now) (c .before .before .before .before .before .join-uses .ensures) (c .before .before .before .made .given .1) in
     (c .refused .ensures ∙ ap (λ (n : ℕ). refused n 0) (c .before .edit-number .ensures) ∙ t .0, t .1)
@@ -78,14 +79,13 @@ same-length : tie.Need-same-length
 same-length c = search needs
 
 returns-2 : tie.Need-returns-2
-returns-2 c = 
+returns-2 c =
     let s = c .before .before .before .before .before .before .before .before .before .before .before .before .before .before in
     let f = s .args .file .now in
     let e = c .before .before .before .before .before .before .before .before .before .join-uses .ensures in
     let h = c .before .before .before .before .before .before .before .made2 .given .1 in
     let k = c .before .before .before .before .before .counts-of .ensures in
-    let w = c .before .before .before .put-edited .ensures in
-    (
+    let w = c .before .before .before .put-edited .ensures in (
       joined-answer f (s .pre .0) (s .args .u) (s .args .v) (s .args .out .now) e h _ _ _ k (s .pre .1) (s .pre .2) (w .0) (c .join-values .ensures),
       joined-bytes f (s .pre .0) (s .args .u) (s .args .v) (s .args .out .now) e h _ _ _ k (s .pre .1) (s .pre .2) (w .1),
     )

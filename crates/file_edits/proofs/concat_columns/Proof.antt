@@ -71,13 +71,13 @@ slice-aggregate-concat-accepted-2 : tie.Need-slice-aggregate-concat-accepted-2
 slice-aggregate-concat-accepted-2 c = search needs
 
 concat-accepted-requires : tie.Need-concat-accepted-requires
-concat-accepted-requires c κs = 
+concat-accepted-requires c κs =
     let s = c .before .before .before .before .before .before .before .before .before .before .before .before .before .before .before .before .before .before .before .before .before .before .before .before .before .before .before .before .before .before in
     let t = c .before .before .before .before .before .before .before .before .before .before .before .before .before .before .before .before .before .before .before .before .read-columns .ensures in
     (content-accepted (s .args .file .now) (s .pre) (sym (c .before .before .before .before .before .check-file .ensures) ∙ c .before .before .before .enum-told .given .1), t .uses-are, t .wires-are)
 
 returns : tie.Need-returns
-returns c = 
+returns c =
     let s = c .before .before .before .before .before .before .before .before .before .before .before .before .before .before .before .before .before .before .before .before .before .before .before .before .before .before .before .before .before in
     let f = s .args .file .now in
     let h = content-refused f (s .pre) _ (sym (c .before .before .before .before .check-file .ensures) ∙ c .before .before .answer .given .1) in
@@ -87,7 +87,7 @@ same-length : tie.Need-same-length
 same-length c = search needs
 
 returns-2 : tie.Need-returns-2
-returns-2 c = 
+returns-2 c =
     let s = c .before .before .before .before .before .before .before .before .before .before .before .before .before .before .before .before .before .before .before .before .before .before .before .before .before .before .before .before .before .before .before .before .before in
     let a = s .args in
     let f = a .file .now in

@@ -24,7 +24,7 @@ concat-columns-requires : tie.Need-concat-columns-requires
 concat-columns-requires c κs = accepted-none (tableFaults (c .before .before .before .before .before .before .args .file .now)) (sym (c .before .before .before .check-table .ensures) ∙ c .before .enum-told .given .1)
 
 returns : tie.Need-returns
-returns c = 
+returns c =
     let f = c .before .before .before .before .before .before .before .args .file .now in
     let h = refused-first (tableFaults f) (contentFaults (fileContent f)) _ (sym (c .before .before .before .before .check-table .ensures) ∙ c .before .before .table .given .1) in
     (answer-refused f _ h _ (c .unread .ensures), bytes-refused f _ h _ _)

@@ -66,7 +66,7 @@ judge-concat-requires : tie.Need-judge-concat-requires
 judge-concat-requires c κs = search needs
 
 returns-3 : tie.Need-returns-3
-returns-3 c = 
+returns-3 c =
     let s = c .before .before .before .before .before .before .before .before in
     let f = s .args .file .now in
     let k = c .before .before .before .before .before .before .counts-of in
