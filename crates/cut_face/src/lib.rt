@@ -52,7 +52,13 @@ fn cut_part<'a>(
 }
 
 // Cuts a face of a pattern without fault: 3, 18, 19, 28, 17.
-fn cut_checked(p: Pattern, f: u16, wire: &[u16], uses: &mut [u16], lens: &mut [u16]) -> FaceAnswer
+pub fn cut_checked(
+    p: Pattern,
+    f: u16,
+    wire: &[u16],
+    uses: &mut [u16],
+    lens: &mut [u16],
+) -> FaceAnswer
     requires { ⌜ patternFaults p ≡ [] ⌝ }
     ensures { λ r. ⌜ r ≡ cutFaceAnswer p f (now (wire .entry)) (length (now (uses .entry))) (length (now (lens .entry))) ⌝ }
     ensures { λ _. ⌜ now (uses .exit) ≡ sets (now (uses .entry)) 0 (flat (cutFaceOut p f (now (wire .entry)) (length (now (uses .entry))) (length (now (lens .entry))))) ⌝ }

@@ -9,8 +9,7 @@ use add_boundary::try_add_boundary;
 use answers::Answer;
 use answers::face_values;
 use answers::unread;
-use cut_face::cut_by_edge;
-use cut_face::cut_by_wire;
+use cut_face::cut_checked;
 use errors::Check;
 use glue::glue_at_boundaries;
 use reader::read;
@@ -50,7 +49,7 @@ pub fn file_cut_by_wire(
         Check::Refused(r) => unread(r),
         Check::Accepted => {
             let p = reading.pattern;
-            face_values(cut_by_wire(p, f, wire, uses, lens))
+            face_values(cut_checked(p, f, wire, uses, lens))
         }
     }
 }
@@ -67,7 +66,8 @@ pub fn file_cut_by_edge(file: &[u8], f: u16, u: u16, uses: &mut [u16], lens: &mu
         Check::Refused(r) => unread(r),
         Check::Accepted => {
             let p = reading.pattern;
-            face_values(cut_by_edge(p, f, u, uses, lens))
+            let wire = [u];
+            face_values(cut_checked(p, f, &wire, uses, lens))
         }
     }
 }

@@ -1,4 +1,5 @@
 use mathlib.Core.Path.{refl}
+use Rattle.file_reports.proofs.Read.{read-passes}
 use Rattle.lists.specs.Lists.{flat}
 use borrow.Author.Needs.{needs}
 use Rattle.file_face_edits.proofs.file_cut_by_edge.Statement.{statement}
@@ -16,8 +17,11 @@ unread-requires c κs = search needs
 enum-told : tie.Need-enum-told
 enum-told c = search needs
 
-cut-by-edge-requires : tie.Need-cut-by-edge-requires
-cut-by-edge-requires c κs = search needs
+slice-aggregate-cut-checked : tie.Need-slice-aggregate-cut-checked
+slice-aggregate-cut-checked c = search needs
+
+cut-checked-requires : tie.Need-cut-checked-requires
+cut-checked-requires c κs = read-passes (c .before .before .before .before .before .before .before .before .before .before .args .file .now) _ (c .before .before .before .before .before .before .read .ensures) (c .before .before .before .before .enum-told .given .1)
 
 face-values-requires : tie.Need-face-values-requires
 face-values-requires c κs = search needs
@@ -33,7 +37,7 @@ same-length-2 : tie.Need-same-length-2
 same-length-2 c = search needs
 
 returns-2 : tie.Need-returns-2
-returns-2 c = rw (← c .before .before .before .before .before .before .before .before .before .before .before .read .ensures, c .before .before .before .before .before .before .before .before .before .enum-told .given .1, ← c .before .before .before .before .before .cut-by-edge .ensures .0) (c .face-values .ensures, c .before .before .before .before .before .cut-by-edge .ensures .1)
+returns-2 c = rw (← c .before .before .before .before .before .before .before .before .before .before .before .before .read .ensures, c .before .before .before .before .before .before .before .before .before .before .enum-told .given .1, ← c .before .before .before .before .before .cut-checked .ensures .0) (c .face-values .ensures, c .before .before .before .before .before .cut-checked .ensures .1)
 
 pub file-cut-by-edge-spec : {M : Type 1} → statement M
 file-cut-by-edge-spec =
@@ -43,7 +47,8 @@ file-cut-by-edge-spec =
     enum-known-checked
     unread-requires
     enum-told
-    cut-by-edge-requires
+    slice-aggregate-cut-checked
+    cut-checked-requires
     face-values-requires
     returns
     same-length

@@ -1,4 +1,5 @@
 use mathlib.Core.Path.{refl}
+use Rattle.file_reports.proofs.Read.{read-passes}
 use Rattle.lists.specs.Lists.{flat}
 use borrow.Author.Needs.{needs}
 use Rattle.file_face_edits.proofs.file_cut_by_wire.Statement.{statement}
@@ -16,8 +17,8 @@ unread-requires c κs = search needs
 enum-told : tie.Need-enum-told
 enum-told c = search needs
 
-cut-by-wire-requires : tie.Need-cut-by-wire-requires
-cut-by-wire-requires c κs = search needs
+cut-checked-requires : tie.Need-cut-checked-requires
+cut-checked-requires c κs = read-passes (c .before .before .before .before .before .before .before .before .before .before .args .file .now) _ (c .before .before .before .before .before .read .ensures) (c .before .before .before .enum-told .given .1)
 
 face-values-requires : tie.Need-face-values-requires
 face-values-requires c κs = search needs
@@ -33,7 +34,7 @@ same-length-2 : tie.Need-same-length-2
 same-length-2 c = search needs
 
 returns-2 : tie.Need-returns-2
-returns-2 c = rw (← c .before .before .before .before .before .before .before .before .before .before .before .read .ensures, c .before .before .before .before .before .before .before .before .before .enum-told .given .1, ← c .before .before .before .before .before .cut-by-wire .ensures .0) (c .face-values .ensures, c .before .before .before .before .before .cut-by-wire .ensures .1)
+returns-2 c = rw (← c .before .before .before .before .before .before .before .before .before .before .before .read .ensures, c .before .before .before .before .before .before .before .before .before .enum-told .given .1, ← c .before .before .before .before .before .cut-checked .ensures .0) (c .face-values .ensures, c .before .before .before .before .before .cut-checked .ensures .1)
 
 pub file-cut-by-wire-spec : {M : Type 1} → statement M
 file-cut-by-wire-spec =
@@ -43,7 +44,7 @@ file-cut-by-wire-spec =
     enum-known-checked
     unread-requires
     enum-told
-    cut-by-wire-requires
+    cut-checked-requires
     face-values-requires
     returns
     same-length
