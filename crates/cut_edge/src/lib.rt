@@ -1,15 +1,19 @@
 // Cutting an edge of a shell (the Rust's Shell::cut_edge).
-ghost use mathlib.Core.List.{[], _∷_, map};
+ghost use mathlib.Core.List.{[], map};
 ghost use mathlib.Core.Path.{_≡_};
 ghost use Prim.Native.Nat.{_+_, _<_, _≤_};
-ghost use lib.ListN.{getD, length};
-ghost use Rattle.lists.specs.Lists.{flat};
-ghost use Rattle.edge.specs.Edges.{backNumber, edge, frontNumber};
+ghost use lib.ListN.{getD, length, take};
+ghost use lib.Seq.{sets};
+ghost use Rattle.lists.specs.Lists.{flat, sum};
+ghost use Rattle.edge.specs.Edges.{edge};
+ghost use Rattle.wire.specs.Wires.{Named};
 ghost use Rattle.pattern.specs.Checks.{patternFaults};
 ghost use Rattle.pattern.specs.Contents.{content};
-ghost use Rattle.shell_edits.specs.Answers.{afterCut, cutAnswer, storedIn};
-ghost use Rattle.shell_edits.specs.Edits.{eachWire, edgeAt, edited, wiresIn};
-ghost use Rattle.cut_wires.specs.Halves.{cutFlagged};
+ghost use Rattle.pattern.specs.declared.Pattern.{Pattern};
+ghost use Rattle.shell_edits.specs.Answers.{afterCut, cutAnswer};
+ghost use Rattle.shell_edits.specs.Edits.{edgeAt};
+ghost use Rattle.shell_wires.specs.Lent.{Lent};
+ghost use Rattle.cut_edge.specs.Cutting.{CutOn, cutLent, cutStored};
 use curve::Parameter;
 use curve::cut_curve;
 use cut_faults::Judgement;
@@ -19,13 +23,15 @@ use cut_wires::put_first;
 use edge::Curve;
 use edge::Edge;
 use edge::EdgeID;
+use edge::backs_of;
+use edge::fronts_of;
 use edit_answers::CutAnswer;
 use edit_answers::EditError;
 use errors::Check;
+use face::wire_counts;
 use pattern::Pattern;
 use pattern::check;
-use shell_wires::ShellWires;
-use shell_wires::shell_wires;
+use shell_wires::mark_wires;
 use vertex::VertexID;
 use words::index;
 
@@ -35,41 +41,131 @@ pub struct CutResult {
     pub pattern: Pattern,
 }
 
-// The pattern after a cut of edge e at vertex v, which parts its curve into k and l.
-fn apply_cut(p: Pattern, w: ShellWires, e: EdgeID, v: VertexID, k: Curve, l: Curve) -> Pattern
-    requires { ⌜ patternFaults p ≡ [] ⌝ }
-    requires { ⌜ (e .0 < getD (p .counts) 1 0) × (v .0 < getD (p .counts) 0 0) × (getD (p .counts) 1 0 + 2 ≤ 1024) ⌝ }
-    requires { ⌜ (w .fronts ≡ map frontNumber (p .edges)) × (w .backs ≡ map backNumber (p .edges)) ⌝ }
-    requires { ⌜ length (flat (eachWire (cutFlagged (w .wires) (e .0) (getD (p .counts) 1 0)) 0 (wiresIn (content p)))) ≤ 4096 ⌝ }
-    ensures { λ r. ⌜ r ≡ storedIn p (edited (content p) (edge (edgeAt (content p) (e .0) .front) v k ∷ edge v (edgeAt (content p) (e .0) .back) l ∷ []) (flat (eachWire (cutFlagged (w .wires) (e .0) (getD (p .counts) 1 0)) 0 (wiresIn (content p)))) (map length (eachWire (cutFlagged (w .wires) (e .0) (getD (p .counts) 1 0)) 0 (wiresIn (content p))))) ⌝ }
+// A cut on columns: the halves of the curve and how many uses there are then, or the refusal.
+pub enum Cutting {
+    Parted(Curve, Curve, usize),
+    Not(EditError),
+}
+
+// Writes the wires after a cut of edge e at vertex v, and their lengths. How many uses are written.
+fn put_halves<'a>(
+    counts: [usize; 7],
+    fronts: [u16; 1024],
+    backs: [u16; 1024],
+    uses: &'a [u16],
+    wires: &'a [u16],
+    flags: &[bool],
+    e: EdgeID,
+    v: VertexID,
+    out: &mut [u16],
+    sizes: &mut [u16],
+) -> usize
+    requires { ⌜ (getD counts 2 0 ≤ length (now uses)) × (getD counts 2 0 ≤ 4096) × (getD counts 3 0 ≤ length (now wires)) × (getD counts 3 0 ≤ length (now flags)) × (getD counts 3 0 ≤ length (now sizes)) × (length (now out) ≤ 4096) ⌝ }
+    requires { ⌜ (e .0 < getD counts 1 0) × (getD counts 1 0 + 2 ≤ 1024) × (v .0 < 2048) × (getD fronts (e .0) 0 < 2048) × (getD backs (e .0) 0 < 2048) ⌝ }
+    requires { ⌜ Named (take (getD counts 1 0) fronts) (take (getD counts 1 0) backs) (take (getD counts 2 0) (now uses)) ⌝ }
+    requires { ⌜ (sum (take (getD counts 3 0) (now wires)) ≡ getD counts 2 0) × (length (flat (cutLent (now flags) (e .0) counts (now wires) (now uses))) ≤ length (now out)) ⌝ }
+    ensures { λ r. ⌜ r ≡ length (flat (cutLent (now (flags .entry)) (e .0) counts (now (wires .entry)) (now (uses .entry)))) ⌝ }
+    ensures { λ _. ⌜ now (out .exit) ≡ sets (now (out .entry)) 0 (flat (cutLent (now (flags .entry)) (e .0) counts (now (wires .entry)) (now (uses .entry)))) ⌝ }
+    ensures { λ _. ⌜ now (sizes .exit) ≡ sets (now (sizes .entry)) 0 (map length (cutLent (now (flags .entry)) (e .0) counts (now (wires .entry)) (now (uses .entry)))) ⌝ }
 {
-    let a = p.counts[1];
-    let d = p.edges[index(e.0)];
-    let front = d.front;
-    let back = d.back;
-    let mut fronts = w.fronts;
-    let mut backs = w.backs;
-    fronts[a] = front.0;
-    backs[a] = v.0;
-    fronts[a + 1] = v.0;
-    backs[a + 1] = back.0;
-    let mut uses = p.uses;
-    let mut wires = p.wires;
-    let ucount = p.counts[2];
-    let wcount = p.counts[3];
-    let total = put_first(
-        &p.uses,
-        ucount,
-        &p.wires,
-        wcount,
-        &w.wires,
+    let a = counts[1];
+    let i = index(e.0);
+    let mut begins = fronts;
+    let mut ends = backs;
+    begins[a] = fronts[i];
+    ends[a] = v.0;
+    begins[a + 1] = v.0;
+    ends[a + 1] = backs[i];
+    put_first(
+        uses,
+        counts[2],
+        wires,
+        counts[3],
+        flags,
         e,
         a as u16,
+        &begins,
+        &ends,
+        out,
+        sizes,
+    )
+}
+
+// Cuts edge e of shell n, on columns of a pattern without fault: 27, 14, 15, 16, 17. Accepted, the
+// uses and the lengths of the wires are written.
+pub fn cut_columns<'a>(
+    counts: [usize; 7],
+    fronts: [u16; 1024],
+    backs: [u16; 1024],
+    uses: &'a [u16],
+    wires: &'a [u16],
+    faces: &'a [u16],
+    shells: &'a [u16],
+    listings: &'a [u16],
+    n: usize,
+    e: EdgeID,
+    v: VertexID,
+    curve: Curve,
+    at: Parameter,
+    out: &mut [u16],
+    sizes: &mut [u16],
+) -> Cutting
+    requires { ⌜ ((p : Pattern) × Lent p counts fronts backs (now uses) (now wires) (now faces) (now shells) (now listings) × (curve ≡ edgeAt (content p) (e .0) .curve)) ⌝ }
+    requires { ⌜ (n < getD counts 5 0) × (e .0 < getD counts 1 0) × (v .0 < getD counts 0 0) × (length (now out) ≡ 4096) × (length (now sizes) ≡ 1024) ⌝ }
+    ensures { λ r. ⌜ ((p : Pattern) → Lent p counts fronts backs (now (uses .entry)) (now (wires .entry)) (now (faces .entry)) (now (shells .entry)) (now (listings .entry)) → curve ≡ edgeAt (content p) (e .0) .curve → CutOn p n (e .0) (v .0) at (now (out .entry)) (now (sizes .entry)) (now (out .exit)) (now (sizes .exit)) r) ⌝ }
+{
+    let marks = mark_wires(counts, faces, shells, listings, n);
+    let judged = judge_cut(
+        uses,
+        counts[2],
+        wires,
+        counts[3],
+        marks.shared,
+        &marks.wires,
         &fronts,
         &backs,
-        &mut uses,
-        &mut wires,
+        counts[1],
+        e,
+        v,
+        cut_curve(curve, at),
     );
+    match judged {
+        Judgement::Not(x) => Cutting::Not(x),
+        Judgement::Accepted(k, l) => {
+            let total = put_halves(
+                counts,
+                fronts,
+                backs,
+                uses,
+                wires,
+                &marks.wires,
+                e,
+                v,
+                out,
+                sizes,
+            );
+            Cutting::Parted(k, l, total)
+        }
+    }
+}
+
+// The pattern with the halves of an edge d, parted at v into k and l, and with these uses and wires.
+fn store_cut(
+    p: Pattern,
+    d: Edge,
+    v: VertexID,
+    k: Curve,
+    l: Curve,
+    total: usize,
+    uses: [u16; 4096],
+    wires: [u16; 1024],
+) -> Pattern
+    requires { ⌜ getD (p .counts) 1 0 + 2 ≤ 1024 ⌝ }
+    ensures { λ r. ⌜ r ≡ cutStored p (edge (d .front) v k) (edge v (d .back) l) total uses wires ⌝ }
+{
+    let a = p.counts[1];
+    let front = d.front;
+    let back = d.back;
     let mut q = p;
     q.edges[a] = Edge::new_unchecked(front, v, k);
     q.edges[a + 1] = Edge::new_unchecked(v, back, l);
@@ -78,6 +174,53 @@ fn apply_cut(p: Pattern, w: ShellWires, e: EdgeID, v: VertexID, k: Curve, l: Cur
     q.uses = uses;
     q.wires = wires;
     q
+}
+
+// Cuts an edge of a pattern without fault, all of whose numbers name something.
+fn cut_named(p: Pattern, n: usize, e: EdgeID, v: VertexID, at: Parameter) -> CutResult
+    requires { ⌜ patternFaults p ≡ [] ⌝ }
+    requires { ⌜ (n < getD (p .counts) 5 0) × (e .0 < getD (p .counts) 1 0) × (v .0 < getD (p .counts) 0 0) ⌝ }
+    ensures { λ r. ⌜ r .answer ≡ cutAnswer p n (e .0) (v .0) at ⌝ }
+    ensures { λ r. ⌜ r .pattern ≡ afterCut p n (e .0) (v .0) at ⌝ }
+    ensures { λ r. ⌜ patternFaults (r .pattern) ≡ [] ⌝ }
+{
+    let counts = p.counts;
+    let edges = p.edges;
+    let faces = p.faces;
+    let numbers = wire_counts(faces);
+    let d = p.edges[index(e.0)];
+    let curve = d.curve;
+    let mut uses = p.uses;
+    let mut wires = p.wires;
+    let done = cut_columns(
+        counts,
+        fronts_of(edges),
+        backs_of(edges),
+        &p.uses,
+        &p.wires,
+        &numbers,
+        &p.shells,
+        &p.listings,
+        n,
+        e,
+        v,
+        curve,
+        at,
+        &mut uses,
+        &mut wires,
+    );
+    match done {
+        Cutting::Not(x) => {
+            let answer = CutAnswer::Not(x);
+            CutResult { answer, pattern: p }
+        }
+        Cutting::Parted(k, l, total) => {
+            let pattern = store_cut(p, d, v, k, l, total, uses, wires);
+            let a = counts[1] as u16;
+            let answer = CutAnswer::Cut(EdgeID(a), EdgeID(a + 1));
+            CutResult { answer, pattern }
+        }
+    }
 }
 
 // Cuts an edge of shell n at a vertex, where the search put it. Refused, the pattern is as it was.
@@ -94,41 +237,9 @@ pub fn cut_edge(p: Pattern, n: usize, e: EdgeID, v: VertexID, at: Parameter) -> 
         }
         Check::Accepted => {}
     }
-    let ecount = p.counts[1];
-    if !all_named(n, p.counts[5], e, ecount, v, p.counts[0]) {
+    if !all_named(n, p.counts[5], e, p.counts[1], v, p.counts[0]) {
         let answer = CutAnswer::Not(EditError::Unnamed);
         return CutResult { answer, pattern: p };
     }
-    let w = shell_wires(p, n);
-    let d = p.edges[index(e.0)];
-    let curve = d.curve;
-    let halves = cut_curve(curve, at);
-    let ucount = p.counts[2];
-    let wcount = p.counts[3];
-    let judged = judge_cut(
-        &p.uses,
-        ucount,
-        &p.wires,
-        wcount,
-        w.shared,
-        &w.wires,
-        &w.fronts,
-        &w.backs,
-        ecount,
-        e,
-        v,
-        halves,
-    );
-    match judged {
-        Judgement::Not(f) => {
-            let answer = CutAnswer::Not(f);
-            CutResult { answer, pattern: p }
-        }
-        Judgement::Accepted(k, l) => {
-            let pattern = apply_cut(p, w, e, v, k, l);
-            let a = ecount as u16;
-            let answer = CutAnswer::Cut(EdgeID(a), EdgeID(a + 1));
-            CutResult { answer, pattern }
-        }
-    }
+    cut_named(p, n, e, v, at)
 }

@@ -1,2 +1,3 @@
-pub mod Edited
 pub mod Spliced
+pub mod CutFile
+pub mod RemoveFile

@@ -1,6 +1,6 @@
 -- An edit of a file that is not read into a pattern: what is answered and written is what the pattern of the file would give.
 use Prim.Native.Nat.{_*_, _+_, _<_, _≤_, ℕ}
-use mathlib.Core.Bool.{true}
+use mathlib.Core.Bool.{true, true≢false}
 use mathlib.Core.List.{List, [], _∷_}
 use mathlib.Core.Path.{_∙_, _≡_, ap, refl, sym}
 use native.Mathlib.Omega.{arith}
@@ -13,7 +13,6 @@ use Rattle.concat.specs.Joins.{joint}
 use Rattle.concat.specs.declared.Joint.{Joint}
 use Rattle.concat.specs.declared.Joint.the-variants.{Not, Whole}
 use Rattle.edge.specs.Edges.{isSpan}
-use Rattle.edge.specs.Uses.{edgeNumber}
 use Rattle.edge.specs.declared.Edge.{Edge}
 use Rattle.edge.specs.declared.EdgeID.{EdgeID}
 use Rattle.edit_answers.specs.Answers.{editNumber}
@@ -37,18 +36,23 @@ use Rattle.pattern.specs.declared.Pattern.{Pattern}
 use Rattle.pattern_file.proofs.RoundTrip.{content-of-stored}
 use Rattle.pattern_file.specs.File.{edgeAt, fileBytes, fileContent, fileCounts, fileFaults, startOf, tableFaults}
 use Rattle.reader.proofs.Laws.{body-inside, counts-of-content, full, limits, reading-accepted, reading-refused, records-are, stored-passes}
-use Rattle.reader.specs.Reading.{reading, refusal}
+use Rattle.reader.specs.Reading.{Tables, reading, refusal}
 use Rattle.reader.specs.declared.Reading.{Reading}
 use Rattle.shell_edits.proofs.Accepted.{stored-content}
 use Rattle.shell_edits.proofs.ConcatTheorem.{concat-pattern-accepted}
 use Rattle.shell_edits.proofs.Remove.{Joins, join-allowed}
 use Rattle.shell_edits.specs.Answers.{afterConcat, concatAnswer, nextEdge, storedIn}
-use Rattle.shell_edits.specs.Edits.{concatContent, concatFaults, edgeOf, edited, joinedEdge}
+use Rattle.shell_edits.specs.Edits.{concatContent, concatFaults, edgeAt as Edits·edgeAt, edited, joinedEdge}
+use Rattle.shell_wires.specs.Lent.{Lent}
 use Rattle.writer.specs.Writing.{writeAnswer, writeBytes, written, writtenBytes}
 use Rattle.writer.specs.declared.Written.{Written}
 use Rattle.file_edits.specs.FileEdits.{concatFile, concatFileBytes, joinBytes}
 
 -- ---- what the reader would answer
+
+pub refused-some : (fs : List Refusal) {f : Refusal} → first fs ≡ Refused f → fs ≡ [] → ⊥
+refused-some [] h e = true≢false cc
+refused-some (x ∷ fs) h e = true≢false cc
 
 module _ (s : List ℕ) where
   module _ (f : Refusal) (h : first (fileFaults s) ≡ Refused f) where
@@ -67,12 +71,10 @@ module _ (s : List ℕ) where
     pub bytes-accepted : {x : List ℕ} (before : List ℕ) (g : Pattern → List ℕ) → x ≡ g (stored (fileContent s)) → x ≡ afterRead (reading s .answer) before (g (reading s .pattern))
     bytes-accepted before g q = after-accepted _ (reading s) (reading-accepted s ok) refl before (λ (r : Reading). g (r .pattern)) q
 
+  -- the checks in turn
   module _ (right : tableFaults s ≡ []) where
-    pub content-refused : (f : Refusal) → first (contentFaults (fileContent s)) ≡ Refused f → first (fileFaults s) ≡ Refused f
-    content-refused f h = rw right h
-
-    pub content-accepted : first (contentFaults (fileContent s)) ≡ Accepted → fileFaults s ≡ []
-    content-accepted h = none-both (tableFaults s) (contentFaults (fileContent s)) right (accepted-none (contentFaults (fileContent s)) h)
+    pub content-first : first (contentFaults (fileContent s)) ≡ first (fileFaults s)
+    content-first = rw right
 
 -- ---- a content that was stored in a pattern, written
 
@@ -85,6 +87,17 @@ module _ (p : Pattern) (whole : Full p) (q : Content) (fine : patternFaults (sto
 
   pub stored-bytes : writtenBytes (storedIn p q) o ≡ writeBytes [] (fileBytes q) o
   stored-bytes = ap (λ fs. writeBytes fs (fileBytes (content (storedIn p q))) o) fine ∙ ap (λ (c : Content). writeBytes [] (fileBytes c) o) holds
+
+-- an edit that gave pattern r, from the content that is written
+module _ (p : Pattern) (whole : Full p) {t q : Content} (is : t ≡ q) {r : Pattern} (after : storedIn p q ≡ r) (fine : patternFaults r ≡ []) (o : List ℕ) where
+  passes : patternFaults (storedIn p q) ≡ []
+  passes = ap patternFaults after ∙ fine
+
+  pub edit-answered : writeAnswer [] (fileBytes t) o ≡ written r o
+  edit-answered = ap (λ (c : Content). writeAnswer [] (fileBytes c) o) is ∙ sym (stored-written p whole q passes o) ∙ ap (λ (k : Pattern). written k o) after
+
+  pub edit-written : writeBytes [] (fileBytes t) o ≡ writtenBytes r o
+  edit-written = ap (λ (c : Content). writeBytes [] (fileBytes c) o) is ∙ sym (stored-bytes p whole q passes o) ∙ ap (λ (k : Pattern). writtenBytes k o) after
 
 -- ---- an accepted file
 
@@ -110,11 +123,30 @@ module _ (s : List ℕ) (ok : fileFaults s ≡ []) where
       pub edge-room : (i : ℕ) → i < getD counts 1 0 → getD starts 1 0 + 20 * i + 20 ≤ length s
       edge-room i h = omega (arith, body-inside s (table-right s ok) counts starts e f 1 (omega arith) .0)
 
-      pub edge-is : (u : ℕ) → edgeNumber u < getD counts 1 0 → {a : Edge} → a ≡ edgeAt s (getD starts 1 0 + 20 * edgeNumber u) → a ≡ edgeOf c u
-      edge-is u h q =
+      pub edge-is : (i : ℕ) → i < getD counts 1 0 → {a : Edge} → a ≡ edgeAt s (getD starts 1 0 + 20 * i) → a ≡ Edits·edgeAt c i
+      edge-is i h q =
           q
-          ∙ sym (getD-tabulate (getD counts 1 0) (λ (k : ℕ). edgeAt s (getD starts 1 0 + 20 * k)) (edgeNumber u) zeroEdge h)
-          ∙ ap (λ (es : List Edge). getD es (edgeNumber u) zeroEdge) (records-are s (table-right s ok) counts starts e f edgeAt 1 (omega arith))
+          ∙ sym (getD-tabulate (getD counts 1 0) (λ (k : ℕ). edgeAt s (getD starts 1 0 + 20 * k)) i zeroEdge h)
+          ∙ ap (λ (es : List Edge). getD es i zeroEdge) (records-are s (table-right s ok) counts starts e f edgeAt 1 (omega arith))
+
+  -- its columns
+  pub file-lent : {counts fronts backs uses wires faces shells listings : List ℕ} → counts ≡ fileCounts s → Tables p fronts backs uses wires faces shells listings
+      → Lent p counts fronts backs uses wires faces shells listings
+  file-lent e t = record {
+    listed = record {
+      ok = stored-passes s ok;
+      seven = refl;
+      full = full s (table-right s ok);
+      counts-are = e ∙ counts-of-content s;
+      faces-are = t .faces-are;
+      shells-are = t .shells-are;
+      listings-are = t .listings-are;
+    };
+    fronts-are = t .fronts-are;
+    backs-are = t .backs-are;
+    uses-are = t .uses-are;
+    wires-are = t .wires-are;
+  }
 
   -- two uses, joined or not
   module _ (u v : ℕ) (o : List ℕ) {j : Joint} (e : j ≡ joint (concatFaults c u v) (joinedEdge c u v)) where
@@ -143,11 +175,11 @@ module _ (s : List ℕ) (ok : fileFaults s ≡ []) where
       abbrev q : Content
       q = concatContent (content p) u v
 
-      after-is : afterConcat p u v ≡ storedIn p q
-      after-is = sym (judged-done (concatFaults (content p) u v) (λ f. p) (λ f. p) (storedIn p q) (patternFaults p) (stored-passes s ok) (joinedEdge (content p) u v) (sym stored-joint ∙ h))
+      after-is : storedIn p q ≡ afterConcat p u v
+      after-is = judged-done (concatFaults (content p) u v) (λ f. p) (λ f. p) (storedIn p q) (patternFaults p) (stored-passes s ok) (joinedEdge (content p) u v) (sym stored-joint ∙ h)
 
-      fine : patternFaults (storedIn p q) ≡ []
-      fine = ap patternFaults (sym after-is) ∙ concat-pattern-accepted p (full s (table-right s ok)) u v (stored-passes s ok)
+      fine : patternFaults (afterConcat p u v) ≡ []
+      fine = concat-pattern-accepted p (full s (table-right s ok)) u v (stored-passes s ok)
 
       module _ (counts uses wires : List ℕ) (counted : counts ≡ fileCounts s) (us : uses ≡ p .uses) (ws : wires ≡ p .wires) where
         abbrev spliced : Content
@@ -168,13 +200,9 @@ module _ (s : List ℕ) (ok : fileFaults s ≡ []) where
 
         pub joined-answer : {w : Written} → w ≡ writeAnswer [] (fileBytes spliced) o → {x : Answer} → x ≡ joinValues (Joined (record { 0 = getD counts 1 0 })) w → x ≡ concatFile p u v o
         joined-answer ew ex =
-            let file = ew ∙ ap (λ (k : Content). writeAnswer [] (fileBytes k) o) spliced-is ∙ sym (stored-written p (full s (table-right s ok)) q fine o) ∙ ap (λ (r : Pattern). written r o) (sym after-is) in
+            let file = ew ∙ edit-answered p (full s (table-right s ok)) spliced-is after-is fine o in
             ex ∙ (λ i. joinValues (answer-is i) (file i))
 
         pub joined-bytes : {x : List ℕ} → x ≡ writeBytes [] (fileBytes spliced) o → x ≡ concatFileBytes p u v o
         joined-bytes ex =
-            ex
-            ∙ ap (λ (k : Content). writeBytes [] (fileBytes k) o) spliced-is
-            ∙ sym (stored-bytes p (full s (table-right s ok)) q fine o)
-            ∙ ap (λ (r : Pattern). writtenBytes r o) (sym after-is)
-            ∙ ap (λ (a : JoinAnswer). joinBytes a (afterConcat p u v) o) answer-is
+            ex ∙ edit-written p (full s (table-right s ok)) spliced-is after-is fine o ∙ ap (λ (a : JoinAnswer). joinBytes a (afterConcat p u v) o) answer-is

@@ -1,14 +1,24 @@
 // The edits of a shell as calls on a pattern file in memory: the edited file is written to a lent
 // slice, and the file stays as it is.
 ghost use mathlib.Core.Path.{_≡_};
+ghost use mathlib.Core.Bool.{true};
 ghost use mathlib.Core.List.{[]};
-ghost use Rattle.answers.specs.Values.{cutValues, joinValues};
+ghost use Prim.Native.Nat.{_+_, _<_, _≤_};
+ghost use lib.ListN.{getD, length, replicate};
+ghost use Rattle.answers.specs.Values.{cutValues};
+ghost use Rattle.remove_vertex.specs.Removals.{pairEdge, removal};
 ghost use Rattle.concat.specs.Joins.{joint};
-ghost use Rattle.pattern.specs.Contents.{stored};
-ghost use Rattle.pattern_file.specs.File.{fileContent, fileFaults, tableFaults};
-ghost use Rattle.shell_edits.specs.Edits.{concatFaults, joinedEdge};
-ghost use Rattle.writer.specs.Writing.{written};
-ghost use Rattle.file_edits.specs.FileEdits.{concatFile, concatFileBytes, cutBytes, fileConcat, fileConcatBytes, fileCut, fileCutBytes, fileRemove, fileRemoveBytes, joinBytes};
+ghost use Rattle.endings.specs.Endings.{endingOf};
+ghost use Rattle.pattern.specs.Contents.{content, stored};
+ghost use Rattle.edge.specs.Edges.{edge, isSpan};
+ghost use Rattle.edit_answers.specs.declared.CutAnswer.the-variants.{Cut};
+ghost use Rattle.edited_file.specs.EditedFile.{editedFile};
+ghost use Rattle.errors.specs.Faults.{first as firstFault};
+ghost use Rattle.pattern_file.specs.File.{fileBytes, fileContent, fileCounts, fileFaults};
+ghost use Rattle.reader.specs.Reading.{Tables};
+ghost use Rattle.shell_edits.specs.Edits.{concatFaults, edgeAt, endingWires, joinedEdge, removeFaults};
+ghost use Rattle.writer.specs.Writing.{writeAnswer, writeBytes};
+ghost use Rattle.file_edits.specs.FileEdits.{concatFile, concatFileBytes, cutFile, cutFileBytes, fileConcat, fileConcatBytes, fileCut, fileCutBytes, fileRemove, fileRemoveBytes, removeFile, removeFileBytes};
 use answers::Answer;
 use answers::cut_values;
 use answers::join_values;
@@ -16,8 +26,14 @@ use answers::refused;
 use answers::unread;
 use concat::Joint;
 use concat::judge_concat;
+use corners::put_tables;
+use curve::Parameter;
 use curve::parameter_of;
-use cut_edge::cut_edge;
+use cut_edge::Cutting;
+use cut_edge::cut_columns;
+use cut_faults::all_named;
+use edge::Curve;
+use edge::Edge;
 use edge::EdgeID;
 use edit_answers::CutAnswer;
 use edit_answers::EditError;
@@ -25,39 +41,131 @@ use edit_answers::JoinAnswer;
 use edit_answers::edit_number;
 use edited_file::put_edited;
 use errors::Check;
-use pattern::Pattern;
 use pattern_file::starts_of;
 use reader::check_file;
 use reader::check_table;
 use reader::counts_of;
 use reader::edge_at;
-use reader::read;
 use reader::read_columns;
-use remove_vertex::remove_vertex_by_concat_edges;
+use remove_vertex::Pairing;
+use remove_vertex::Removal;
+use remove_vertex::find_pair;
+use remove_vertex::join_pair;
 use vertex::VertexID;
-use writer::write;
+use words::index;
 
-// The answer of a cut that gave pattern q, which is written unless the cut was refused.
-fn put_cut(a: CutAnswer, q: Pattern, out: &mut [u8]) -> Answer
-    ensures { λ r. ⌜ r ≡ cutValues a (written q (now (out .entry))) ⌝ }
-    ensures { λ _. ⌜ now (out .exit) ≡ cutBytes a q (now (out .entry)) ⌝ }
+// Reads a file as columns, and checks it. A pattern would be copied at each call.
+fn read_file(
+    file: &[u8],
+    fronts: &mut [u16],
+    backs: &mut [u16],
+    uses: &mut [u16],
+    wires: &mut [u16],
+    faces: &mut [u16],
+    shells: &mut [u16],
+    listings: &mut [u16],
+) -> Check
+    requires { ⌜ (now fronts ≡ replicate 1024 0) × (now backs ≡ replicate 1024 0) × (now uses ≡ replicate 4096 0) × (now wires ≡ replicate 1024 0) × (now faces ≡ replicate 256 0) × (now shells ≡ replicate 16 0) × (now listings ≡ replicate 512 0) ⌝ }
+    ensures { λ r. ⌜ r ≡ firstFault (fileFaults (now (file .entry))) ⌝ }
+    ensures { λ r. ⌜ (fileFaults (now (file .entry)) ≡ [] → Tables (stored (fileContent (now (file .entry)))) (now (fronts .exit)) (now (backs .exit)) (now (uses .exit)) (now (wires .exit)) (now (faces .exit)) (now (shells .exit)) (now (listings .exit))) ⌝ }
 {
-    match a {
-        CutAnswer::Refused(f) => unread(f),
-        CutAnswer::Not(e) => refused(edit_number(e), 0),
-        CutAnswer::Cut(_, _) => cut_values(a, write(q, out)),
+    let table = check_table(file);
+    match table {
+        Check::Refused(f) => Check::Refused(f),
+        Check::Accepted => {
+            read_columns(file, fronts, backs, uses, wires, faces, shells, listings);
+            check_file(file, fronts, backs, uses, wires, faces, shells, listings)
+        }
     }
 }
 
-// The same for an edit that makes one edge.
-fn put_join(a: JoinAnswer, q: Pattern, out: &mut [u8]) -> Answer
-    ensures { λ r. ⌜ r ≡ joinValues a (written q (now (out .entry))) ⌝ }
-    ensures { λ _. ⌜ now (out .exit) ≡ joinBytes a q (now (out .entry)) ⌝ }
+// Edge i of an accepted file.
+fn file_edge(file: &[u8], counts: [usize; 7], i: usize) -> Edge
+    requires { ⌜ (fileFaults (now file) ≡ []) × (counts ≡ fileCounts (now file)) × (i < getD counts 1 0) ⌝ }
+    ensures { λ r. ⌜ r ≡ edgeAt (fileContent (now (file .entry))) i ⌝ }
 {
-    match a {
-        JoinAnswer::Refused(f) => unread(f),
-        JoinAnswer::Not(e) => refused(edit_number(e), 0),
-        JoinAnswer::Joined(_) => join_values(a, write(q, out)),
+    let starts = starts_of(counts);
+    let at = starts[1];
+    edge_at(file, at + 20 * i)
+}
+
+// Writes the file with the halves k and l of an edge, parted at v, and with these uses and wires.
+fn put_parted(
+    file: &[u8],
+    counts: [usize; 7],
+    d: Edge,
+    v: u16,
+    k: Curve,
+    l: Curve,
+    uses: &[u16],
+    total: usize,
+    wires: &[u16],
+    out: &mut [u8],
+) -> Answer
+    requires { ⌜ (fileFaults (now file) ≡ []) × (counts ≡ fileCounts (now file)) × (getD counts 1 0 + 2 ≤ 1024) ⌝ }
+    requires { ⌜ (isSpan k ≡ true) × (isSpan l ≡ true) × (total ≤ 4096) × (length (now uses) ≡ 4096) × (length (now wires) ≡ 1024) ⌝ }
+    ensures { λ r. ⌜ r ≡ cutValues (Cut (record { 0 = getD counts 1 0 }) (record { 0 = getD counts 1 0 + 1 })) (writeAnswer [] (fileBytes (editedFile (now (file .entry)) (edge (d .front) (record { 0 = v }) k) (edge (record { 0 = v }) (d .back) l) 2 (now (uses .entry)) total (now (wires .entry)) (getD counts 3 0))) (now (out .entry))) ⌝ }
+    ensures { λ _. ⌜ now (out .exit) ≡ writeBytes [] (fileBytes (editedFile (now (file .entry)) (edge (d .front) (record { 0 = v }) k) (edge (record { 0 = v }) (d .back) l) 2 (now (uses .entry)) total (now (wires .entry)) (getD counts 3 0))) (now (out .entry)) ⌝ }
+{
+    let front = d.front;
+    let back = d.back;
+    let a = Edge::new_unchecked(front, VertexID(v), k);
+    let b = Edge::new_unchecked(VertexID(v), back, l);
+    let written = put_edited(file, a, b, 2, uses, total, wires, counts[3], out);
+    let first = counts[1] as u16;
+    cut_values(CutAnswer::Cut(EdgeID(first), EdgeID(first + 1)), written)
+}
+
+// Cuts edge e of an accepted file with these columns.
+fn cut_accepted<'a>(
+    file: &[u8],
+    fronts: [u16; 1024],
+    backs: [u16; 1024],
+    uses: &'a [u16],
+    wires: &'a [u16],
+    faces: &'a [u16],
+    shells: &'a [u16],
+    listings: &'a [u16],
+    n: usize,
+    e: u16,
+    v: u16,
+    at: Parameter,
+    out: &mut [u8],
+) -> Answer
+    requires { ⌜ (fileFaults (now file) ≡ []) × Tables (stored (fileContent (now file))) fronts backs (now uses) (now wires) (now faces) (now shells) (now listings) ⌝ }
+    ensures { λ r. ⌜ r ≡ cutFile (stored (fileContent (now (file .entry)))) n e v at (now (out .entry)) ⌝ }
+    ensures { λ _. ⌜ now (out .exit) ≡ cutFileBytes (stored (fileContent (now (file .entry)))) n e v at (now (out .entry)) ⌝ }
+{
+    let counts = counts_of(file);
+    if !all_named(n, counts[5], EdgeID(e), counts[1], VertexID(v), counts[0]) {
+        return refused(edit_number(EditError::Unnamed), 0);
+    }
+    let d = file_edge(file, counts, index(e));
+    let curve = d.curve;
+    let mut cut = [0u16; 4096];
+    let mut sizes = [0u16; 1024];
+    let done = cut_columns(
+        counts,
+        fronts,
+        backs,
+        uses,
+        wires,
+        faces,
+        shells,
+        listings,
+        n,
+        EdgeID(e),
+        VertexID(v),
+        curve,
+        at,
+        &mut cut,
+        &mut sizes,
+    );
+    match done {
+        Cutting::Not(x) => refused(edit_number(x), 0),
+        Cutting::Parted(k, l, total) => {
+            put_parted(file, counts, d, v, k, l, &cut, total, &sizes, out)
+        }
     }
 }
 
@@ -66,16 +174,135 @@ pub fn file_cut(file: &[u8], n: usize, e: u16, v: u16, bits: u64, out: &mut [u8]
     ensures { λ r. ⌜ r ≡ fileCut (now (file .entry)) n e v bits (now (out .entry)) ⌝ }
     ensures { λ _. ⌜ now (out .exit) ≡ fileCutBytes (now (file .entry)) n e v bits (now (out .entry)) ⌝ }
 {
-    let reading = read(file);
-    let checked = reading.answer;
+    let mut fronts = [0u16; 1024];
+    let mut backs = [0u16; 1024];
+    let mut uses = [0u16; 4096];
+    let mut wires = [0u16; 1024];
+    let mut faces = [0u16; 256];
+    let mut shells = [0u16; 16];
+    let mut listings = [0u16; 512];
+    let checked = read_file(
+        file,
+        &mut fronts,
+        &mut backs,
+        &mut uses,
+        &mut wires,
+        &mut faces,
+        &mut shells,
+        &mut listings,
+    );
     match checked {
         Check::Refused(f) => unread(f),
-        Check::Accepted => {
-            let p = reading.pattern;
-            let done = cut_edge(p, n, EdgeID(e), VertexID(v), parameter_of(bits));
-            let a = done.answer;
-            let q = done.pattern;
-            put_cut(a, q, out)
+        Check::Accepted => cut_accepted(
+            file,
+            fronts,
+            backs,
+            &uses,
+            &wires,
+            &faces,
+            &shells,
+            &listings,
+            n,
+            e,
+            v,
+            parameter_of(bits),
+            out,
+        ),
+    }
+}
+
+// The removal of point v of an accepted file with these columns: the new edge and the wires that take
+// it, or why not.
+fn judge_file<'a>(
+    file: &[u8],
+    counts: [usize; 7],
+    fronts: &'a [u16],
+    backs: &'a [u16],
+    uses: &'a [u16],
+    wires: &'a [u16],
+    faces: &'a [u16],
+    shells: &'a [u16],
+    listings: &'a [u16],
+    n: usize,
+    v: VertexID,
+) -> Removal
+    requires { ⌜ (fileFaults (now file) ≡ []) × (counts ≡ fileCounts (now file)) × Tables (stored (fileContent (now file))) (now fronts) (now backs) (now uses) (now wires) (now faces) (now shells) (now listings) ⌝ }
+    ensures { λ r. ⌜ r ≡ removal (removeFaults (content (stored (fileContent (now (file .entry))))) n (v .0)) (pairEdge (content (stored (fileContent (now (file .entry))))) (v .0) (endingOf (endingWires (content (stored (fileContent (now (file .entry))))) n (v .0)))) (endingOf (endingWires (content (stored (fileContent (now (file .entry))))) n (v .0))) ⌝ }
+{
+    let found = find_pair(
+        counts,
+        fronts,
+        backs,
+        uses,
+        wires,
+        faces,
+        shells,
+        listings,
+        n,
+        v,
+    );
+    match found {
+        Pairing::Not(x) => Removal::Not(x),
+        Pairing::Found(e, k) => {
+            let a = file_edge(file, counts, index(k.ending % 32768));
+            let b = file_edge(file, counts, index(k.next % 32768));
+            join_pair(e, k, a, b, counts[1])
+        }
+    }
+}
+
+// Removes point v of an accepted file with these columns.
+fn remove_accepted<'a>(
+    file: &[u8],
+    fronts: &'a [u16],
+    backs: &'a [u16],
+    uses: &'a [u16],
+    wires: &'a [u16],
+    faces: &'a [u16],
+    shells: &'a [u16],
+    listings: &'a [u16],
+    n: usize,
+    v: u16,
+    out: &mut [u8],
+) -> Answer
+    requires { ⌜ (fileFaults (now file) ≡ []) × Tables (stored (fileContent (now file))) (now fronts) (now backs) (now uses) (now wires) (now faces) (now shells) (now listings) ⌝ }
+    ensures { λ r. ⌜ r ≡ removeFile (stored (fileContent (now (file .entry)))) n v (now (out .entry)) ⌝ }
+    ensures { λ _. ⌜ now (out .exit) ≡ removeFileBytes (stored (fileContent (now (file .entry)))) n v (now (out .entry)) ⌝ }
+{
+    let counts = counts_of(file);
+    let judged = judge_file(
+        file,
+        counts,
+        fronts,
+        backs,
+        uses,
+        wires,
+        faces,
+        shells,
+        listings,
+        n,
+        VertexID(v),
+    );
+    match judged {
+        Removal::Not(x) => refused(edit_number(x), 0),
+        Removal::Joins(d, e) => {
+            let mut left = [0u16; 4096];
+            let mut sizes = [0u16; 1024];
+            let used = put_tables(
+                uses,
+                counts[2],
+                wires,
+                counts[3],
+                fronts,
+                backs,
+                counts[1],
+                VertexID(v),
+                e,
+                &mut left,
+                &mut sizes,
+            );
+            let written = put_edited(file, d, d, 1, &left, used, &sizes, counts[3], out);
+            join_values(JoinAnswer::Joined(EdgeID(counts[1] as u16)), written)
         }
     }
 }
@@ -85,17 +312,38 @@ pub fn file_remove(file: &[u8], n: usize, v: u16, out: &mut [u8]) -> Answer
     ensures { λ r. ⌜ r ≡ fileRemove (now (file .entry)) n v (now (out .entry)) ⌝ }
     ensures { λ _. ⌜ now (out .exit) ≡ fileRemoveBytes (now (file .entry)) n v (now (out .entry)) ⌝ }
 {
-    let reading = read(file);
-    let checked = reading.answer;
+    let mut fronts = [0u16; 1024];
+    let mut backs = [0u16; 1024];
+    let mut uses = [0u16; 4096];
+    let mut wires = [0u16; 1024];
+    let mut faces = [0u16; 256];
+    let mut shells = [0u16; 16];
+    let mut listings = [0u16; 512];
+    let checked = read_file(
+        file,
+        &mut fronts,
+        &mut backs,
+        &mut uses,
+        &mut wires,
+        &mut faces,
+        &mut shells,
+        &mut listings,
+    );
     match checked {
         Check::Refused(f) => unread(f),
-        Check::Accepted => {
-            let p = reading.pattern;
-            let done = remove_vertex_by_concat_edges(p, n, VertexID(v));
-            let a = done.answer;
-            let q = done.pattern;
-            put_join(a, q, out)
-        }
+        Check::Accepted => remove_accepted(
+            file,
+            &fronts,
+            &backs,
+            &uses,
+            &wires,
+            &faces,
+            &shells,
+            &listings,
+            n,
+            v,
+            out,
+        ),
     }
 }
 
@@ -114,10 +362,8 @@ fn join_uses(file: &[u8], u: u16, v: u16) -> Joint
     if j >= edges {
         return Joint::Not(EditError::Unnamed);
     }
-    let starts = starts_of(counts);
-    let at = starts[1];
-    let a = edge_at(file, at + 20 * i);
-    let b = edge_at(file, at + 20 * j);
+    let a = file_edge(file, counts, i);
+    let b = file_edge(file, counts, j);
     judge_concat(a, u, b, v, edges)
 }
 
@@ -145,10 +391,8 @@ fn concat_accepted(
     }
 }
 
-// Joins uses u and v of a file whose contents table is right. Its tables are read as columns: a
-// pattern would be copied at each call.
-fn concat_columns(file: &[u8], u: u16, v: u16, out: &mut [u8]) -> Answer
-    requires { ⌜ tableFaults (now file) ≡ [] ⌝ }
+// Joins uses u and v to a new edge.
+pub fn file_concat(file: &[u8], u: u16, v: u16, out: &mut [u8]) -> Answer
     ensures { λ r. ⌜ r ≡ fileConcat (now (file .entry)) u v (now (out .entry)) ⌝ }
     ensures { λ _. ⌜ now (out .exit) ≡ fileConcatBytes (now (file .entry)) u v (now (out .entry)) ⌝ }
 {
@@ -159,7 +403,7 @@ fn concat_columns(file: &[u8], u: u16, v: u16, out: &mut [u8]) -> Answer
     let mut faces = [0u16; 256];
     let mut shells = [0u16; 16];
     let mut listings = [0u16; 512];
-    read_columns(
+    let checked = read_file(
         file,
         &mut fronts,
         &mut backs,
@@ -169,30 +413,8 @@ fn concat_columns(file: &[u8], u: u16, v: u16, out: &mut [u8]) -> Answer
         &mut shells,
         &mut listings,
     );
-    let answer = check_file(
-        file,
-        &fronts,
-        &backs,
-        &uses,
-        &wires,
-        &faces,
-        &shells,
-        &listings,
-    );
-    match answer {
+    match checked {
         Check::Refused(f) => unread(f),
         Check::Accepted => concat_accepted(file, u, v, &uses, &wires, out),
-    }
-}
-
-// Joins uses u and v to a new edge.
-pub fn file_concat(file: &[u8], u: u16, v: u16, out: &mut [u8]) -> Answer
-    ensures { λ r. ⌜ r ≡ fileConcat (now (file .entry)) u v (now (out .entry)) ⌝ }
-    ensures { λ _. ⌜ now (out .exit) ≡ fileConcatBytes (now (file .entry)) u v (now (out .entry)) ⌝ }
-{
-    let table = check_table(file);
-    match table {
-        Check::Refused(f) => unread(f),
-        Check::Accepted => concat_columns(file, u, v, out),
     }
 }

@@ -1,30 +1,34 @@
 -- The refusals of a removal in sequence, and the wires that the code finds.
 use Prim.Native.Nat.{_-_, _<_, _≤_, suc, zero, ℕ}
 use Prim.{⊥}
-use mathlib.Core.Bool.{Bool, _&&_, false, true, true≢false}
-use mathlib.Core.List.{List, [], _∷_}
+use mathlib.Core.Bool.{Bool, _&&_, _||_, false, true, true≢false}
+use mathlib.Core.List.{List, [], _++_, _∷_}
 use mathlib.Core.Logic.{⊎-elim}
-use mathlib.Core.Path.{_≡_, ap, refl, sym}
+use mathlib.Core.Path.{_∙_, _≡_, ap, refl, sym}
 use native.Mathlib.Omega.{arith}
 use lib.Dec.{leb, ltb}
 use lib.ListN.{List·getD-eq-default, getD, length}
 use borrow.Author.Tests.{le-leb, le-ltb, lt-leb, lt-ltb, ltb-true, ltb-false}
 use Rattle.concat.specs.Joins.{joint}
 use Rattle.concat.specs.declared.Joint.the-variants.{Not as Joint·Not, Whole}
+use Rattle.corners.specs.Corners.{fit}
+use Rattle.corners.specs.declared.Corner.{Corner}
 use Rattle.edge.specs.declared.Edge.{Edge}
 use Rattle.edit_answers.specs.declared.EditError.{EditError}
-use Rattle.edit_answers.specs.declared.EditError.the-variants.{NotOneOrTwoWires, SharedFace, Unnamed}
+use Rattle.edit_answers.specs.declared.EditError.the-variants.{NotOneOrTwoWires, SharedFace, Unmatched, Unnamed}
 use Rattle.lists.proofs.Count.{All}
 use Rattle.lists.proofs.Laws.{cases}
 use Rattle.lists.proofs.Parts.{all-place}
-use Rattle.lists.specs.Lists.{has, only}
+use Rattle.lists.specs.Lists.{has, only, unless}
 use Rattle.pattern.specs.Contents.{Content}
 use Rattle.endings.specs.Endings.{endingOf, endsAt}
-use Rattle.remove_vertex.specs.Removals.{pairFaults, removal}
+use Rattle.remove_vertex.specs.Removals.{OfEdges, nearFaults, pairing, removal}
 use Rattle.endings.specs.declared.Ending.{Ending}
+use Rattle.remove_vertex.specs.declared.Pairing.{Pairing}
+use Rattle.remove_vertex.specs.declared.Pairing.the-variants.{Found, Not as Pair·Not}
 use Rattle.remove_vertex.specs.declared.Removal.{Removal}
 use Rattle.remove_vertex.specs.declared.Removal.the-variants.{Joins, Not}
-use Rattle.shell_edits.specs.Edits.{endingWires, lastWire, removeFaults, sharesFace, firstWire}
+use Rattle.shell_edits.specs.Edits.{endingWires, firstWire, lastWire, matched, sharesFace}
 
 -- those that pass a test pass it
 passes : (q : ℕ → Bool) (xs : List ℕ) → All (λ (x : ℕ). q x ≡ true) (only q xs)
@@ -74,34 +78,57 @@ module _ (es : List EditError) (d : Edge) (e : Ending) where
       go [] {k} h = let z : k ≡ d = cc in ap (λ (r : Edge). Joins r e) z
       go (y ∷ es) h = cc
 
-module _ (c : Content) (n v points shells : ℕ) (ps : length (c .points) ≡ points) (ss : length (c .shells) ≡ shells) (d : Edge) (e : Ending) where
-  abbrev found : Removal
-  found = removal (removeFaults c n v) d e
+module _ (c : Content) (n v points shells : ℕ) (ps : length (c .points) ≡ points) (ss : length (c .shells) ≡ shells) (k : Corner) (e : Ending) where
+  abbrev found : Pairing
+  found = pairing (nearFaults c n v) e k
 
-  pub no-shell : shells ≤ n → Not Unnamed ≡ found
+  pub no-shell : shells ≤ n → Pair·Not Unnamed ≡ found
   no-shell h = rw (ss, le-ltb n shells h)
 
-  pub no-point : points ≤ v → Not Unnamed ≡ found
+  pub no-point : points ≤ v → Pair·Not Unnamed ≡ found
   no-point h = rw (ps, and-false (ltb n (length (c .shells))) (ltb v points) (le-ltb v points h))
 
   module _ (hn : n < shells) (hv : v < points) where
-    pub is-shared : sharesFace c n ≡ true → Not SharedFace ≡ found
+    pub is-shared : sharesFace c n ≡ true → Pair·Not SharedFace ≡ found
     is-shared h = rw (ps, ss, lt-ltb n shells hn, lt-ltb v points hv, h)
 
-    module _ (own : sharesFace c n ≡ false) (is : e ≡ endingOf (endingWires c n v)) where
-      number : e .number ≡ length (endingWires c n v)
+    module _ (own : sharesFace c n ≡ false) (g : Ending) (is : g ≡ endingOf (endingWires c n v)) where
+      number : g .number ≡ length (endingWires c n v)
       number = ap (λ (r : Ending). r .number) is
 
-      pub no-wire : e .number ≡ 0 → Not NotOneOrTwoWires ≡ found
+      pub no-wire : g .number ≡ 0 → Pair·Not NotOneOrTwoWires ≡ found
       no-wire h = rw (ps, ss, lt-ltb n shells hn, lt-ltb v points hv, own, ← number, h)
 
-      pub many-wires : 2 < e .number → Not NotOneOrTwoWires ≡ found
+      pub many-wires : 2 < g .number → Pair·Not NotOneOrTwoWires ≡ found
       many-wires h =
-          rw (ps, ss, lt-ltb n shells hn, lt-ltb v points hv, own, ← number, and-false (ltb 0 (e .number)) (leb (e .number) 2) (lt-leb (e .number) 2 h))
+          rw (ps, ss, lt-ltb n shells hn, lt-ltb v points hv, own, ← number, and-false (ltb 0 (g .number)) (leb (g .number) 2) (lt-leb (g .number) 2 h))
 
-      pub faults-are : 0 < e .number → e .number ≤ 2 → pairFaults c v e ≡ removeFaults c n v
-      faults-are h l =
-          rw (ps, ss, lt-ltb n shells hn, lt-ltb v points hv, own, ← number, lt-ltb 0 (e .number) h, le-leb (e .number) 2 l, is)
+      pub near-are : 0 < g .number → g .number ≤ 2 → unless (ltb (g .number) 2 || matched c v (g .first) (g .last)) Unmatched ≡ nearFaults c n v
+      near-are h l =
+          rw (ps, ss, lt-ltb n shells hn, lt-ltb v points hv, own, ← number, lt-ltb 0 (g .number) h, le-leb (g .number) 2 l, is)
+
+-- the corners that the code reads
+module _ (e : Ending) {a b k l : Corner} (ea : a ≡ k) (eb : b ≡ l) {t : Bool} (et : t ≡ fit e a b) where
+  fit-is : t ≡ fit e k l
+  fit-is = et ∙ ap (λ (c : Corner). fit e c b) ea ∙ ap (λ (c : Corner). fit e k c) eb
+
+  pub unmatched : t ≡ false → Pair·Not Unmatched ≡ pairing (unless (fit e k l) Unmatched) e l
+  unmatched h = ap (λ (x : Bool). pairing (unless x Unmatched) e l) (sym h ∙ fit-is)
+
+  pub fitting : t ≡ true → Found e b ≡ pairing (unless (fit e k l) Unmatched) e l
+  fitting h = ap (Found e) eb ∙ ap (λ (x : Bool). pairing (unless x Unmatched) e l) (sym h ∙ fit-is)
+
+pub of-edges : (m : ℕ) {r q : Pairing} → r ≡ q → OfEdges m r → OfEdges m q
+of-edges m e h = rw e at h
+
+-- ---- the pair, then its edges
+pub pairing-not : (near es : List EditError) (e : Ending) (k : Corner) (d : Edge) {x : EditError} → Pair·Not x ≡ pairing near e k → Not x ≡ removal (near ++ es) d e
+pairing-not [] es e k d h = cc
+pairing-not (y ∷ near) es e k d {x} h = let z : x ≡ y = cc in ap Not z
+
+pub pairing-found : (near : List EditError) (e : Ending) (k : Corner) {g : Ending} {l : Corner} → Found g l ≡ pairing near e k → (near ≡ []) × (g ≡ e) × (l ≡ k)
+pairing-found [] e k h = (refl, cc, cc)
+pairing-found (y ∷ near) e k h = (cc, cc, cc)
 
 -- ---- and back
 pub not-joint : (es : List EditError) (d : Edge) (e : Ending) {x : EditError} → removal es d e ≡ Not x → joint es d ≡ Joint·Not x

@@ -9,10 +9,9 @@ use lib.ListN.{getD, length, length-map, set, take}
 use lib.Seq.{sets}
 use borrow.Author.Tests.{ltb-true}
 use Rattle.concat.proofs.Judged.{edge-read, joined-is, joins-are, room-there}
-use Rattle.concat.specs.Joins.{appended, endFaults, joinedEnds, joint}
-use Rattle.concat.specs.declared.Joint.{Joint}
-use Rattle.concat.specs.declared.Joint.the-variants.{Not as Joint·Not}
+use Rattle.concat.specs.Joins.{appended, endFaults, joinedEnds}
 use Rattle.edge.proofs.Laws.{noEdge}
+use Rattle.edit_answers.specs.declared.EditError.{EditError}
 use Rattle.edit_answers.specs.declared.EditError.the-variants.{NotOneOrTwoWires, SharedFace, Unmatched, Unnamed}
 use Rattle.edge.specs.Edges.{backNumber, frontNumber}
 use Rattle.edge.specs.Uses.{backOf, edgeNumber, frontOf}
@@ -26,23 +25,29 @@ use Rattle.lists.proofs.Count.{All, all-each, all-split}
 use Rattle.lists.proofs.Laws.{eqb-sym, length-split, map-take}
 use Rattle.lists.proofs.Parts.{all-flat, all-place, flat-split}
 use Rattle.lists.specs.Lists.{flat, noDup, only, split, unless}
-use Rattle.pattern.proofs.Counts.{edges-counted, wires-counted}
+use Rattle.pattern.proofs.Counts.{edges-counted, points-counted, shells-counted, wires-counted}
 use Rattle.pattern.proofs.Named.{ends-apart, faces-summed, use-named, wires-summed}
 use Rattle.pattern.specs.Checks.{contentFaults, countFaults, outlines, recordFaults}
 use Rattle.pattern.specs.Contents.{Content, content}
 use Rattle.pattern.specs.declared.Pattern.{Pattern}
 use Rattle.endings.specs.Tables.{Paired, Tables}
-use Rattle.corners.specs.Corners.{cornerOf, removedWire, fit}
+use Rattle.corners.specs.Corners.{fit, removedWire}
 use Rattle.endings.specs.Endings.{endingOf, endsAt}
 use Rattle.corners.specs.declared.Corner.{Corner}
-use Rattle.remove_vertex.proofs.Removals.{ending-inside}
-use Rattle.remove_vertex.specs.Removals.{Columns, pairEdge, pairFaults, pairStored, pairWires}
+use Rattle.remove_vertex.proofs.Removals.{ending-inside, pairing-found, pairing-not}
+use Rattle.remove_vertex.specs.Removals.{cornerIn, cornerLent, nearFaults, pairEdge, pairStored, pairWires, pairing, removal}
+use Rattle.remove_vertex.specs.declared.Pairing.{Pairing}
+use Rattle.remove_vertex.specs.declared.Pairing.the-variants.{Found, Not as Pair·Not}
+use Rattle.remove_vertex.specs.declared.Removal.{Removal}
+use Rattle.remove_vertex.specs.declared.Removal.the-variants.{Not}
 use Rattle.endings.specs.declared.Ending.{Ending}
 use Rattle.corners.proofs.Wires.{length-each}
 use Rattle.shell.specs.Shells.{listingsOf}
 use Rattle.shell_edits.proofs.Storage.{seven-are}
 use Rattle.shell_edits.specs.Edits.{eachWire, edgeOf, endUse, endingWires, firstWire, joinFaults, joinedEdge, lastWire, listedWires, matched, nextUse, removeFaults, sharesFace, wiresIn, wiresOf}
-use Rattle.shell_wires.proofs.Facts.{Fine, backs-long, fronts-long, stored-edited, uses-named, wires-sum}
+use Rattle.shell_wires.proofs.Facts.{Fine, stored-edited}
+use Rattle.shell_wires.proofs.Made.{ends-named, ends-room, lent-fine, uses-room, wires-room}
+use Rattle.shell_wires.specs.Lent.{Lent}
 use Rattle.wire.specs.Wires.{closed, points, runs, wireFaults}
 use Rattle.corners.proofs.Places.{part-long}
 
@@ -113,49 +118,119 @@ module _ (c : Content) (ok : contentFaults c ≡ []) where
       let two = two-uses fs bs (getD xs w []) (all-place (Faultless fs bs) [] xs faultless w inside) (all-place (All (Apart fs bs)) [] xs (all-split (Apart fs bs) (c .wires) (c .uses) apart) w inside) in
       omega (arith, two, part-long (c .wires) (c .uses) w (wires-summed c records) h)
 
-module _ (p : Pattern) (s : Fine p) where
+-- refused before the edges are joined
+pub pair-refused : (c : Content) (n v : ℕ) {x : EditError} → Pair·Not x ≡ pairing (nearFaults c n v) (endingOf (endingWires c n v)) (cornerIn c v (lastWire (endingWires c n v)))
+    → Not x ≡ removal (removeFaults c n v) (pairEdge c v (endingOf (endingWires c n v))) (endingOf (endingWires c n v))
+pair-refused c n v h =
+    let g = endingOf (endingWires c n v) in
+    pairing-not (nearFaults c n v) (joinFaults c (endUse c v (g .last)) (nextUse c v (g .last))) g (cornerIn c v (g .last)) (pairEdge c v g) h
+
+-- ---- the columns of a pattern without fault
+module _ (p : Pattern) (counts fronts backs uses wires faces shells listings : List ℕ) (l : Lent p counts fronts backs uses wires faces shells listings) where
+  abbrev s : Fine p
+  s = lent-fine p counts fronts backs uses wires faces shells listings l
+
   content-fine : contentFaults (content p) ≡ []
   content-fine = none-right (countFaults (p .counts)) (contentFaults (content p)) (s .ok)
 
-  pub tables : {fronts backs : List ℕ} → Columns p fronts backs
-      → Tables (p .uses) (getD (p .counts) 2 0) (p .wires) (getD (p .counts) 3 0) fronts backs (getD (p .counts) 1 0)
-  tables h = record {
-    uses-in = omega (arith, s .limits .uses, s .full .uses);
-    few-uses = s .limits .uses;
-    wires-in = omega (arith, s .limits .wires, s .full .wires);
-    few-wires = s .limits .wires;
-    fronts-in = rw (h .0) (omega (arith, s .limits .edges, fronts-long p s));
-    backs-in = rw (h .1) (omega (arith, s .limits .edges, backs-long p s));
-    named = rw (h .0, h .1) (uses-named p s);
-    summed = wires-sum p s;
-    paired = wires-paired (content p) content-fine;
+  pub tables : Tables uses (getD counts 2 0) wires (getD counts 3 0) fronts backs (getD counts 1 0)
+  tables = record {
+    uses-in = uses-room p counts fronts backs uses wires faces shells listings l .1;
+    few-uses = uses-room p counts fronts backs uses wires faces shells listings l .0;
+    wires-in = wires-room p counts fronts backs uses wires faces shells listings l .1;
+    few-wires = wires-room p counts fronts backs uses wires faces shells listings l .0;
+    fronts-in = ends-room p counts fronts backs uses wires faces shells listings l .0;
+    backs-in = ends-room p counts fronts backs uses wires faces shells listings l .1;
+    named = ends-named p counts fronts backs uses wires faces shells listings l;
+    summed = wires-room p counts fronts backs uses wires faces shells listings l .2;
+    paired = rw (l .listed .counts-are, l .wires-are) (wires-paired (content p) content-fine);
   }
 
-  -- the ends of the edges that count
-  pub fronts-are : {fronts backs : List ℕ} → Columns p fronts backs → take (getD (p .counts) 1 0) fronts ≡ map frontNumber (content p .edges)
-  fronts-are h = rw (h .0) (sym (map-take frontNumber (getD (p .counts) 1 0) (p .edges)))
+  pub points-are : length (content p .points) ≡ getD counts 0 0
+  points-are = rw (l .listed .counts-are) (points-counted p (s .limits) (s .full))
 
-  pub backs-are : {fronts backs : List ℕ} → Columns p fronts backs → take (getD (p .counts) 1 0) backs ≡ map backNumber (content p .edges)
-  backs-are h = rw (h .1) (sym (map-take backNumber (getD (p .counts) 1 0) (p .edges)))
+  pub shells-are : length (content p .shells) ≡ getD counts 5 0
+  shells-are = rw (l .listed .counts-are) (shells-counted p (s .limits) (s .full))
+
+  edges-are : length (content p .edges) ≡ getD counts 1 0
+  edges-are = rw (l .listed .counts-are) (edges-counted p (s .limits) (s .full))
+
+  -- the ends of the edges that count
+  fronts-are : take (getD counts 1 0) fronts ≡ map frontNumber (content p .edges)
+  fronts-are = rw (l .listed .counts-are, l .fronts-are) (sym (map-take frontNumber (getD (p .counts) 1 0) (p .edges)))
+
+  backs-are : take (getD counts 1 0) backs ≡ map backNumber (content p .edges)
+  backs-are = rw (l .listed .counts-are, l .backs-are) (sym (map-take backNumber (getD (p .counts) 1 0) (p .edges)))
+
+  split-is : split (take (getD counts 3 0) wires) (take (getD counts 2 0) uses) ≡ wiresIn (content p)
+  split-is = rw (l .listed .counts-are, l .uses-are, l .wires-are)
 
   -- the wires that the code finds are those of the definition
-  module _ {fronts backs : List ℕ} (h : Columns p fronts backs) (n v : ℕ) where
-    pub endings-are : {e : Ending} (counts ls : List ℕ) → counts ≡ map wireCount (p .faces) → ls ≡ listingsOf (content p) n
-        → e ≡ endingOf (only (λ (w : ℕ). endsAt (take (getD (p .counts) 1 0) fronts) (take (getD (p .counts) 1 0) backs) v (getD (split (content p .wires) (content p .uses)) w [])) (listedWires (take (getD (p .counts) 4 0) counts) (getD (p .counts) 3 0) ls))
-        → e ≡ endingOf (endingWires (content p) n v)
-    endings-are counts ls ec el is =
-        is ∙ rw (fronts-are h, backs-are h, ec, ← map-take wireCount (getD (p .counts) 4 0) (p .faces), el, wires-counted p (s .limits) (s .full))
+  pub endings-are : (n v : ℕ) {e : Ending} (ls : List ℕ) → ls ≡ listingsOf (content p) n
+      → e ≡ endingOf (only (λ (w : ℕ). endsAt (take (getD counts 1 0) fronts) (take (getD counts 1 0) backs) v (getD (split (take (getD counts 3 0) wires) (take (getD counts 2 0) uses)) w [])) (listedWires (take (getD counts 4 0) faces) (getD counts 3 0) ls))
+      → e ≡ endingOf (endingWires (content p) n v)
+  endings-are n v ls el is =
+      let count : length (content p .wires) ≡ getD counts 3 0 = rw (l .listed .counts-are) (wires-counted p (s .limits) (s .full)) in
+      let numbers : take (getD counts 4 0) faces ≡ map wireCount (content p .faces) = rw (l .listed .counts-are, l .listed .faces-are) (sym (map-take wireCount (getD (p .counts) 4 0) (p .faces))) in
+      is ∙ rw (fronts-are, backs-are, split-is, numbers, el, ← count)
 
   -- so are the wires that it writes
-  pub pairs-are : {fronts backs : List ℕ} → Columns p fronts backs → (v : ℕ) (e : Ending)
-      → eachWire (removedWire (take (getD (p .counts) 1 0) fronts) (take (getD (p .counts) 1 0) backs) v e (getD (p .counts) 1 0)) 0 (split (content p .wires) (content p .uses)) ≡ pairWires (content p) v e
-  pairs-are {fronts} {backs} h v e =
-      let fs = map frontNumber (content p .edges) in
-      let bs = map backNumber (content p .edges) in
-      let count : length (content p .edges) ≡ getD (p .counts) 1 0 = edges-counted p (s .limits) (s .full) in
-      ap (λ (fs : List ℕ). eachWire (removedWire fs (take (getD (p .counts) 1 0) backs) v e (getD (p .counts) 1 0)) 0 (wiresIn (content p))) (fronts-are h)
-      ∙ ap (λ (bs : List ℕ). eachWire (removedWire fs bs v e (getD (p .counts) 1 0)) 0 (wiresIn (content p))) (backs-are h)
-      ∙ ap (λ (m : ℕ). eachWire (removedWire fs bs v e m) 0 (wiresIn (content p))) (sym count)
+  pub pairs-are : (v : ℕ) (e : Ending)
+      → eachWire (removedWire (take (getD counts 1 0) fronts) (take (getD counts 1 0) backs) v e (getD counts 1 0)) 0 (split (take (getD counts 3 0) wires) (take (getD counts 2 0) uses)) ≡ pairWires (content p) v e
+  pairs-are v e = rw (fronts-are, backs-are, split-is, ← edges-are)
+
+  -- and the corners
+  corner-is : (v w : ℕ) → cornerLent counts fronts backs uses wires v w ≡ cornerIn (content p) v w
+  corner-is v w = rw (fronts-are, backs-are, split-is)
+
+  pub pair-matched : (n v : ℕ) (e : Ending) (r : Pairing) → e ≡ endingOf (endingWires (content p) n v)
+      → unless (ltb (e .number) 2 || matched (content p) v (e .first) (e .last)) Unmatched ≡ nearFaults (content p) n v
+      → r ≡ pairing (unless (fit e (cornerLent counts fronts backs uses wires v (e .first)) (cornerLent counts fronts backs uses wires v (e .last))) Unmatched) e (cornerLent counts fronts backs uses wires v (e .last))
+      → r ≡ pairing (nearFaults (content p) n v) (endingOf (endingWires (content p) n v)) (cornerIn (content p) v (lastWire (endingWires (content p) n v)))
+  pair-matched n v e r is near j =
+      let last = cornerLent counts fronts backs uses wires v (e .last) in
+      let read : r ≡ pairing (unless (ltb (e .number) 2 || matched (content p) v (e .first) (e .last)) Unmatched) e (cornerIn (content p) v (e .last)) =
+      j ∙ ap (λ (k : Corner). pairing (unless (fit e k last) Unmatched) e last) (corner-is v (e .first))
+      ∙ ap (λ (k : Corner). pairing (unless (fit e (cornerIn (content p) v (e .first)) k) Unmatched) e k) (corner-is v (e .last)) in
+      read ∙ ap (λ (es : List EditError). pairing es e (cornerIn (content p) v (e .last))) near
+      ∙ ap (λ (g : Ending). pairing (nearFaults (content p) n v) g (cornerIn (content p) v (g .last))) is
+
+  -- the first and the last wire with a use that ends at the point are wires
+  pub endings-inside : (n v : ℕ) {e : Ending} → e ≡ endingOf (endingWires (content p) n v) → 0 < e .number
+      → (e .first < getD counts 3 0) × (e .last < getD counts 3 0)
+  endings-inside n v is some =
+      let c = content p in
+      let xss = split (c .wires) (c .uses) in
+      let long : length xss ≡ getD counts 3 0 = rw (l .listed .counts-are) (length-split (c .wires) (c .uses) ∙ wires-counted p (s .limits) (s .full)) in
+      let both = ending-inside (map frontNumber (c .edges)) (map backNumber (c .edges)) v xss (wiresOf c n) is some in
+      (omega (arith, long, both .0), omega (arith, long, both .1))
+
+  -- the edges of the pair, joined
+  pub pair-removed : (n v : ℕ) (e : Ending) (k : Corner)
+      → Found e k ≡ pairing (nearFaults (content p) n v) (endingOf (endingWires (content p) n v)) (cornerIn (content p) v (lastWire (endingWires (content p) n v)))
+      → (a b : Edge) → a ≡ edgeOf (content p) (k .ending) → b ≡ edgeOf (content p) (k .next) → (r : Removal)
+      → r ≡ removal (endFaults a (k .ending) b (k .next) (getD counts 1 0)) (joinedEnds a (k .ending) b (k .next)) e
+      → r ≡ removal (removeFaults (content p) n v) (pairEdge (content p) v (endingOf (endingWires (content p) n v))) (endingOf (endingWires (content p) n v))
+  pair-removed n v e k h a b ea eb r is =
+      let c = content p in
+      let g = endingOf (endingWires c n v) in
+      let parts = pairing-found (nearFaults c n v) g (cornerIn c v (g .last)) h in
+      let read : r ≡ removal (joinFaults c (k .ending) (k .next)) (joinedEdge c (k .ending) (k .next)) e =
+      is ∙ rw (joins-are c (k .ending) (k .next) (getD counts 1 0) ea eb edges-are, joined-is c (k .ending) (k .next) (getD counts 1 0) ea eb edges-are) in
+      read ∙ ap (λ (x : Ending). removal (joinFaults c (k .ending) (k .next)) (joinedEdge c (k .ending) (k .next)) x) (parts .1)
+      ∙ ap (λ (x : Corner). removal (joinFaults c (x .ending) (x .next)) (joinedEdge c (x .ending) (x .next)) g) (parts .2)
+      ∙ ap (λ (es : List EditError). removal (es ++ joinFaults c (endUse c v (g .last)) (nextUse c v (g .last))) (pairEdge c v g) g) (sym (parts .0))
+
+module _ (p : Pattern) (s : Fine p) where
+  -- an edge as the code reads it
+  pub edge-is : (u i : ℕ) → i ≡ edgeNumber u → edgeNumber u < getD (p .counts) 1 0 → getD (p .edges) i noEdge ≡ edgeOf (content p) u
+  edge-is u i e h = rw e (edge-read (p .edges) (getD (p .counts) 1 0) (edgeNumber u) (omega (arith, s .limits .edges, s .full .edges)) h)
+
+  pub pairs-long : (v : ℕ) (e : Ending) → length (map length (pairWires (content p) v e)) ≡ getD (p .counts) 3 0
+  pairs-long v e =
+      length-map (pairWires (content p) v e) length
+      ∙ length-each (removedWire (map frontNumber (content p .edges)) (map backNumber (content p .edges)) v e (length (content p .edges))) 0 (wiresIn (content p))
+      ∙ length-split (content p .wires) (content p .uses) ∙ wires-counted p (s .limits) (s .full)
 
   -- the storage
   pub stored-pair : (v : ℕ) (e : Ending) (d : Edge) {used : ℕ} {out lens : List ℕ} (q : Pattern) (xss : List (List ℕ)) → xss ≡ pairWires (content p) v e → q ≡ appended p d
@@ -167,70 +242,13 @@ module _ (p : Pattern) (s : Fine p) where
       let el : lens ≡ sets (p .wires) 0 (map length ws) = rw ex at fl in
       let eu : used ≡ length (flat ws) = rw ex at fu in
       let counts = p .counts in
-      let long : length (map length ws) ≡ getD counts 3 0 =
-      length-map ws length ∙ length-each (removedWire (map frontNumber (content p .edges)) (map backNumber (content p .edges)) v e (length (content p .edges))) 0 (wiresIn (content p))
-      ∙ length-split (content p .wires) (content p .uses) ∙ wires-counted p (s .limits) (s .full) in
       let same : set (set counts 1 (getD counts 1 0 + 1)) 2 used ≡ set (set (set counts 1 (getD counts 1 0 + 1)) 2 (length (flat ws))) 3 (length (map length ws)) =
-      rw (long, ← eu) (third counts (getD counts 1 0 + 1) used (s .seven)) in
+      rw (pairs-long v e, ← eu) (third counts (getD counts 1 0 + 1) used (s .seven)) in
       rw (eq, eo, el, same) (sym (stored-edited p s (d ∷ []) (flat ws) (map length ws)))
     where
       third : (ns : List ℕ) (a b : ℕ) → length ns ≡ 7 → set (set ns 1 a) 2 b ≡ set (set (set ns 1 a) 2 b) 3 (getD ns 3 0)
       third ns a b l =
           ap (λ (ms : List ℕ). set (set ms 1 a) 2 b) (sym (seven-are ns l)) ∙ ap (λ (ms : List ℕ). set (set (set ms 1 a) 2 b) 3 (getD ns 3 0)) (seven-are ns l)
-
--- ---- the corners of the definition
-module _ (p : Pattern) (s : Fine p) {fronts backs : List ℕ} (h : Columns p fronts backs) (v : ℕ) where
-  abbrev c : Content
-  c = content p
-
-  abbrev count : ℕ
-  count = getD (p .counts) 1 0
-
-  abbrev Cornered : Corner → ℕ → Type 0
-  Cornered k w = k ≡ cornerOf (take count fronts) (take count backs) v (getD (split (c .wires) (c .uses)) w [])
-
-  abbrev cornerIn : ℕ → Corner
-  cornerIn w = record { ending = endUse c v w; next = nextUse c v w }
-
-  corner-is : {k : Corner} (w : ℕ) → Cornered k w → k ≡ cornerIn w
-  corner-is w e = e ∙ rw (fronts-are p s h, backs-are p s h)
-
-  module _ (e : Ending) {a b : Corner} (ka : Cornered a (e .first)) (kb : Cornered b (e .last)) {t : Bool} (et : t ≡ fit e a b) where
-    tested : t ≡ (ltb (e .number) 2 || matched c v (e .first) (e .last))
-    tested = rw (corner-is (e .first) ka, corner-is (e .last) kb) at et
-
-    pub pair-unmatched : t ≡ false → Joint·Not Unmatched ≡ joint (pairFaults c v e) (pairEdge c v e)
-    pair-unmatched f = rw (← tested, f)
-
-    pub pair-joined : t ≡ true → {i j : ℕ} → i ≡ edgeNumber (b .ending) → j ≡ edgeNumber (b .next) → edgeNumber (b .ending) < count → edgeNumber (b .next) < count → {r : Joint}
-        → r ≡ joint (endFaults (getD (p .edges) i noEdge) (b .ending) (getD (p .edges) j noEdge) (b .next) count) (joinedEnds (getD (p .edges) i noEdge) (b .ending) (getD (p .edges) j noEdge) (b .next))
-        → r ≡ joint (pairFaults c v e) (pairEdge c v e)
-    pair-joined f {i} {j} ei ej li lj {r} is =
-        let u = b .ending in
-        let w = b .next in
-        let fits : count ≤ length (p .edges) = omega (arith, s .limits .edges, s .full .edges) in
-        let ea : getD (p .edges) i noEdge ≡ edgeOf c u = rw ei (edge-read (p .edges) count (edgeNumber u) fits li) in
-        let eb : getD (p .edges) j noEdge ≡ edgeOf c w = rw ej (edge-read (p .edges) count (edgeNumber w) fits lj) in
-        let counted = edges-counted p (s .limits) (s .full) in
-        let faults = joins-are c u w count ea eb counted in
-        let edge = joined-is c u w count ea eb counted in
-        let last = corner-is (e .last) kb in
-        let eu : u ≡ endUse c v (e .last) = ap (λ (k : Corner). k .ending) last in
-        let ew : w ≡ nextUse c v (e .last) = ap (λ (k : Corner). k .next) last in
-        let test : (ltb (e .number) 2 || matched c v (e .first) (e .last)) ≡ true = sym tested ∙ f in
-        let found : r ≡ joint (joinFaults c u w) (joinedEdge c u w) = is ∙ rw (faults, edge) in
-        found ∙ ap (λ (x : ℕ). joint (joinFaults c x w) (joinedEdge c x w)) eu ∙ ap (λ (x : ℕ). joint (joinFaults c (endUse c v (e .last)) x) (joinedEdge c (endUse c v (e .last)) x)) ew
-        ∙ ap (λ (x : Bool). joint (unless x Unmatched ++ joinFaults c (endUse c v (e .last)) (nextUse c v (e .last))) (pairEdge c v e)) (sym test)
-
--- the first and the last wire with a use that ends at the point are wires
-pub endings-inside : (p : Pattern) → Fine p → (n v : ℕ) {e : Ending} → e ≡ endingOf (endingWires (content p) n v) → 0 < e .number
-    → (e .first < getD (p .counts) 3 0) × (e .last < getD (p .counts) 3 0)
-endings-inside p s n v is some =
-    let c = content p in
-    let xss = split (c .wires) (c .uses) in
-    let long : length xss ≡ getD (p .counts) 3 0 = length-split (c .wires) (c .uses) ∙ wires-counted p (s .limits) (s .full) in
-    let both = ending-inside (map frontNumber (c .edges)) (map backNumber (c .edges)) v xss (wiresOf c n) is some in
-    (omega (arith, long, both .0), omega (arith, long, both .1))
 
 -- where nothing is refused, there is room
 pub removal-room : (c : Content) (n v : ℕ) → removeFaults c n v ≡ [] → length (c .edges) < 1024

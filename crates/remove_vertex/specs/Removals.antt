@@ -1,42 +1,64 @@
 -- The removal of a point, from the wires with a use that ends there.
-use Prim.Native.Nat.{ℕ}
+use Prim.Native.Nat.{_<_, ℕ}
 use mathlib.Core.List.{List, [], map, _∷_, _++_}
-use lib.ListN.{length}
+use lib.ListN.{getD, length, take}
 use Rattle.endings.specs.declared.Ending.{Ending}
-use mathlib.Core.Bool.{_||_}
+use mathlib.Core.Bool.{_&&_, _||_, not}
 use mathlib.Core.Path.{_≡_}
-use lib.Dec.{ltb}
-use Rattle.lists.specs.Lists.{flat, unless}
+use lib.Dec.{leb, ltb}
+use Rattle.lists.specs.Lists.{flat, split, unless}
 use Rattle.edge.specs.Edges.{backNumber, frontNumber}
+use Rattle.edge.specs.Uses.{edgeNumber}
 use Rattle.edge.specs.declared.Edge.{Edge}
 use Rattle.pattern.specs.Contents.{Content, content}
 use Rattle.pattern.specs.declared.Pattern.{Pattern}
 use Rattle.edit_answers.specs.declared.EditError.{EditError}
-use Rattle.edit_answers.specs.declared.EditError.the-variants.{Unmatched}
+use Rattle.edit_answers.specs.declared.EditError.the-variants.{NotOneOrTwoWires, SharedFace, Unmatched, Unnamed}
 use Rattle.shell_edits.specs.Answers.{storedIn}
-use Rattle.shell_edits.specs.Edits.{eachWire, edited, endUse, joinFaults, joinedEdge, matched, nextUse, wiresIn}
-use Rattle.corners.specs.Corners.{removedWire}
+use Rattle.shell_edits.specs.Edits.{eachWire, edited, endUse, endingWires, firstWire, joinedEdge, lastWire, matched, nextUse, sharesFace, wiresIn}
+use Rattle.corners.specs.Corners.{cornerOf, removedWire}
+use Rattle.corners.specs.declared.Corner.{Corner}
+use Rattle.remove_vertex.specs.declared.Pairing.{Pairing}
+use Rattle.remove_vertex.specs.declared.Pairing.the-variants.{Found, Not}
 use Rattle.remove_vertex.specs.declared.Removal.{Removal}
-use Rattle.remove_vertex.specs.declared.Removal.the-variants.{Joins, Not}
+use Rattle.remove_vertex.specs.declared.Removal.the-variants.{Joins, Not as Rmv·Not}
 
--- the ends of the edges in storage
-abbrev pub Columns : Pattern → List ℕ → List ℕ → Type 0
-Columns p fronts backs = (fronts ≡ map frontNumber (p .edges)) × (backs ≡ map backNumber (p .edges))
+-- the refusals before the edges are joined: 3, 27, 23, 24
+abbrev pub nearFaults : Content → ℕ → ℕ → List EditError
+nearFaults c n p =
+    let ws = endingWires c n p in
+    unless (ltb n (length (c .shells)) && ltb p (length (c .points))) Unnamed
+    ++ unless (not (sharesFace c n)) SharedFace
+    ++ unless (ltb 0 (length ws) && leb (length ws) 2) NotOneOrTwoWires
+    ++ unless (ltb (length ws) 2 || matched c p (firstWire ws) (lastWire ws)) Unmatched
+
+-- the use of wire w that ends at v, and the next: by the definition, and in lent tables
+abbrev pub cornerIn : Content → ℕ → ℕ → Corner
+cornerIn c v w = record { ending = endUse c v w; next = nextUse c v w }
+
+abbrev pub cornerLent : List ℕ → List ℕ → List ℕ → List ℕ → List ℕ → ℕ → ℕ → Corner
+cornerLent counts fronts backs uses wires v w =
+    let m = getD counts 1 0 in
+    cornerOf (take m fronts) (take m backs) v (getD (split (take (getD counts 3 0) wires) (take (getD counts 2 0) uses)) w [])
+
+-- the first refusal, or the wires and the pair
+abbrev pub pairing : List EditError → Ending → Corner → Pairing
+pairing [] e k = Found e k
+pairing (x ∷ xs) e k = Not x
+
+-- a pair is of the first m edges
+abbrev pub OfEdges : ℕ → Pairing → Type 0
+OfEdges m (Found e k) = (edgeNumber (k .ending) < m) × (edgeNumber (k .next) < m)
+OfEdges m (Not x) = m ≡ m
 
 -- the new edge: the last wire's pair, joined
 abbrev pub pairEdge : Content → ℕ → Ending → Edge
 pairEdge c v e = joinedEdge c (endUse c v (e .last)) (nextUse c v (e .last))
 
--- 24, 25, 26, 17
-abbrev pub pairFaults : Content → ℕ → Ending → List EditError
-pairFaults c v e =
-    unless (ltb (e .number) 2 || matched c v (e .first) (e .last)) Unmatched
-    ++ joinFaults c (endUse c v (e .last)) (nextUse c v (e .last))
-
 -- the first refusal, or the edge and the wires
 abbrev pub removal : List EditError → Edge → Ending → Removal
 removal [] d e = Joins d e
-removal (x ∷ xs) d e = Not x
+removal (x ∷ xs) d e = Rmv·Not x
 
 -- all wires after the removal
 abbrev pub pairWires : Content → ℕ → Ending → List (List ℕ)

@@ -3,17 +3,24 @@ ghost use mathlib.Core.Path.{_≡_};
 ghost use mathlib.Core.List.{[]};
 ghost use Prim.Native.Nat.{_<_};
 ghost use lib.ListN.{getD};
-ghost use Rattle.concat.specs.Joins.{joint};
+ghost use Rattle.concat.specs.Joins.{endFaults, joinedEnds};
+ghost use Rattle.corners.specs.Corners.{fit};
 ghost use Rattle.pattern.specs.Checks.{patternFaults};
 ghost use Rattle.pattern.specs.Contents.{content};
+ghost use Rattle.pattern.specs.declared.Pattern.{Pattern};
+ghost use Rattle.edit_answers.specs.declared.EditError.the-variants.{Unmatched};
+ghost use Rattle.lists.specs.Lists.{unless};
 ghost use Rattle.shell_edits.specs.Answers.{afterRemove, removeAnswer};
-ghost use Rattle.shell_edits.specs.Edits.{endingWires, removeFaults};
+ghost use Rattle.shell_edits.specs.Edits.{endingWires, lastWire, removeFaults};
+ghost use Rattle.shell_wires.specs.Lent.{Lent};
 ghost use Rattle.endings.specs.Endings.{endingOf};
-ghost use Rattle.remove_vertex.specs.Removals.{Columns, pairEdge, pairFaults, pairStored, removal};
+ghost use Rattle.endings.specs.Tables.{Tables};
+ghost use Rattle.remove_vertex.specs.Removals.{OfEdges, cornerIn, cornerLent, nearFaults, pairEdge, pairStored, pairing, removal};
 use concat::JoinResult;
 use concat::Joint;
 use concat::append_edge;
 use concat::judge_join;
+use corners::Corner;
 use corners::corners_fit;
 use corners::corners_in;
 use corners::put_tables;
@@ -29,10 +36,16 @@ use errors::Check;
 use face::wire_counts;
 use pattern::Pattern;
 use pattern::check;
-use shell_wires::shell_wires;
+use shell_wires::mark_wires;
 use vertex::VertexID;
 use words::index;
 use words::sum_of;
+
+// The wires that take a new edge, and the pair of uses that it joins; or why not.
+pub enum Pairing {
+    Found(Ending, Corner),
+    Not(EditError),
+}
 
 // A new edge, and the wires that take it; or why not.
 pub enum Removal {
@@ -40,65 +53,135 @@ pub enum Removal {
     Not(EditError),
 }
 
-// The wires of shell n with a use that ends at v, counted per listing.
-fn ending_at<'b>(p: Pattern, n: usize, v: VertexID, fronts: &'b [u16], backs: &'b [u16]) -> Ending
-    requires { ⌜ patternFaults p ≡ [] ⌝ }
-    requires { ⌜ (n < getD (p .counts) 5 0) × Columns p (now fronts) (now backs) ⌝ }
-    ensures { λ r. ⌜ r ≡ endingOf (endingWires (content p) n (v .0)) ⌝ }
+// The wires of shell n with a use that ends at v, counted per listing; from columns of a pattern
+// without fault.
+fn ending_at<'a>(
+    counts: [usize; 7],
+    fronts: &'a [u16],
+    backs: &'a [u16],
+    uses: &'a [u16],
+    wires: &'a [u16],
+    faces: &'a [u16],
+    shells: &'a [u16],
+    listings: &'a [u16],
+    n: usize,
+    v: VertexID,
+) -> Ending
+    requires { ⌜ ((p : Pattern) × Lent p counts (now fronts) (now backs) (now uses) (now wires) (now faces) (now shells) (now listings)) ⌝ }
+    requires { ⌜ n < getD counts 5 0 ⌝ }
+    ensures { λ r. ⌜ ((p : Pattern) → Lent p counts (now (fronts .entry)) (now (backs .entry)) (now (uses .entry)) (now (wires .entry)) (now (faces .entry)) (now (shells .entry)) (now (listings .entry)) → r ≡ endingOf (endingWires (content p) n (v .0))) ⌝ }
 {
-    let ecount = p.counts[1];
-    let ucount = p.counts[2];
-    let wcount = p.counts[3];
-    let fcount = p.counts[4];
-    let faces = p.faces;
-    let counts = wire_counts(faces);
-    let start = sum_of(&p.shells, n);
-    let end = start + index(p.shells[n]);
+    let start = sum_of(shells, n);
+    let end = start + index(shells[n]);
     ending_in(
-        &p.uses,
-        ucount,
-        &p.wires,
-        wcount,
+        uses,
+        counts[2],
+        wires,
+        counts[3],
         fronts,
         backs,
-        ecount,
+        counts[1],
         v,
-        &counts,
-        fcount,
-        &p.listings,
+        faces,
+        counts[4],
+        listings,
         start,
         end,
     )
 }
 
-// The last wire's pair joined, where these wires end at v: 24, 25, 26, 17.
-fn judge_pair<'b>(p: Pattern, v: VertexID, e: Ending, fronts: &'b [u16], backs: &'b [u16]) -> Joint
-    requires { ⌜ patternFaults p ≡ [] ⌝ }
-    requires { ⌜ (e .first < getD (p .counts) 3 0) × (e .last < getD (p .counts) 3 0) × Columns p (now fronts) (now backs) ⌝ }
-    ensures { λ r. ⌜ r ≡ joint (pairFaults (content p) (v .0) e) (pairEdge (content p) (v .0) e) ⌝ }
+// The last wire's pair, where these wires end at v: 24.
+fn match_pair<'a>(
+    counts: [usize; 7],
+    fronts: &'a [u16],
+    backs: &'a [u16],
+    uses: &'a [u16],
+    wires: &'a [u16],
+    v: VertexID,
+    e: Ending,
+) -> Pairing
+    requires { ⌜ Tables (now uses) (getD counts 2 0) (now wires) (getD counts 3 0) (now fronts) (now backs) (getD counts 1 0) ⌝ }
+    requires { ⌜ (e .first < getD counts 3 0) × (e .last < getD counts 3 0) ⌝ }
+    ensures { λ r. ⌜ r ≡ pairing (unless (fit e (cornerLent counts (now (fronts .entry)) (now (backs .entry)) (now (uses .entry)) (now (wires .entry)) (v .0) (e .first)) (cornerLent counts (now (fronts .entry)) (now (backs .entry)) (now (uses .entry)) (now (wires .entry)) (v .0) (e .last))) Unmatched) e (cornerLent counts (now (fronts .entry)) (now (backs .entry)) (now (uses .entry)) (now (wires .entry)) (v .0) (e .last)) ⌝ }
+    ensures { λ r. ⌜ OfEdges (getD counts 1 0) r ⌝ }
 {
-    let ecount = p.counts[1];
-    let ucount = p.counts[2];
-    let wcount = p.counts[3];
     let k = corners_in(
-        &p.uses,
-        ucount,
-        &p.wires,
-        wcount,
+        uses,
+        counts[2],
+        wires,
+        counts[3],
         fronts,
         backs,
-        ecount,
+        counts[1],
         v,
         e,
     );
     let first = k.first;
     let last = k.last;
     if !corners_fit(e, first, last) {
-        return Joint::Not(EditError::Unmatched);
+        return Pairing::Not(EditError::Unmatched);
     }
-    let a = p.edges[index(last.ending % 32768)];
-    let b = p.edges[index(last.next % 32768)];
-    judge_join(a, last.ending, b, last.next, ecount)
+    Pairing::Found(e, last)
+}
+
+// The wires of shell n that end at v, and the last one's pair, from columns of a pattern without
+// fault: 3, 27, 23, 24.
+pub fn find_pair<'a>(
+    counts: [usize; 7],
+    fronts: &'a [u16],
+    backs: &'a [u16],
+    uses: &'a [u16],
+    wires: &'a [u16],
+    faces: &'a [u16],
+    shells: &'a [u16],
+    listings: &'a [u16],
+    n: usize,
+    v: VertexID,
+) -> Pairing
+    requires { ⌜ ((p : Pattern) × Lent p counts (now fronts) (now backs) (now uses) (now wires) (now faces) (now shells) (now listings)) ⌝ }
+    ensures { λ r. ⌜ ((p : Pattern) → Lent p counts (now (fronts .entry)) (now (backs .entry)) (now (uses .entry)) (now (wires .entry)) (now (faces .entry)) (now (shells .entry)) (now (listings .entry)) → r ≡ pairing (nearFaults (content p) n (v .0)) (endingOf (endingWires (content p) n (v .0))) (cornerIn (content p) (v .0) (lastWire (endingWires (content p) n (v .0))))) ⌝ }
+    ensures { λ r. ⌜ OfEdges (getD counts 1 0) r ⌝ }
+{
+    if n >= counts[5] {
+        return Pairing::Not(EditError::Unnamed);
+    }
+    if index(v.0) >= counts[0] {
+        return Pairing::Not(EditError::Unnamed);
+    }
+    let marks = mark_wires(counts, faces, shells, listings, n);
+    if marks.shared {
+        return Pairing::Not(EditError::SharedFace);
+    }
+    let e = ending_at(
+        counts,
+        fronts,
+        backs,
+        uses,
+        wires,
+        faces,
+        shells,
+        listings,
+        n,
+        v,
+    );
+    if e.number == 0 {
+        return Pairing::Not(EditError::NotOneOrTwoWires);
+    }
+    if e.number > 2 {
+        return Pairing::Not(EditError::NotOneOrTwoWires);
+    }
+    match_pair(counts, fronts, backs, uses, wires, v, e)
+}
+
+// The pair joined, where a and b are its edges and there are so many: 25, 26, 17.
+pub fn join_pair(e: Ending, k: Corner, a: Edge, b: Edge, edges: usize) -> Removal
+    ensures { λ r. ⌜ r ≡ removal (endFaults a (k .ending) b (k .next) edges) (joinedEnds a (k .ending) b (k .next)) e ⌝ }
+{
+    let made = judge_join(a, k.ending, b, k.next, edges);
+    match made {
+        Joint::Not(x) => Removal::Not(x),
+        Joint::Whole(d) => Removal::Joins(d, e),
+    }
 }
 
 // The new edge and the wires that take it: 3, 27, 23, 24, 25, 26, 17.
@@ -106,29 +189,31 @@ fn judge_removal(p: Pattern, n: usize, v: VertexID) -> Removal
     requires { ⌜ patternFaults p ≡ [] ⌝ }
     ensures { λ r. ⌜ r ≡ removal (removeFaults (content p) n (v .0)) (pairEdge (content p) (v .0) (endingOf (endingWires (content p) n (v .0)))) (endingOf (endingWires (content p) n (v .0))) ⌝ }
 {
-    let points = p.counts[0];
-    let shells = p.counts[5];
-    if n >= shells {
-        return Removal::Not(EditError::Unnamed);
-    }
-    if index(v.0) >= points {
-        return Removal::Not(EditError::Unnamed);
-    }
-    let k = shell_wires(p, n);
-    if k.shared {
-        return Removal::Not(EditError::SharedFace);
-    }
-    let e = ending_at(p, n, v, &k.fronts, &k.backs);
-    if e.number == 0 {
-        return Removal::Not(EditError::NotOneOrTwoWires);
-    }
-    if e.number > 2 {
-        return Removal::Not(EditError::NotOneOrTwoWires);
-    }
-    let made = judge_pair(p, v, e, &k.fronts, &k.backs);
-    match made {
-        Joint::Not(x) => Removal::Not(x),
-        Joint::Whole(d) => Removal::Joins(d, e),
+    let counts = p.counts;
+    let edges = p.edges;
+    let fronts = fronts_of(edges);
+    let backs = backs_of(edges);
+    let faces = p.faces;
+    let numbers = wire_counts(faces);
+    let found = find_pair(
+        counts,
+        &fronts,
+        &backs,
+        &p.uses,
+        &p.wires,
+        &numbers,
+        &p.shells,
+        &p.listings,
+        n,
+        v,
+    );
+    match found {
+        Pairing::Not(x) => Removal::Not(x),
+        Pairing::Found(e, k) => {
+            let a = p.edges[index(k.ending % 32768)];
+            let b = p.edges[index(k.next % 32768)];
+            join_pair(e, k, a, b, counts[1])
+        }
     }
 }
 

@@ -17,10 +17,13 @@ use Rattle.pattern.specs.Contents.{content}
 use Rattle.pattern.specs.declared.Pattern.{Pattern}
 use Rattle.shell.specs.Shells.{faceNumber, listingsOf}
 use Rattle.shell_edits.specs.Edits.{otherListings, sharesFace, wiresOf}
-use Rattle.shell_wires.proofs.Facts.{Fine, faces-sum, listings-name, records-fine, shells-sum}
+use Rattle.shell_wires.proofs.Facts.{Fine, backs-long, faces-sum, fine, fronts-long, listings-name, records-fine, shells-sum, uses-named, wires-sum}
 use Rattle.shell_wires.proofs.Laws.{flagsOf, listed-flags, lists-shared, names-part, others-are}
 use Rattle.shell_wires.specs.Flags.{NameFaces, listsFlagged, wireFlags}
+use Rattle.shell_wires.specs.Lent.{Lent, Listed, marksOf}
 use Rattle.shell_wires.specs.ShellWires.{shellWires}
+use Rattle.shell_wires.specs.declared.Marks.{Marks}
+use Rattle.wire.specs.Wires.{Named}
 
 names-append : (xs ys : List ℕ) → NameFaces xs → NameFaces ys → NameFaces (xs ++ ys)
 names-append [] ys h g k l = g k l
@@ -100,14 +103,88 @@ module _ (p : Pattern) (s : Fine p) where
         (listed-flags (map wireCount (p .faces)) faces (getD (p .counts) 3 0) (listingsOf (content p) n)
         (omega (arith, s .limits .faces, s .full .faces, length-map (p .faces) wireCount)) (s .limits .faces) (faces-sum p s))
 
-    pub wires-made : (flags : List Bool) (counts : List ℕ) (shared : Bool) (wires : List Bool) (fronts backs : List ℕ)
+    pub wires-made : (flags : List Bool) (shared : Bool) (wires : List Bool)
         → flags ≡ flagsOf 256 (map faceNumber (take (f + z - f) (drop f (p .listings))))
         → shared ≡ listsFlagged flags (take f (p .listings) ++ drop (f + z) (take listings (p .listings)))
-        → counts ≡ map wireCount (p .faces) → wires ≡ padded 1024 false (wireFlags flags counts faces)
-        → fronts ≡ map frontNumber (p .edges) → backs ≡ map backNumber (p .edges)
-        → record { shared = shared; wires = wires; fronts = fronts; backs = backs } ≡ shellWires p n
-    wires-made flags counts shared wires fronts backs a b c d e g =
+        → wires ≡ padded 1024 false (wireFlags flags (map wireCount (p .faces)) faces)
+        → record { shared = shared; wires = wires } ≡ marksOf p n
+    wires-made flags shared wires a b d =
         let own : flags ≡ flagsOf 256 (map faceNumber (listingsOf (content p) n)) = a ∙ rw own-are in
         let is : shared ≡ sharesFace (content p) n = b ∙ rw own shared-is in
-        let all : wires ≡ padded 1024 false (map (λ (w : ℕ). has w (wiresOf (content p) n)) (numbers (length (content p .wires)))) = d ∙ rw (own, c, wires-are) in
-        rw (is, all, e, g)
+        let all : wires ≡ padded 1024 false (map (λ (w : ℕ). has w (wiresOf (content p) n)) (numbers (length (content p .wires)))) = d ∙ rw (own, wires-are) in
+        rw (is, all)
+
+-- the same of columns
+module _ (p : Pattern) (counts faces shells listings : List ℕ) (l : Listed p counts faces shells listings) where
+  pub listed-fine : Fine p
+  listed-fine = fine p (l .ok) (l .seven) (l .full)
+
+  pub faces-room : (getD counts 4 0 ≤ 256) × (getD counts 4 0 ≤ length faces) × (sum (take (getD counts 4 0) faces) ≡ getD counts 3 0) × (getD counts 3 0 ≤ 1024)
+  faces-room =
+      let s = listed-fine in
+      rw (l .counts-are, l .faces-are)
+      (s .limits .faces, omega (arith, s .limits .faces, s .full .faces, length-map (p .faces) wireCount), faces-sum p s, s .limits .wires)
+
+  pub shells-room : (getD counts 5 0 ≤ 16) × (getD counts 5 0 ≤ length shells)
+  shells-room = let s = listed-fine in rw (l .counts-are, l .shells-are) (s .limits .shells, omega (arith, s .limits .shells, s .full .shells))
+
+  pub listings-room : (getD counts 6 0 ≤ 512) × (getD counts 6 0 ≤ length listings)
+  listings-room = let s = listed-fine in rw (l .counts-are, l .listings-are) (s .limits .listings, omega (arith, s .limits .listings, s .full .listings))
+
+  pub listings-named : NameFaces (take (getD counts 6 0) listings)
+  listings-named = rw (l .counts-are, l .listings-are) (stored-names p listed-fine)
+
+  module _ (n : ℕ) (here : n < getD counts 5 0) (f z : ℕ) (begin : f ≡ sum (take n shells)) (size : z ≡ getD shells n 0) where
+    here-stored : n < getD (p .counts) 5 0
+    here-stored = rw (l .counts-are) at here
+
+    begin-stored : f ≡ sum (take n (p .shells))
+    begin-stored = begin ∙ rw (l .shells-are)
+
+    size-stored : z ≡ getD (p .shells) n 0
+    size-stored = size ∙ rw (l .shells-are)
+
+    pub part-listed : f + z ≤ getD counts 6 0
+    part-listed = rw (l .counts-are) (part-inside p listed-fine n here-stored f z begin-stored size-stored)
+
+    pub part-named : NameFaces (take (f + z - f) (drop f listings))
+    part-named = names-part listings (getD counts 6 0) f (f + z) (omega arith) part-listed (listings-room .1) listings-named
+
+    pub part-are : take (f + z - f) (drop f listings) ≡ listingsOf (content p) n
+    part-are = rw (l .listings-are) (own-are p listed-fine n here-stored f z begin-stored size-stored)
+
+    pub marks-made : (flags : List Bool) (shared : Bool) (wires : List Bool)
+        → flags ≡ flagsOf 256 (map faceNumber (take (f + z - f) (drop f listings)))
+        → shared ≡ listsFlagged flags (take f listings ++ drop (f + z) (take (getD counts 6 0) listings))
+        → wires ≡ padded 1024 false (wireFlags flags faces (getD counts 4 0))
+        → record { shared = shared; wires = wires } ≡ marksOf p n
+    marks-made flags shared wires a b d =
+        wires-made p listed-fine n here-stored f z begin-stored size-stored flags shared wires
+        (a ∙ rw (l .listings-are)) (b ∙ rw (l .listings-are, l .counts-are)) (d ∙ rw (l .faces-are, l .counts-are))
+
+-- with the ends of the edges
+pub wires-shown : (p : Pattern) (n : ℕ) (m : Marks) (fronts backs : List ℕ) → m ≡ marksOf p n → fronts ≡ map frontNumber (p .edges) → backs ≡ map backNumber (p .edges)
+    → record { shared = m .shared; wires = m .wires; fronts = fronts; backs = backs } ≡ shellWires p n
+wires-shown p n m fronts backs is f b = rw (is, f, b)
+
+-- ---- with the ends of the edges, the uses and the wires
+module _ (p : Pattern) (counts fronts backs uses wires faces shells listings : List ℕ) (l : Lent p counts fronts backs uses wires faces shells listings) where
+  pub lent-fine : Fine p
+  lent-fine = listed-fine p counts faces shells listings (l .listed)
+
+  pub uses-room : (getD counts 2 0 ≤ 4096) × (getD counts 2 0 ≤ length uses)
+  uses-room = let s = lent-fine in rw (l .listed .counts-are, l .uses-are) (s .limits .uses, omega (arith, s .limits .uses, s .full .uses))
+
+  pub wires-room : (getD counts 3 0 ≤ 1024) × (getD counts 3 0 ≤ length wires) × (sum (take (getD counts 3 0) wires) ≡ getD counts 2 0)
+  wires-room = let s = lent-fine in rw (l .listed .counts-are, l .wires-are) (s .limits .wires, omega (arith, s .limits .wires, s .full .wires), wires-sum p s)
+
+  pub edges-room : (getD counts 0 0 ≤ 2048) × (getD counts 1 0 ≤ 1024)
+  edges-room = let s = lent-fine in rw (l .listed .counts-are) (s .limits .points, s .limits .edges)
+
+  pub ends-named : Named (take (getD counts 1 0) fronts) (take (getD counts 1 0) backs) (take (getD counts 2 0) uses)
+  ends-named = rw (l .listed .counts-are, l .fronts-are, l .backs-are, l .uses-are) (uses-named p lent-fine)
+
+  pub ends-room : (getD counts 1 0 ≤ length fronts) × (getD counts 1 0 ≤ length backs)
+  ends-room =
+      let s = lent-fine in
+      rw (l .listed .counts-are, l .fronts-are, l .backs-are) (omega (arith, s .limits .edges, fronts-long p s), omega (arith, s .limits .edges, backs-long p s))

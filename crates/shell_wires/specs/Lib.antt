@@ -1,2 +1,3 @@
 pub mod ShellWires
 pub mod Flags
+pub mod Lent

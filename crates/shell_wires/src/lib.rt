@@ -10,6 +10,8 @@ ghost use Rattle.lists.specs.Lists.{has, padded, sum, tabulate};
 ghost use Rattle.pattern.specs.Checks.{patternFaults};
 ghost use Rattle.shell.specs.Shells.{faceNumber};
 ghost use Rattle.shell_wires.specs.Flags.{NameFaces, listsFlagged, wireFlags};
+ghost use Rattle.pattern.specs.declared.Pattern.{Pattern};
+ghost use Rattle.shell_wires.specs.Lent.{Listed, marksOf};
 ghost use Rattle.shell_wires.specs.ShellWires.{shellWires};
 use edge::backs_of;
 use edge::fronts_of;
@@ -25,6 +27,12 @@ pub struct ShellWires {
     pub wires: [bool; 1024],
     pub fronts: [u16; 1024],
     pub backs: [u16; 1024],
+}
+
+// The same without the ends of the edges.
+pub struct Marks {
+    pub shared: bool,
+    pub wires: [bool; 1024],
 }
 
 // A flag for each face that is listed.
@@ -108,21 +116,38 @@ fn wire_flags(flags: &[bool], counts: &[u16], n: usize) -> [bool; 1024]
     out
 }
 
+// The wires of shell n, from columns of a pattern without fault.
+pub fn mark_wires<'a>(
+    counts: [usize; 7],
+    faces: &'a [u16],
+    shells: &'a [u16],
+    listings: &'a [u16],
+    n: usize,
+) -> Marks
+    requires { ⌜ ((p : Pattern) × Listed p counts (now faces) (now shells) (now listings)) ⌝ }
+    requires { ⌜ n < getD counts 5 0 ⌝ }
+    ensures { λ r. ⌜ ((p : Pattern) → Listed p counts (now (faces .entry)) (now (shells .entry)) (now (listings .entry)) → r ≡ marksOf p n) ⌝ }
+{
+    let first = sum_of(shells, n);
+    let end = first + index(shells[n]);
+    let flags = flags_between(listings, first, end);
+    let shared = lists_outside(listings, counts[6], first, end, &flags);
+    let wires = wire_flags(&flags, faces, counts[4]);
+    Marks { shared, wires }
+}
+
 // The wires of shell n of a pattern without fault.
 pub fn shell_wires(p: Pattern, n: usize) -> ShellWires
     requires { ⌜ patternFaults p ≡ [] ⌝ }
     requires { ⌜ n < getD (p .counts) 5 0 ⌝ }
     ensures { λ r. ⌜ r ≡ shellWires p n ⌝ }
 {
-    let fcount = p.counts[4];
-    let lcount = p.counts[6];
-    let first = sum_of(&p.shells, n);
-    let end = first + index(p.shells[n]);
-    let flags = flags_between(&p.listings, first, end);
-    let shared = lists_outside(&p.listings, lcount, first, end, &flags);
     let faces = p.faces;
     let counts = wire_counts(faces);
-    let wires = wire_flags(&flags, &counts, fcount);
+    let numbers = p.counts;
+    let marks = mark_wires(numbers, &counts, &p.shells, &p.listings, n);
+    let shared = marks.shared;
+    let wires = marks.wires;
     let edges = p.edges;
     let fronts = fronts_of(edges);
     let backs = backs_of(edges);

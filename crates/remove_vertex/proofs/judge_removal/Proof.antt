@@ -1,17 +1,16 @@
+-- The columns are the pattern's own, and so are the edges of the pair.
+use Prim.Native.Nat.{_<_}
+use mathlib.Core.Path.{_∙_, _≡_, refl, sym}
 use native.Mathlib.Omega.{arith}
-use mathlib.Core.Path.{_∙_, _≡_, ap, refl, sym}
 use lib.ListN.{getD, length, length-map}
-use Rattle.pattern.proofs.Counts.{Full, points-counted, shells-counted}
-use Rattle.shell_wires.proofs.Facts.{Fine, fine}
-use Rattle.pattern.specs.Contents.{content}
-use Rattle.remove_vertex.proofs.Removals.{faults-are, is-shared, many-wires, no-point, no-shell, no-wire, positive, removal-joins, removal-not}
-use Rattle.remove_vertex.proofs.Stored.{endings-inside}
-use Rattle.endings.specs.Endings.{endingOf}
-use Rattle.remove_vertex.specs.Removals.{pairEdge}
-use Rattle.endings.specs.declared.Ending.{Ending}
-use Rattle.shell_edits.specs.Edits.{endingWires, removeFaults}
-use Rattle.shell_wires.specs.declared.ShellWires.{ShellWires}
 use borrow.Author.Needs.{needs}
+use Rattle.edge.specs.Uses.{edgeNumber}
+use Rattle.pattern.proofs.Counts.{Full}
+use Rattle.pattern.specs.Contents.{content}
+use Rattle.remove_vertex.proofs.Removals.{of-edges}
+use Rattle.remove_vertex.proofs.Stored.{edge-is, pair-refused, pair-removed}
+use Rattle.shell_wires.proofs.Facts.{Fine, fine}
+use Rattle.shell_wires.specs.Lent.{Lent}
 use Rattle.remove_vertex.proofs.judge_removal.Statement.{statement}
 use Rattle.remove_vertex.proofs.judge_removal.Tie as tie
 
@@ -34,77 +33,107 @@ seven s = search needs
 good : (s : tie.Start) → Fine (s .args .t1)
 good s = fine (s .args .t1) (s .pre) (seven s) (full s)
 
-element-copy-out-points : tie.Need-element-copy-out-points
-element-copy-out-points c = search needs
+lent : (c : tie.After-wire-counts) → Lent (c .before .before .before .before .before .before .args .t1) (c .before .before .before .before .before .before .args .t1 .counts) (c .before .before .before .fronts-of .result) (c .before .before .backs-of .result) (c .before .before .before .before .before .before .args .t1 .uses) (c .before .before .before .before .before .before .args .t1 .wires) (c .wire-counts .result) (c .before .before .before .before .before .before .args .t1 .shells) (c .before .before .before .before .before .before .args .t1 .listings)
+lent c = record {
+  listed = record {
+    ok = c .before .before .before .before .before .before .pre;
+    seven = seven (c .before .before .before .before .before .before);
+    full = full (c .before .before .before .before .before .before);
+    counts-are = refl;
+    faces-are = c .wire-counts .ensures;
+    shells-are = refl;
+    listings-are = refl;
+  };
+  fronts-are = c .before .before .before .fronts-of .ensures;
+  backs-are = c .before .before .backs-of .ensures;
+  uses-are = refl;
+  wires-are = refl;
+}
 
-element-copy-out-shells : tie.Need-element-copy-out-shells
-element-copy-out-shells c = search needs
+-- the pair is of edges of the pattern
+inside : (c : tie.After-found2) → (edgeNumber (c .found2 .given .0 .1 .0 .ending) < getD (c .before .before .before .before .before .before .before .before .before .before .before .before .before .before .before .before .before .before .before .before .before .args .t1 .counts) 1 0) × (edgeNumber (c .found2 .given .0 .1 .0 .next) < getD (c .before .before .before .before .before .before .before .before .before .before .before .before .before .before .before .before .before .before .before .before .before .args .t1 .counts) 1 0)
+inside c = of-edges (getD (c .before .before .before .before .before .before .before .before .before .before .before .before .before .before .before .before .before .before .before .before .before .args .t1 .counts) 1 0) (c .found2 .given .1) (c .before .before .find-pair .ensures .1)
 
-returns : tie.Need-returns
-returns c = no-shell (content (c .before .before .before .args .t1)) (c .before .before .before .args .n) (c .before .before .before .args .v .0) (getD (c .before .before .before .args .t1 .counts) 0 0) (getD (c .before .before .before .args .t1 .counts) 5 0) (points-counted (c .before .before .before .args .t1) (good (c .before .before .before) .limits) (full (c .before .before .before))) (shells-counted (c .before .before .before .args .t1) (good (c .before .before .before) .limits) (full (c .before .before .before))) (pairEdge (content (c .before .before .before .args .t1)) (c .before .before .before .args .v .0) (endingOf (endingWires (content (c .before .before .before .args .t1)) (c .before .before .before .args .n) (c .before .before .before .args .v .0)))) (endingOf (endingWires (content (c .before .before .before .args .t1)) (c .before .before .before .args .n) (c .before .before .before .args .v .0))) (c .if1 .taken)
+fronts-of-requires : tie.Need-fronts-of-requires
+fronts-of-requires c κs = search needs
+
+backs-of-requires : tie.Need-backs-of-requires
+backs-of-requires c κs = search needs
+
+wire-counts-requires : tie.Need-wire-counts-requires
+wire-counts-requires c κs = search needs
+
+slice-aggregate-find-pair : tie.Need-slice-aggregate-find-pair
+slice-aggregate-find-pair c = search needs
+
+slice-aggregate-find-pair-2 : tie.Need-slice-aggregate-find-pair-2
+slice-aggregate-find-pair-2 c = search needs
+
+slice-aggregate-find-pair-3 : tie.Need-slice-aggregate-find-pair-3
+slice-aggregate-find-pair-3 c = search needs
+
+find-pair-requires : tie.Need-find-pair-requires
+find-pair-requires c κs = (c .before .before .before .before .before .before .before .before .before .before .before .before .before .before .before .before .before .before .args .t1, lent (c .before .before .before .before .before .before .before .before .before .before .before .before))
+
+enum-known-found : tie.Need-enum-known-found
+enum-known-found c = search needs
+
+enum-known-found-2 : tie.Need-enum-known-found-2
+enum-known-found-2 c = search needs
 
 index-requires : tie.Need-index-requires
 index-requires c κs = search needs
 
+mul-a : tie.Need-mul-a
+mul-a c = search needs
+
+element-copy-out-a : tie.Need-element-copy-out-a
+element-copy-out-a c = omega (arith, inside (c .before .before .before) .0, good (c .before .before .before .before .before .before .before .before .before .before .before .before .before .before .before .before .before .before .before .before .before .before .before .before) .limits .edges, c .index .ensures .0)
+
+index-requires-2 : tie.Need-index-requires-2
+index-requires-2 c κs = search needs
+
+mul-b : tie.Need-mul-b
+mul-b c = search needs
+
+element-copy-out-b : tie.Need-element-copy-out-b
+element-copy-out-b c = omega (arith, inside (c .before .before .before .before .before .before) .1, good (c .before .before .before .before .before .before .before .before .before .before .before .before .before .before .before .before .before .before .before .before .before .before .before .before .before .before .before) .limits .edges, c .index2 .ensures .0)
+
+array-read-join-pair : tie.Need-array-read-join-pair
+array-read-join-pair c = search needs
+
+join-pair-requires : tie.Need-join-pair-requires
+join-pair-requires c κs = search needs
+
+returns : tie.Need-returns
+returns c = let s = c .before .before .before .before .before .before .before .before .before .before .before .before .before .before .before .before .before .before .before .before .before .before in
+    pair-refused (content (s .args .t1)) (s .args .n) (s .args .v .0) (sym (c .before .found .given .1) ∙ c .before .before .before .find-pair .ensures .0 (c .before .before .before .before .before .before .before .before .before .before .before .before .before .before .before .before .before .before .before .before .before .before .args .t1) (lent (c .before .before .before .before .before .before .before .before .before .before .before .before .before .before .before .before)))
+
 returns-2 : tie.Need-returns-2
-returns-2 c = no-point (content (c .before .before .before .before .before .args .t1)) (c .before .before .before .before .before .args .n) (c .before .before .before .before .before .args .v .0) (getD (c .before .before .before .before .before .args .t1 .counts) 0 0) (getD (c .before .before .before .before .before .args .t1 .counts) 5 0) (points-counted (c .before .before .before .before .before .args .t1) (good (c .before .before .before .before .before) .limits) (full (c .before .before .before .before .before))) (shells-counted (c .before .before .before .before .before .args .t1) (good (c .before .before .before .before .before) .limits) (full (c .before .before .before .before .before))) (pairEdge (content (c .before .before .before .before .before .args .t1)) (c .before .before .before .before .before .args .v .0) (endingOf (endingWires (content (c .before .before .before .before .before .args .t1)) (c .before .before .before .before .before .args .n) (c .before .before .before .before .before .args .v .0)))) (endingOf (endingWires (content (c .before .before .before .before .before .args .t1)) (c .before .before .before .before .before .args .n) (c .before .before .before .before .before .args .v .0))) (omega (arith, c .if2 .taken, c .before .index .ensures .0))
-
-shell-wires-requires : tie.Need-shell-wires-requires
-shell-wires-requires c κs = search needs
-
-returns-3 : tie.Need-returns-3
-returns-3 c = is-shared (content (c .before .before .before .before .before .before .before .args .t1)) (c .before .before .before .before .before .before .before .args .n) (c .before .before .before .before .before .before .before .args .v .0) (getD (c .before .before .before .before .before .before .before .args .t1 .counts) 0 0) (getD (c .before .before .before .before .before .before .before .args .t1 .counts) 5 0) (points-counted (c .before .before .before .before .before .before .before .args .t1) (good (c .before .before .before .before .before .before .before) .limits) (full (c .before .before .before .before .before .before .before))) (shells-counted (c .before .before .before .before .before .before .before .args .t1) (good (c .before .before .before .before .before .before .before) .limits) (full (c .before .before .before .before .before .before .before))) (pairEdge (content (c .before .before .before .before .before .before .before .args .t1)) (c .before .before .before .before .before .before .before .args .v .0) (endingOf (endingWires (content (c .before .before .before .before .before .before .before .args .t1)) (c .before .before .before .before .before .before .before .args .n) (c .before .before .before .before .before .before .before .args .v .0)))) (endingOf (endingWires (content (c .before .before .before .before .before .before .before .args .t1)) (c .before .before .before .before .before .before .before .args .n) (c .before .before .before .before .before .before .before .args .v .0))) (omega (arith, c .before .before .before .before .if1 .left)) (omega (arith, c .before .before .if2 .left, c .before .before .before .index .ensures .0)) (sym (ap (λ (k : ShellWires). k .shared) (c .before .shell-wires .ensures)) ∙ c .if3 .taken)
-
-ending-at-requires : tie.Need-ending-at-requires
-ending-at-requires c κs = (c .before .before .before .before .before .before .before .before .before .before .before .before .pre, (omega arith, (ap (λ (k : ShellWires). k .fronts) (c .before .before .before .before .before .before .shell-wires .ensures), ap (λ (k : ShellWires). k .backs) (c .before .before .before .before .before .before .shell-wires .ensures))))
-
-returns-4 : tie.Need-returns-4
-returns-4 c = no-wire (content (c .before .before .before .before .before .before .before .before .before .before .before .before .before .before .before .args .t1)) (c .before .before .before .before .before .before .before .before .before .before .before .before .before .before .before .args .n) (c .before .before .before .before .before .before .before .before .before .before .before .before .before .before .before .args .v .0) (getD (c .before .before .before .before .before .before .before .before .before .before .before .before .before .before .before .args .t1 .counts) 0 0) (getD (c .before .before .before .before .before .before .before .before .before .before .before .before .before .before .before .args .t1 .counts) 5 0) (points-counted (c .before .before .before .before .before .before .before .before .before .before .before .before .before .before .before .args .t1) (good (c .before .before .before .before .before .before .before .before .before .before .before .before .before .before .before) .limits) (full (c .before .before .before .before .before .before .before .before .before .before .before .before .before .before .before))) (shells-counted (c .before .before .before .before .before .before .before .before .before .before .before .before .before .before .before .args .t1) (good (c .before .before .before .before .before .before .before .before .before .before .before .before .before .before .before) .limits) (full (c .before .before .before .before .before .before .before .before .before .before .before .before .before .before .before))) (pairEdge (content (c .before .before .before .before .before .before .before .before .before .before .before .before .before .before .before .args .t1)) (c .before .before .before .before .before .before .before .before .before .before .before .before .before .before .before .args .v .0) (endingOf (endingWires (content (c .before .before .before .before .before .before .before .before .before .before .before .before .before .before .before .args .t1)) (c .before .before .before .before .before .before .before .before .before .before .before .before .before .before .before .args .n) (c .before .before .before .before .before .before .before .before .before .before .before .before .before .before .before .args .v .0)))) (endingOf (endingWires (content (c .before .before .before .before .before .before .before .before .before .before .before .before .before .before .before .args .t1)) (c .before .before .before .before .before .before .before .before .before .before .before .before .before .before .before .args .n) (c .before .before .before .before .before .before .before .before .before .before .before .before .before .before .before .args .v .0))) (omega (arith, c .before .before .before .before .before .before .before .before .before .before .before .before .if1 .left)) (omega (arith, c .before .before .before .before .before .before .before .before .before .before .if2 .left, c .before .before .before .before .before .before .before .before .before .before .before .index .ensures .0)) (sym (ap (λ (k : ShellWires). k .shared) (c .before .before .before .before .before .before .before .before .before .shell-wires .ensures)) ∙ c .before .before .before .before .before .before .before .before .if3 .left) refl (sym (ap (λ (k : Ending). k .number) (c .before .before .ending-at .ensures)) ∙ c .if4 .taken)
-
-returns-5 : tie.Need-returns-5
-returns-5 c = many-wires (content (c .before .before .before .before .before .before .before .before .before .before .before .before .before .before .before .before .before .args .t1)) (c .before .before .before .before .before .before .before .before .before .before .before .before .before .before .before .before .before .args .n) (c .before .before .before .before .before .before .before .before .before .before .before .before .before .before .before .before .before .args .v .0) (getD (c .before .before .before .before .before .before .before .before .before .before .before .before .before .before .before .before .before .args .t1 .counts) 0 0) (getD (c .before .before .before .before .before .before .before .before .before .before .before .before .before .before .before .before .before .args .t1 .counts) 5 0) (points-counted (c .before .before .before .before .before .before .before .before .before .before .before .before .before .before .before .before .before .args .t1) (good (c .before .before .before .before .before .before .before .before .before .before .before .before .before .before .before .before .before) .limits) (full (c .before .before .before .before .before .before .before .before .before .before .before .before .before .before .before .before .before))) (shells-counted (c .before .before .before .before .before .before .before .before .before .before .before .before .before .before .before .before .before .args .t1) (good (c .before .before .before .before .before .before .before .before .before .before .before .before .before .before .before .before .before) .limits) (full (c .before .before .before .before .before .before .before .before .before .before .before .before .before .before .before .before .before))) (pairEdge (content (c .before .before .before .before .before .before .before .before .before .before .before .before .before .before .before .before .before .args .t1)) (c .before .before .before .before .before .before .before .before .before .before .before .before .before .before .before .before .before .args .v .0) (endingOf (endingWires (content (c .before .before .before .before .before .before .before .before .before .before .before .before .before .before .before .before .before .args .t1)) (c .before .before .before .before .before .before .before .before .before .before .before .before .before .before .before .before .before .args .n) (c .before .before .before .before .before .before .before .before .before .before .before .before .before .before .before .before .before .args .v .0)))) (endingOf (endingWires (content (c .before .before .before .before .before .before .before .before .before .before .before .before .before .before .before .before .before .args .t1)) (c .before .before .before .before .before .before .before .before .before .before .before .before .before .before .before .before .before .args .n) (c .before .before .before .before .before .before .before .before .before .before .before .before .before .before .before .before .before .args .v .0))) (omega (arith, c .before .before .before .before .before .before .before .before .before .before .before .before .before .before .if1 .left)) (omega (arith, c .before .before .before .before .before .before .before .before .before .before .before .before .if2 .left, c .before .before .before .before .before .before .before .before .before .before .before .before .before .index .ensures .0)) (sym (ap (λ (k : ShellWires). k .shared) (c .before .before .before .before .before .before .before .before .before .before .before .shell-wires .ensures)) ∙ c .before .before .before .before .before .before .before .before .before .before .if3 .left) refl (omega (arith, ap (λ (k : Ending). k .number) (c .before .before .before .before .ending-at .ensures), c .if5 .taken))
-
-judge-pair-requires : tie.Need-judge-pair-requires
-judge-pair-requires c κs =
-    let b = endings-inside (c .before .before .before .before .before .before .before .before .before .before .before .before .before .before .before .before .before .before .before .before .before .before .args .t1) (good (c .before .before .before .before .before .before .before .before .before .before .before .before .before .before .before .before .before .before .before .before .before .before)) (c .before .before .before .before .before .before .before .before .before .before .before .before .before .before .before .before .before .before .before .before .before .before .args .n) (c .before .before .before .before .before .before .before .before .before .before .before .before .before .before .before .before .before .before .before .before .before .before .args .v .0) (c .before .before .before .before .before .before .before .before .before .ending-at .ensures) (positive _ (c .before .before .before .before .before .before .before .if4 .left)) in
-    (c .before .before .before .before .before .before .before .before .before .before .before .before .before .before .before .before .before .before .before .before .before .before .pre, (b .0, b .1, (ap (λ (k : ShellWires). k .fronts) (c .before .before .before .before .before .before .before .before .before .before .before .before .before .before .before .before .shell-wires .ensures), ap (λ (k : ShellWires). k .backs) (c .before .before .before .before .before .before .before .before .before .before .before .before .before .before .before .before .shell-wires .ensures))))
-
-enum-known-made : tie.Need-enum-known-made
-enum-known-made c = search needs
-
-enum-known-made-2 : tie.Need-enum-known-made-2
-enum-known-made-2 c = search needs
-
-returns-6 : tie.Need-returns-6
-returns-6 c =
-    let e = c .before .before .before .before .before .before .before .before .before .before .before .before .before .ending-at .ensures in
-    let same = faults-are (content (c .before .before .before .before .before .before .before .before .before .before .before .before .before .before .before .before .before .before .before .before .before .before .before .before .before .before .args .t1)) (c .before .before .before .before .before .before .before .before .before .before .before .before .before .before .before .before .before .before .before .before .before .before .before .before .before .before .args .n) (c .before .before .before .before .before .before .before .before .before .before .before .before .before .before .before .before .before .before .before .before .before .before .before .before .before .before .args .v .0) (getD (c .before .before .before .before .before .before .before .before .before .before .before .before .before .before .before .before .before .before .before .before .before .before .before .before .before .before .args .t1 .counts) 0 0) (getD (c .before .before .before .before .before .before .before .before .before .before .before .before .before .before .before .before .before .before .before .before .before .before .before .before .before .before .args .t1 .counts) 5 0) (points-counted (c .before .before .before .before .before .before .before .before .before .before .before .before .before .before .before .before .before .before .before .before .before .before .before .before .before .before .args .t1) (good (c .before .before .before .before .before .before .before .before .before .before .before .before .before .before .before .before .before .before .before .before .before .before .before .before .before .before) .limits) (full (c .before .before .before .before .before .before .before .before .before .before .before .before .before .before .before .before .before .before .before .before .before .before .before .before .before .before))) (shells-counted (c .before .before .before .before .before .before .before .before .before .before .before .before .before .before .before .before .before .before .before .before .before .before .before .before .before .before .args .t1) (good (c .before .before .before .before .before .before .before .before .before .before .before .before .before .before .before .before .before .before .before .before .before .before .before .before .before .before) .limits) (full (c .before .before .before .before .before .before .before .before .before .before .before .before .before .before .before .before .before .before .before .before .before .before .before .before .before .before))) (pairEdge (content (c .before .before .before .before .before .before .before .before .before .before .before .before .before .before .before .before .before .before .before .before .before .before .before .before .before .before .args .t1)) (c .before .before .before .before .before .before .before .before .before .before .before .before .before .before .before .before .before .before .before .before .before .before .before .before .before .before .args .v .0) (endingOf (endingWires (content (c .before .before .before .before .before .before .before .before .before .before .before .before .before .before .before .before .before .before .before .before .before .before .before .before .before .before .args .t1)) (c .before .before .before .before .before .before .before .before .before .before .before .before .before .before .before .before .before .before .before .before .before .before .before .before .before .before .args .n) (c .before .before .before .before .before .before .before .before .before .before .before .before .before .before .before .before .before .before .before .before .before .before .before .before .before .before .args .v .0)))) (endingOf (endingWires (content (c .before .before .before .before .before .before .before .before .before .before .before .before .before .before .before .before .before .before .before .before .before .before .before .before .before .before .args .t1)) (c .before .before .before .before .before .before .before .before .before .before .before .before .before .before .before .before .before .before .before .before .before .before .before .before .before .before .args .n) (c .before .before .before .before .before .before .before .before .before .before .before .before .before .before .before .before .before .before .before .before .before .before .before .before .before .before .args .v .0))) (omega (arith, c .before .before .before .before .before .before .before .before .before .before .before .before .before .before .before .before .before .before .before .before .before .before .before .if1 .left)) (omega (arith, c .before .before .before .before .before .before .before .before .before .before .before .before .before .before .before .before .before .before .before .before .before .if2 .left, c .before .before .before .before .before .before .before .before .before .before .before .before .before .before .before .before .before .before .before .before .before .before .index .ensures .0)) (sym (ap (λ (k : ShellWires). k .shared) (c .before .before .before .before .before .before .before .before .before .before .before .before .before .before .before .before .before .before .before .before .shell-wires .ensures)) ∙ c .before .before .before .before .before .before .before .before .before .before .before .before .before .before .before .before .before .before .before .if3 .left) refl (omega (arith, ap (λ (k : Ending). k .number) (c .before .before .before .before .before .before .before .before .before .before .before .before .before .ending-at .ensures), c .before .before .before .before .before .before .before .before .before .before .before .if4 .left)) (omega (arith, ap (λ (k : Ending). k .number) (c .before .before .before .before .before .before .before .before .before .before .before .before .before .ending-at .ensures), c .before .before .before .before .before .before .before .before .before .if5 .left)) in
-    let made = rw (e, same) at (sym (c .before .before .before .judge-pair .ensures) ∙ c .before .made .given .1) in
-    removal-not (removeFaults (content (c .before .before .before .before .before .before .before .before .before .before .before .before .before .before .before .before .before .before .before .before .before .before .before .before .before .before .args .t1)) (c .before .before .before .before .before .before .before .before .before .before .before .before .before .before .before .before .before .before .before .before .before .before .before .before .before .before .args .n) (c .before .before .before .before .before .before .before .before .before .before .before .before .before .before .before .before .before .before .before .before .before .before .before .before .before .before .args .v .0)) (pairEdge (content (c .before .before .before .before .before .before .before .before .before .before .before .before .before .before .before .before .before .before .before .before .before .before .before .before .before .before .args .t1)) (c .before .before .before .before .before .before .before .before .before .before .before .before .before .before .before .before .before .before .before .before .before .before .before .before .before .before .args .v .0) (endingOf (endingWires (content (c .before .before .before .before .before .before .before .before .before .before .before .before .before .before .before .before .before .before .before .before .before .before .before .before .before .before .args .t1)) (c .before .before .before .before .before .before .before .before .before .before .before .before .before .before .before .before .before .before .before .before .before .before .before .before .before .before .args .n) (c .before .before .before .before .before .before .before .before .before .before .before .before .before .before .before .before .before .before .before .before .before .before .before .before .before .before .args .v .0)))) (endingOf (endingWires (content (c .before .before .before .before .before .before .before .before .before .before .before .before .before .before .before .before .before .before .before .before .before .before .before .before .before .before .args .t1)) (c .before .before .before .before .before .before .before .before .before .before .before .before .before .before .before .before .before .before .before .before .before .before .before .before .before .before .args .n) (c .before .before .before .before .before .before .before .before .before .before .before .before .before .before .before .before .before .before .before .before .before .before .before .before .before .before .args .v .0))) made
-
-returns-7 : tie.Need-returns-7
-returns-7 c =
-    let e = c .before .before .before .before .before .before .before .before .before .before .before .before .before .ending-at .ensures in
-    let same = faults-are (content (c .before .before .before .before .before .before .before .before .before .before .before .before .before .before .before .before .before .before .before .before .before .before .before .before .before .before .args .t1)) (c .before .before .before .before .before .before .before .before .before .before .before .before .before .before .before .before .before .before .before .before .before .before .before .before .before .before .args .n) (c .before .before .before .before .before .before .before .before .before .before .before .before .before .before .before .before .before .before .before .before .before .before .before .before .before .before .args .v .0) (getD (c .before .before .before .before .before .before .before .before .before .before .before .before .before .before .before .before .before .before .before .before .before .before .before .before .before .before .args .t1 .counts) 0 0) (getD (c .before .before .before .before .before .before .before .before .before .before .before .before .before .before .before .before .before .before .before .before .before .before .before .before .before .before .args .t1 .counts) 5 0) (points-counted (c .before .before .before .before .before .before .before .before .before .before .before .before .before .before .before .before .before .before .before .before .before .before .before .before .before .before .args .t1) (good (c .before .before .before .before .before .before .before .before .before .before .before .before .before .before .before .before .before .before .before .before .before .before .before .before .before .before) .limits) (full (c .before .before .before .before .before .before .before .before .before .before .before .before .before .before .before .before .before .before .before .before .before .before .before .before .before .before))) (shells-counted (c .before .before .before .before .before .before .before .before .before .before .before .before .before .before .before .before .before .before .before .before .before .before .before .before .before .before .args .t1) (good (c .before .before .before .before .before .before .before .before .before .before .before .before .before .before .before .before .before .before .before .before .before .before .before .before .before .before) .limits) (full (c .before .before .before .before .before .before .before .before .before .before .before .before .before .before .before .before .before .before .before .before .before .before .before .before .before .before))) (pairEdge (content (c .before .before .before .before .before .before .before .before .before .before .before .before .before .before .before .before .before .before .before .before .before .before .before .before .before .before .args .t1)) (c .before .before .before .before .before .before .before .before .before .before .before .before .before .before .before .before .before .before .before .before .before .before .before .before .before .before .args .v .0) (endingOf (endingWires (content (c .before .before .before .before .before .before .before .before .before .before .before .before .before .before .before .before .before .before .before .before .before .before .before .before .before .before .args .t1)) (c .before .before .before .before .before .before .before .before .before .before .before .before .before .before .before .before .before .before .before .before .before .before .before .before .before .before .args .n) (c .before .before .before .before .before .before .before .before .before .before .before .before .before .before .before .before .before .before .before .before .before .before .before .before .before .before .args .v .0)))) (endingOf (endingWires (content (c .before .before .before .before .before .before .before .before .before .before .before .before .before .before .before .before .before .before .before .before .before .before .before .before .before .before .args .t1)) (c .before .before .before .before .before .before .before .before .before .before .before .before .before .before .before .before .before .before .before .before .before .before .before .before .before .before .args .n) (c .before .before .before .before .before .before .before .before .before .before .before .before .before .before .before .before .before .before .before .before .before .before .before .before .before .before .args .v .0))) (omega (arith, c .before .before .before .before .before .before .before .before .before .before .before .before .before .before .before .before .before .before .before .before .before .before .before .if1 .left)) (omega (arith, c .before .before .before .before .before .before .before .before .before .before .before .before .before .before .before .before .before .before .before .before .before .if2 .left, c .before .before .before .before .before .before .before .before .before .before .before .before .before .before .before .before .before .before .before .before .before .before .index .ensures .0)) (sym (ap (λ (k : ShellWires). k .shared) (c .before .before .before .before .before .before .before .before .before .before .before .before .before .before .before .before .before .before .before .before .shell-wires .ensures)) ∙ c .before .before .before .before .before .before .before .before .before .before .before .before .before .before .before .before .before .before .before .if3 .left) refl (omega (arith, ap (λ (k : Ending). k .number) (c .before .before .before .before .before .before .before .before .before .before .before .before .before .ending-at .ensures), c .before .before .before .before .before .before .before .before .before .before .before .if4 .left)) (omega (arith, ap (λ (k : Ending). k .number) (c .before .before .before .before .before .before .before .before .before .before .before .before .before .ending-at .ensures), c .before .before .before .before .before .before .before .before .before .if5 .left)) in
-    let made = rw (e, same) at (sym (c .before .before .before .judge-pair .ensures) ∙ c .before .made2 .given .1) in
-    rw e (removal-joins (removeFaults (content (c .before .before .before .before .before .before .before .before .before .before .before .before .before .before .before .before .before .before .before .before .before .before .before .before .before .before .args .t1)) (c .before .before .before .before .before .before .before .before .before .before .before .before .before .before .before .before .before .before .before .before .before .before .before .before .before .before .args .n) (c .before .before .before .before .before .before .before .before .before .before .before .before .before .before .before .before .before .before .before .before .before .before .before .before .before .before .args .v .0)) (pairEdge (content (c .before .before .before .before .before .before .before .before .before .before .before .before .before .before .before .before .before .before .before .before .before .before .before .before .before .before .args .t1)) (c .before .before .before .before .before .before .before .before .before .before .before .before .before .before .before .before .before .before .before .before .before .before .before .before .before .before .args .v .0) (endingOf (endingWires (content (c .before .before .before .before .before .before .before .before .before .before .before .before .before .before .before .before .before .before .before .before .before .before .before .before .before .before .args .t1)) (c .before .before .before .before .before .before .before .before .before .before .before .before .before .before .before .before .before .before .before .before .before .before .before .before .before .before .args .n) (c .before .before .before .before .before .before .before .before .before .before .before .before .before .before .before .before .before .before .before .before .before .before .before .before .before .before .args .v .0)))) (endingOf (endingWires (content (c .before .before .before .before .before .before .before .before .before .before .before .before .before .before .before .before .before .before .before .before .before .before .before .before .before .before .args .t1)) (c .before .before .before .before .before .before .before .before .before .before .before .before .before .before .before .before .before .before .before .before .before .before .before .before .before .before .args .n) (c .before .before .before .before .before .before .before .before .before .before .before .before .before .before .before .before .before .before .before .before .before .before .before .before .before .before .args .v .0))) made)
+returns-2 c = let s = c .before .before .before .before .before .before .before .before .before .before .before .before .before .before .before .before .before .before .before .before .before .before .before .before .before .before .before .before .before in
+    let p = s .args .t1 in
+    pair-removed p _ _ _ _ _ _ _ _ (lent (c .before .before .before .before .before .before .before .before .before .before .before .before .before .before .before .before .before .before .before .before .before .before .before)) (s .args .n) (s .args .v .0) _ _ (sym (c .before .before .before .before .before .before .before .before .found2 .given .1) ∙ c .before .before .before .before .before .before .before .before .before .before .find-pair .ensures .0 p (lent (c .before .before .before .before .before .before .before .before .before .before .before .before .before .before .before .before .before .before .before .before .before .before .before))) _ _ (edge-is p (good s) _ _ (c .before .before .before .before .before .index .ensures .0) (inside (c .before .before .before .before .before .before .before .before) .0)) (edge-is p (good s) _ _ (c .before .before .index2 .ensures .0) (inside (c .before .before .before .before .before .before .before .before) .1)) _ (c .join-pair .ensures)
 
 pub judge-removal-spec : {M : Type 1} → statement M
 judge-removal-spec =
     tie.close
     (tie.spec
-    element-copy-out-points
-    element-copy-out-shells
-    returns
+    fronts-of-requires
+    backs-of-requires
+    wire-counts-requires
+    slice-aggregate-find-pair
+    slice-aggregate-find-pair-2
+    slice-aggregate-find-pair-3
+    find-pair-requires
+    enum-known-found
+    enum-known-found-2
     index-requires
-    returns-2
-    shell-wires-requires
-    returns-3
-    ending-at-requires
-    returns-4
-    returns-5
-    judge-pair-requires
-    enum-known-made
-    enum-known-made-2
-    returns-6
-    returns-7)
+    mul-a
+    element-copy-out-a
+    index-requires-2
+    mul-b
+    element-copy-out-b
+    array-read-join-pair
+    join-pair-requires
+    returns
+    returns-2)

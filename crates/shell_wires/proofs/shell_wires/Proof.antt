@@ -1,11 +1,10 @@
--- The part of the shell's listings lies within the listings; each column is what its function ensures.
-use mathlib.Core.Path.{_≡_, _∙_, sym}
-use native.Mathlib.Omega.{arith}
+-- The columns are the pattern's own.
+use mathlib.Core.Path.{_≡_, _∙_, refl, sym}
 use lib.ListN.{length, length-map}
 use borrow.Author.Needs.{needs}
 use Rattle.pattern.proofs.Counts.{Full}
-use Rattle.shell_wires.proofs.Facts.{Fine, faces-sum, fine}
-use Rattle.shell_wires.proofs.Made.{own-names, part-inside, stored-names, wires-made}
+use Rattle.shell_wires.proofs.Made.{wires-shown}
+use Rattle.shell_wires.specs.Lent.{Listed}
 use Rattle.shell_wires.proofs.shell_wires.Statement.{statement}
 use Rattle.shell_wires.proofs.shell_wires.Tie as tie
 
@@ -25,56 +24,25 @@ full s =
 seven : (s : tie.Start) → length (s .args .t1 .counts) ≡ 7
 seven s = search needs
 
-good : (s : tie.Start) → Fine (s .args .t1)
-good s = fine (s .args .t1) (s .pre .0) (seven s) (full s)
-
-element-copy-out-fcount : tie.Need-element-copy-out-fcount
-element-copy-out-fcount c = search needs
-
-element-copy-out-lcount : tie.Need-element-copy-out-lcount
-element-copy-out-lcount c = search needs
-
-sum-of-requires : tie.Need-sum-of-requires
-sum-of-requires c κs = (omega (arith, c .before .before .before .before .before .pre .1, good (c .before .before .before .before .before) .limits .shells, full (c .before .before .before .before .before) .shells), omega (arith, c .before .before .before .before .before .pre .1, good (c .before .before .before .before .before) .limits .shells))
-
-mul-index : tie.Need-mul-index
-mul-index c = omega (arith, c .before .before .before .before .before .before .pre .1, good (c .before .before .before .before .before .before) .limits .shells)
-
-element-copy-out-index : tie.Need-element-copy-out-index
-element-copy-out-index c = omega (arith, c .before .before .before .before .before .before .pre .1, good (c .before .before .before .before .before .before) .limits .shells)
-
-index-requires : tie.Need-index-requires
-index-requires c κs = search needs
-
-add-end : tie.Need-add-end
-add-end c = omega (arith, part-inside (c .before .before .before .before .before .before .before .before .args .t1) (good (c .before .before .before .before .before .before .before .before)) (c .before .before .before .before .before .before .before .before .args .n) (c .before .before .before .before .before .before .before .before .pre .1) _ _ (c .before .before .sum-of .ensures) (c .index .ensures .0), good (c .before .before .before .before .before .before .before .before) .limits .listings)
-
-flags-between-requires : tie.Need-flags-between-requires
-flags-between-requires c κs = ((omega arith, omega (arith, part-inside (c .before .before .before .before .before .before .before .before .before .before .before .args .t1) (good (c .before .before .before .before .before .before .before .before .before .before .before)) (c .before .before .before .before .before .before .before .before .before .before .before .args .n) (c .before .before .before .before .before .before .before .before .before .before .before .pre .1) _ _ (c .before .before .before .before .before .sum-of .ensures) (c .before .before .before .index .ensures .0), good (c .before .before .before .before .before .before .before .before .before .before .before) .limits .listings, full (c .before .before .before .before .before .before .before .before .before .before .before) .listings)), own-names (c .before .before .before .before .before .before .before .before .before .before .before .args .t1) (good (c .before .before .before .before .before .before .before .before .before .before .before)) (c .before .before .before .before .before .before .before .before .before .before .before .args .n) (c .before .before .before .before .before .before .before .before .before .before .before .pre .1) _ _ (c .before .before .before .before .before .sum-of .ensures) (c .before .before .before .index .ensures .0))
-
-flags-long : (s : tie.After-flags-between) → length (s .flags-between .result) ≡ 256
-flags-long s = search needs
-
-counts-long : (s : tie.After-wire-counts) → length (s .wire-counts .result) ≡ 256
-counts-long s = search needs
-
-slice-aggregate-lists-outside : tie.Need-slice-aggregate-lists-outside
-slice-aggregate-lists-outside c = search needs
-
-lists-outside-requires : tie.Need-lists-outside-requires
-lists-outside-requires c κs = ((omega arith, part-inside (c .before .before .before .before .before .before .before .before .before .before .before .before .before .before .before .before .args .t1) (good (c .before .before .before .before .before .before .before .before .before .before .before .before .before .before .before .before)) (c .before .before .before .before .before .before .before .before .before .before .before .before .before .before .before .before .args .n) (c .before .before .before .before .before .before .before .before .before .before .before .before .before .before .before .before .pre .1) _ _ (c .before .before .before .before .before .before .before .before .before .before .sum-of .ensures) (c .before .before .before .before .before .before .before .before .index .ensures .0), omega (arith, good (c .before .before .before .before .before .before .before .before .before .before .before .before .before .before .before .before) .limits .listings, full (c .before .before .before .before .before .before .before .before .before .before .before .before .before .before .before .before) .listings)), (stored-names (c .before .before .before .before .before .before .before .before .before .before .before .before .before .before .before .before .args .t1) (good (c .before .before .before .before .before .before .before .before .before .before .before .before .before .before .before .before)), flags-long (c .before .before .before .before)))
+listed : (c : tie.After-wire-counts) → Listed (c .before .before .args .t1) (c .before .before .args .t1 .counts) (c .wire-counts .result) (c .before .before .args .t1 .shells) (c .before .before .args .t1 .listings)
+listed c = record {
+  ok = c .before .before .pre .0;
+  seven = seven (c .before .before);
+  full = full (c .before .before);
+  counts-are = refl;
+  faces-are = c .wire-counts .ensures;
+  shells-are = refl;
+  listings-are = refl;
+}
 
 wire-counts-requires : tie.Need-wire-counts-requires
 wire-counts-requires c κs = search needs
 
-slice-aggregate-wire-flags : tie.Need-slice-aggregate-wire-flags
-slice-aggregate-wire-flags c = search needs
+slice-aggregate-mark-wires : tie.Need-slice-aggregate-mark-wires
+slice-aggregate-mark-wires c = search needs
 
-slice-aggregate-wire-flags-2 : tie.Need-slice-aggregate-wire-flags-2
-slice-aggregate-wire-flags-2 c = search needs
-
-wire-flags-requires : tie.Need-wire-flags-requires
-wire-flags-requires c κs = (omega (arith, good (c .before .before .before .before .before .before .before .before .before .before .before .before .before .before .before .before .before .before .before .before .before) .limits .faces, flags-long (c .before .before .before .before .before .before .before .before .before)), omega (arith, good (c .before .before .before .before .before .before .before .before .before .before .before .before .before .before .before .before .before .before .before .before .before) .limits .faces, counts-long (c .before .before)), rw (c .before .before .wire-counts .ensures) (omega (arith, faces-sum (c .before .before .before .before .before .before .before .before .before .before .before .before .before .before .before .before .before .before .before .before .before .args .t1) (good (c .before .before .before .before .before .before .before .before .before .before .before .before .before .before .before .before .before .before .before .before .before)), good (c .before .before .before .before .before .before .before .before .before .before .before .before .before .before .before .before .before .before .before .before .before) .limits .wires)))
+mark-wires-requires : tie.Need-mark-wires-requires
+mark-wires-requires c κs = ((c .before .before .before .before .before .before .before .before .before .args .t1, listed (c .before .before .before .before .before .before .before)), c .before .before .before .before .before .before .before .before .before .pre .1)
 
 fronts-of-requires : tie.Need-fronts-of-requires
 fronts-of-requires c κs = search needs
@@ -83,26 +51,15 @@ backs-of-requires : tie.Need-backs-of-requires
 backs-of-requires c κs = search needs
 
 returns : tie.Need-returns
-returns c = wires-made (c .before .before .before .before .before .before .before .before .before .before .before .before .before .before .before .before .before .before .before .before .before .before .before .before .before .args .t1) (good (c .before .before .before .before .before .before .before .before .before .before .before .before .before .before .before .before .before .before .before .before .before .before .before .before .before)) (c .before .before .before .before .before .before .before .before .before .before .before .before .before .before .before .before .before .before .before .before .before .before .before .before .before .args .n) (c .before .before .before .before .before .before .before .before .before .before .before .before .before .before .before .before .before .before .before .before .before .before .before .before .before .pre .1) _ _ (c .before .before .before .before .before .before .before .before .before .before .before .before .before .before .before .before .before .before .before .sum-of .ensures) (c .before .before .before .before .before .before .before .before .before .before .before .before .before .before .before .before .before .index .ensures .0) _ _ _ _ _ _ (c .before .before .before .before .before .before .before .before .before .before .before .before .before .flags-between .ensures) (c .before .before .before .before .before .before .before .before .lists-outside .ensures) (c .before .before .before .before .before .before .wire-counts .ensures) (c .before .before .before .wire-flags .ensures) (c .before .fronts-of .ensures) (c .backs-of .ensures)
+returns c = wires-shown (c .before .before .before .before .before .before .before .before .before .before .before .before .before .before .args .t1) (c .before .before .before .before .before .before .before .before .before .before .before .before .before .before .args .n) _ _ _ (c .before .before .before .before .mark-wires .ensures (c .before .before .before .before .before .before .before .before .before .before .before .before .before .before .args .t1) (listed (c .before .before .before .before .before .before .before .before .before .before .before .before))) (c .before .fronts-of .ensures) (c .backs-of .ensures)
 
 pub shell-wires-spec : {M : Type 1} → statement M
 shell-wires-spec =
     tie.close
     (tie.spec
-    element-copy-out-fcount
-    element-copy-out-lcount
-    sum-of-requires
-    mul-index
-    element-copy-out-index
-    index-requires
-    add-end
-    flags-between-requires
-    slice-aggregate-lists-outside
-    lists-outside-requires
     wire-counts-requires
-    slice-aggregate-wire-flags
-    slice-aggregate-wire-flags-2
-    wire-flags-requires
+    slice-aggregate-mark-wires
+    mark-wires-requires
     fronts-of-requires
     backs-of-requires
     returns)

@@ -1,0 +1,167 @@
+-- The columns are the pattern's own; the storage gets what the cut on them gives.
+use mathlib.Core.Bool.{_&&_, true}
+use mathlib.Core.Path.{_∙_, _≡_, ap, refl, sym}
+use native.Mathlib.Omega.{arith}
+use lib.Dec.{ltb}
+use lib.ListN.{getD, length, length-map}
+use borrow.Author.Needs.{needs}
+use Rattle.cut_edge.proofs.Answer.{after-fine, all-here, answer-cut, parted-are, pattern-cut, refused-not, rooms}
+use Rattle.cut_edge.proofs.Stored.{edge-at}
+use Rattle.edge.proofs.Laws.{noEdge}
+use Rattle.edge.specs.declared.Edge.{Edge}
+use Rattle.edit_answers.specs.declared.CutAnswer.the-variants.{Cut, Not, Refused}
+use Rattle.edit_answers.specs.declared.EditError.{EditError}
+use Rattle.errors.specs.declared.Refusal.{Refusal}
+use Rattle.pattern.proofs.Counts.{Full}
+use Rattle.pattern.specs.Checks.{patternFaults}
+use Rattle.pattern.specs.Contents.{content}
+use Rattle.shell_edits.specs.Answers.{nextEdge, storedIn}
+use Rattle.shell_edits.specs.Edits.{cutContent, edgeAt}
+use Rattle.shell_wires.proofs.Facts.{Fine, fine}
+use Rattle.shell_wires.specs.Lent.{Lent}
+use Rattle.cut_edge.proofs.cut_named.Statement.{statement}
+use Rattle.cut_edge.proofs.cut_named.Tie as tie
+
+full : (s : tie.Start) → Full (s .args .t1)
+full s =
+    let fields = s .good .0 .1 .1 in
+    record {
+      points = search needs;
+      edges = sym (length-map (s .args .t1 .edges) _) ∙ fields .1 .1 .0 .1 .0 .1;
+      uses = search needs;
+      wires = search needs;
+      faces = sym (length-map (s .args .t1 .faces) _) ∙ fields .1 .1 .1 .1 .1 .0 .1 .0 .1;
+      shells = search needs;
+      listings = search needs;
+    }
+
+seven : (s : tie.Start) → length (s .args .t1 .counts) ≡ 7
+seven s = search needs
+
+good : (s : tie.Start) → Fine (s .args .t1)
+good s = fine (s .args .t1) (s .pre .0) (seven s) (full s)
+
+-- the edge that is read
+edge-is : (c : tie.After-index) → getD (c .before .before .before .before .before .args .t1 .edges) (c .index .result) noEdge ≡ edgeAt (content (c .before .before .before .before .before .args .t1)) (c .before .before .before .before .before .args .e .0)
+edge-is c = rw (c .index .ensures .0) (sym (edge-at (c .before .before .before .before .before .args .t1) (good (c .before .before .before .before .before)) (c .before .before .before .before .before .args .e .0) (c .before .before .before .before .before .pre .1 .1)))
+
+curve-is : (c : tie.After-index) → getD (c .before .before .before .before .before .args .t1 .edges) (c .index .result) noEdge .curve ≡ edgeAt (content (c .before .before .before .before .before .args .t1)) (c .before .before .before .before .before .args .e .0) .curve
+curve-is c = ap (λ (d : Edge). d .curve) (edge-is c)
+
+lent : (c : tie.After-backs-of) → Lent (c .before .before .before .before .before .before .before .before .before .before .before .args .t1) (c .before .before .before .before .before .before .before .before .before .before .before .args .t1 .counts) (c .before .fronts-of .result) (c .backs-of .result) (c .before .before .before .before .before .before .before .before .before .before .before .args .t1 .uses) (c .before .before .before .before .before .before .before .before .before .before .before .args .t1 .wires) (c .before .before .before .before .before .before .before .wire-counts .result) (c .before .before .before .before .before .before .before .before .before .before .before .args .t1 .shells) (c .before .before .before .before .before .before .before .before .before .before .before .args .t1 .listings)
+lent c = record {
+  listed = record {
+    ok = c .before .before .before .before .before .before .before .before .before .before .before .pre .0;
+    seven = seven (c .before .before .before .before .before .before .before .before .before .before .before);
+    full = full (c .before .before .before .before .before .before .before .before .before .before .before);
+    counts-are = refl;
+    faces-are = c .before .before .before .before .before .before .before .wire-counts .ensures;
+    shells-are = refl;
+    listings-are = refl;
+  };
+  fronts-are = c .before .fronts-of .ensures;
+  backs-are = c .backs-of .ensures;
+  uses-are = refl;
+  wires-are = refl;
+}
+
+here : (c : tie.After-backs-of) → (ltb (c .before .before .before .before .before .before .before .before .before .before .before .args .n) (getD (c .before .before .before .before .before .before .before .before .before .before .before .args .t1 .counts) 5 0) && ltb (c .before .before .before .before .before .before .before .before .before .before .before .args .e .0) (getD (c .before .before .before .before .before .before .before .before .before .before .before .args .t1 .counts) 1 0) && ltb (c .before .before .before .before .before .before .before .before .before .before .before .args .v .0) (getD (c .before .before .before .before .before .before .before .before .before .before .before .args .t1 .counts) 0 0)) ≡ true
+here c = all-here (c .before .before .before .before .before .before .before .before .before .before .before .args .t1) _ _ _ _ _ _ _ _ (lent c) (c .before .before .before .before .before .before .before .before .before .before .before .args .n) (c .before .before .before .before .before .before .before .before .before .before .before .args .e .0) (c .before .before .before .before .before .before .before .before .before .before .before .args .v .0) (c .before .before .before .before .before .before .before .before .before .before .before .args .at) (c .before .before .before .before .before .before .before .before .before .before .before .pre .1)
+
+wire-counts-requires : tie.Need-wire-counts-requires
+wire-counts-requires c κs = search needs
+
+index-requires : tie.Need-index-requires
+index-requires c κs = search needs
+
+mul-d : tie.Need-mul-d
+mul-d c = search needs
+
+element-copy-out-d : tie.Need-element-copy-out-d
+element-copy-out-d c = omega (arith, c .index .ensures .0, c .before .before .before .before .before .pre .1 .1, good (c .before .before .before .before .before) .limits .edges)
+
+fronts-of-requires : tie.Need-fronts-of-requires
+fronts-of-requires c κs = search needs
+
+backs-of-requires : tie.Need-backs-of-requires
+backs-of-requires c κs = search needs
+
+slice-aggregate-cut-columns : tie.Need-slice-aggregate-cut-columns
+slice-aggregate-cut-columns c = search needs
+
+slice-aggregate-cut-columns-2 : tie.Need-slice-aggregate-cut-columns-2
+slice-aggregate-cut-columns-2 c = search needs
+
+slice-aggregate-cut-columns-3 : tie.Need-slice-aggregate-cut-columns-3
+slice-aggregate-cut-columns-3 c = search needs
+
+cut-columns-requires : tie.Need-cut-columns-requires
+cut-columns-requires c κs = let s = c .before .before .before .before .before .before .before .before .before .before .before .before .before .before .before .before .before .before .before .before .before .before .before in
+    ((s .args .t1, lent (c .before .before .before .before .before .before .before .before .before .before .before .before), curve-is (c .before .before .before .before .before .before .before .before .before .before .before .before .before .before .before .before .before .before)), (s .pre .1 .0, s .pre .1 .1, s .pre .1 .2, full s .uses, full s .wires))
+
+enum-known-done : tie.Need-enum-known-done
+enum-known-done c = search needs
+
+enum-known-done-2 : tie.Need-enum-known-done-2
+enum-known-done-2 c = search needs
+
+store-cut-requires : tie.Need-store-cut-requires
+store-cut-requires c κs = let s = c .before .before .before .before .before .before .before .before .before .before .before .before .before .before .before .before .before .before .before .before .before .before .before .before .before .before .before .before .before in
+    let a = s .args in
+    let done = c .before .before .before .before .before .cut-columns .ensures (a .t1) (lent (c .before .before .before .before .before .before .before .before .before .before .before .before .before .before .before .before .before .before)) (curve-is (c .before .before .before .before .before .before .before .before .before .before .before .before .before .before .before .before .before .before .before .before .before .before .before .before)) in
+    let parts = parted-are _ _ _ _ _ _ (sym (c .before .done2 .given .1) ∙ done .answer) in
+    rooms (a .t1) (good s) (a .n) (a .e .0) (a .v .0) (a .at) (here (c .before .before .before .before .before .before .before .before .before .before .before .before .before .before .before .before .before .before)) (parts .0) .0
+
+array-read-a : tie.Need-array-read-a
+array-read-a c = search needs
+
+cast-a : tie.Need-cast-a
+cast-a c = omega (arith, good (c .before .before .before .before .before .before .before .before .before .before .before .before .before .before .before .before .before .before .before .before .before .before .before .before .before .before .before .before .before .before) .limits .edges)
+
+add-t57 : tie.Need-add-t57
+add-t57 c = omega (arith, good (c .before .before .before .before .before .before .before .before .before .before .before .before .before .before .before .before .before .before .before .before .before .before .before .before .before .before .before .before .before .before) .limits .edges)
+
+returns : tie.Need-returns
+returns c = let s = c .before .before .before .before .before .before .before .before .before .before .before .before .before .before .before .before .before .before .before .before .before .before .before .before .before .before .before .before .before in
+    let a = s .args in
+    let done = c .before .before .before .before .before .cut-columns .ensures (a .t1) (lent (c .before .before .before .before .before .before .before .before .before .before .before .before .before .before .before .before .before .before)) (curve-is (c .before .before .before .before .before .before .before .before .before .before .before .before .before .before .before .before .before .before .before .before .before .before .before .before)) in
+    let no = sym (c .before .done .given .1) ∙ done .answer in (
+      refused-not (a .t1) (good s) (a .n) (a .e .0) (a .v .0) (a .at) (here (c .before .before .before .before .before .before .before .before .before .before .before .before .before .before .before .before .before .before)) Refused Not (Cut (nextEdge (a .t1) 0) (nextEdge (a .t1) 1)) _ _ no,
+      (
+        refused-not (a .t1) (good s) (a .n) (a .e .0) (a .v .0) (a .at) (here (c .before .before .before .before .before .before .before .before .before .before .before .before .before .before .before .before .before .before)) (λ (f : Refusal). a .t1) (λ (x : EditError). a .t1) (storedIn (a .t1) (cutContent (content (a .t1)) (a .n) (a .e .0) (a .v .0) (a .at))) _ _ no,
+        s .pre .0,
+      ),
+    )
+
+returns-2 : tie.Need-returns-2
+returns-2 c = let s = c .before .before .before .before .before .before .before .before .before .before .before .before .before .before .before .before .before .before .before .before .before .before .before .before .before .before .before .before .before .before in
+    let a = s .args in
+    let done = c .before .before .before .before .before .before .cut-columns .ensures (a .t1) (lent (c .before .before .before .before .before .before .before .before .before .before .before .before .before .before .before .before .before .before .before)) (curve-is (c .before .before .before .before .before .before .before .before .before .before .before .before .before .before .before .before .before .before .before .before .before .before .before .before .before)) in
+    let parts = parted-are _ _ _ _ _ _ (sym (c .before .before .done2 .given .1) ∙ done .answer) in
+    let after = pattern-cut (a .t1) (good s) (a .n) (a .e .0) (a .v .0) (a .at) (parts .0) _ _ _ _ _ _ _ (parts .1) (parts .2) (done .uses-cut (parts .0)) (done .wires-cut (parts .0)) (edge-is (c .before .before .before .before .before .before .before .before .before .before .before .before .before .before .before .before .before .before .before .before .before .before .before .before .before)) (c .store-cut .ensures) in (
+      answer-cut (a .t1) (good s) (a .n) (a .e .0) (a .v .0) (a .at) (parts .0),
+      (after, ap patternFaults after ∙ after-fine (a .t1) (good s) (a .n) (a .e .0) (a .v .0) (a .at) (here (c .before .before .before .before .before .before .before .before .before .before .before .before .before .before .before .before .before .before .before)) (done .spans)),
+    )
+
+pub cut-named-spec : {M : Type 1} → statement M
+cut-named-spec =
+    tie.close
+    (tie.spec
+    wire-counts-requires
+    index-requires
+    mul-d
+    element-copy-out-d
+    fronts-of-requires
+    backs-of-requires
+    slice-aggregate-cut-columns
+    slice-aggregate-cut-columns-2
+    slice-aggregate-cut-columns-3
+    cut-columns-requires
+    enum-known-done
+    enum-known-done-2
+    store-cut-requires
+    array-read-a
+    cast-a
+    add-t57
+    returns
+    returns-2)

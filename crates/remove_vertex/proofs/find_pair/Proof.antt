@@ -1,0 +1,102 @@
+-- Each way out; the tables are those of a pattern without fault.
+use Prim.Native.Nat.{ℕ}
+use mathlib.Core.Path.{_∙_, ap, refl, sym}
+use native.Mathlib.Omega.{arith}
+use borrow.Author.Needs.{needs}
+use Rattle.corners.specs.declared.Corner.{Corner}
+use Rattle.endings.specs.Endings.{endingOf}
+use Rattle.endings.specs.declared.Ending.{Ending}
+use Rattle.pattern.specs.Contents.{content}
+use Rattle.pattern.specs.declared.Pattern.{Pattern}
+use Rattle.remove_vertex.proofs.Removals.{is-shared, many-wires, near-are, no-point, no-shell, no-wire, positive}
+use Rattle.remove_vertex.proofs.Stored.{endings-inside, pair-matched, points-are, shells-are, tables}
+use Rattle.remove_vertex.specs.Removals.{cornerIn}
+use Rattle.shell_edits.specs.Edits.{endingWires, lastWire}
+use Rattle.shell_wires.specs.declared.Marks.{Marks}
+use Rattle.remove_vertex.proofs.find_pair.Statement.{statement}
+use Rattle.remove_vertex.proofs.find_pair.Tie as tie
+
+abbrev endingIn : Pattern → ℕ → ℕ → Ending
+endingIn p n v = endingOf (endingWires (content p) n v)
+
+abbrev lastIn : Pattern → ℕ → ℕ → Corner
+lastIn p n v = cornerIn (content p) v (lastWire (endingWires (content p) n v))
+
+array-read-if1 : tie.Need-array-read-if1
+array-read-if1 c = search needs
+
+returns : tie.Need-returns
+returns c = (
+  λ p l. let a = c .before .before .before .before .before .before .before .before .args in
+      no-shell (content p) (a .n) (a .v .0) _ _ (points-are p _ _ _ _ _ _ _ _ l) (shells-are p _ _ _ _ _ _ _ _ l) (lastIn p (a .n) (a .v .0)) (endingIn p (a .n) (a .v .0)) (c .if1 .taken),
+  refl,
+)
+
+index-requires : tie.Need-index-requires
+index-requires c κs = search needs
+
+array-read-if2 : tie.Need-array-read-if2
+array-read-if2 c = search needs
+
+returns-2 : tie.Need-returns-2
+returns-2 c = (
+  λ p l. let a = c .before .before .before .before .before .before .before .before .before .before .args in
+      no-point (content p) (a .n) (a .v .0) _ _ (points-are p _ _ _ _ _ _ _ _ l) (shells-are p _ _ _ _ _ _ _ _ l) (lastIn p (a .n) (a .v .0)) (endingIn p (a .n) (a .v .0)) (omega (arith, c .if2 .taken, c .before .index .ensures .0)),
+  refl,
+)
+
+mark-wires-requires : tie.Need-mark-wires-requires
+mark-wires-requires c κs = search needs
+
+returns-3 : tie.Need-returns-3
+returns-3 c = (
+  λ p l. let a = c .before .before .before .before .before .before .before .before .before .before .before .before .args in
+      is-shared (content p) (a .n) (a .v .0) _ _ (points-are p _ _ _ _ _ _ _ _ l) (shells-are p _ _ _ _ _ _ _ _ l) (lastIn p (a .n) (a .v .0)) (endingIn p (a .n) (a .v .0)) (omega (arith, c .before .before .before .before .if1 .left)) (omega (arith, c .before .before .if2 .left, c .before .before .before .index .ensures .0)) (sym (ap (λ (m : Marks). m .shared) (c .before .mark-wires .ensures p (l .listed))) ∙ c .if3 .taken),
+  refl,
+)
+
+ending-at-requires : tie.Need-ending-at-requires
+ending-at-requires c κs = search needs
+
+returns-4 : tie.Need-returns-4
+returns-4 c = (
+  λ p l. let a = c .before .before .before .before .before .before .before .before .before .before .before .before .before .before .before .args in
+      no-wire (content p) (a .n) (a .v .0) _ _ (points-are p _ _ _ _ _ _ _ _ l) (shells-are p _ _ _ _ _ _ _ _ l) (lastIn p (a .n) (a .v .0)) (endingIn p (a .n) (a .v .0)) (omega (arith, c .before .before .before .before .before .before .before .if1 .left)) (omega (arith, c .before .before .before .before .before .if2 .left, c .before .before .before .before .before .before .index .ensures .0)) (sym (ap (λ (m : Marks). m .shared) (c .before .before .before .before .mark-wires .ensures p (l .listed))) ∙ c .before .before .before .if3 .left) (c .before .before .ending-at .result) (c .before .before .ending-at .ensures p l) (c .if4 .taken),
+  refl,
+)
+
+returns-5 : tie.Need-returns-5
+returns-5 c = (
+  λ p l. let a = c .before .before .before .before .before .before .before .before .before .before .before .before .before .before .before .before .before .args in
+      many-wires (content p) (a .n) (a .v .0) _ _ (points-are p _ _ _ _ _ _ _ _ l) (shells-are p _ _ _ _ _ _ _ _ l) (lastIn p (a .n) (a .v .0)) (endingIn p (a .n) (a .v .0)) (omega (arith, c .before .before .before .before .before .before .before .before .before .if1 .left)) (omega (arith, c .before .before .before .before .before .before .before .if2 .left, c .before .before .before .before .before .before .before .before .index .ensures .0)) (sym (ap (λ (m : Marks). m .shared) (c .before .before .before .before .before .before .mark-wires .ensures p (l .listed))) ∙ c .before .before .before .before .before .if3 .left) (c .before .before .before .before .ending-at .result) (c .before .before .before .before .ending-at .ensures p l) (c .if5 .taken),
+  refl,
+)
+
+match-pair-requires : tie.Need-match-pair-requires
+match-pair-requires c κs = let s = c .before .before .before .before .before .before .before .before .before .before .before .before .before .before .before .before .before in
+    (tables (s .pre .0) _ _ _ _ _ _ _ _ (s .pre .1), endings-inside (s .pre .0) _ _ _ _ _ _ _ _ (s .pre .1) (s .args .n) (s .args .v .0) (c .before .before .before .before .ending-at .ensures (s .pre .0) (s .pre .1)) (positive _ (c .before .before .if4 .left)))
+
+returns-6 : tie.Need-returns-6
+returns-6 c = (
+  λ p l. let a = c .before .before .before .before .before .before .before .before .before .before .before .before .before .before .before .before .before .before .args in
+      let near = near-are (content p) (a .n) (a .v .0) _ _ (points-are p _ _ _ _ _ _ _ _ l) (shells-are p _ _ _ _ _ _ _ _ l) (lastIn p (a .n) (a .v .0)) (endingIn p (a .n) (a .v .0)) (omega (arith, c .before .before .before .before .before .before .before .before .before .before .if1 .left)) (omega (arith, c .before .before .before .before .before .before .before .before .if2 .left, c .before .before .before .before .before .before .before .before .before .index .ensures .0)) (sym (ap (λ (m : Marks). m .shared) (c .before .before .before .before .before .before .before .mark-wires .ensures p (l .listed))) ∙ c .before .before .before .before .before .before .if3 .left) (c .before .before .before .before .before .ending-at .result) (c .before .before .before .before .before .ending-at .ensures p l) (positive _ (c .before .before .before .if4 .left)) (omega (arith, c .before .if5 .left)) in
+      pair-matched p _ _ _ _ _ _ _ _ l (a .n) (a .v .0) (c .before .before .before .before .before .ending-at .result) _ (c .before .before .before .before .before .ending-at .ensures p l) near (c .match-pair .ensures .0),
+  c .match-pair .ensures .1,
+)
+
+pub find-pair-spec : {M : Type 1} → statement M
+find-pair-spec =
+    tie.close
+    (tie.spec
+    array-read-if1
+    returns
+    index-requires
+    array-read-if2
+    returns-2
+    mark-wires-requires
+    returns-3
+    ending-at-requires
+    returns-4
+    returns-5
+    match-pair-requires
+    returns-6)
