@@ -48,8 +48,8 @@ use Rattle.shell_edits.specs.Answers.{afterCut, cutAnswer, nextEdge, storedIn}
 use Rattle.shell_edits.specs.Edits.{cutContent, cutFaults, cutWire, cutWires, eachWire, edgeAt, edited, isCut, sharesFace, usesIn, wiresIn, wiresOf}
 use Rattle.shell_wires.proofs.Facts.{Fine, records-fine, wires-sum}
 use Rattle.shell_wires.proofs.Made.{lent-fine}
-use Rattle.shell_wires.specs.Lent.{Lent, marksOf}
-use Rattle.shell_wires.specs.ShellWires.{shellWires}
+use Rattle.shell_wires.specs.Lent.{Lent}
+use Rattle.shell_wires.specs.ShellWires.{marksOf}
 use Rattle.shell_wires.specs.declared.Marks.{Marks}
 use Rattle.wire.specs.Wires.{points}
 
@@ -135,7 +135,7 @@ edge-span c ok k h =
 
 module _ (p : Pattern) (s : Fine p) (n e v : ℕ) (at : Parameter) where
   abbrev flags : List Bool
-  flags = shellWires p n .wires
+  flags = marksOf p n .wires
 
   abbrev wires : List (List ℕ)
   wires = wiresIn (content p)

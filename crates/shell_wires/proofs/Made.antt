@@ -20,8 +20,8 @@ use Rattle.shell_edits.specs.Edits.{otherListings, sharesFace, wiresOf}
 use Rattle.shell_wires.proofs.Facts.{Fine, backs-long, faces-sum, fine, fronts-long, listings-name, records-fine, shells-sum, uses-named, wires-sum}
 use Rattle.shell_wires.proofs.Laws.{flagsOf, listed-flags, lists-shared, names-part, others-are}
 use Rattle.shell_wires.specs.Flags.{NameFaces, listsFlagged, wireFlags}
-use Rattle.shell_wires.specs.Lent.{Lent, Listed, marksOf}
-use Rattle.shell_wires.specs.ShellWires.{shellWires}
+use Rattle.shell_wires.specs.Lent.{Lent, Listed}
+use Rattle.shell_wires.specs.ShellWires.{marksOf}
 use Rattle.shell_wires.specs.declared.Marks.{Marks}
 use Rattle.wire.specs.Wires.{Named}
 
@@ -161,11 +161,6 @@ module _ (p : Pattern) (counts faces shells listings : List ℕ) (l : Listed p c
     marks-made flags shared wires a b d =
         wires-made p listed-fine n here-stored f z begin-stored size-stored flags shared wires
         (a ∙ rw (l .listings-are)) (b ∙ rw (l .listings-are, l .counts-are)) (d ∙ rw (l .faces-are, l .counts-are))
-
--- with the ends of the edges
-pub wires-shown : (p : Pattern) (n : ℕ) (m : Marks) (fronts backs : List ℕ) → m ≡ marksOf p n → fronts ≡ map frontNumber (p .edges) → backs ≡ map backNumber (p .edges)
-    → record { shared = m .shared; wires = m .wires; fronts = fronts; backs = backs } ≡ shellWires p n
-wires-shown p n m fronts backs is f b = rw (is, f, b)
 
 -- ---- with the ends of the edges, the uses and the wires
 module _ (p : Pattern) (counts fronts backs uses wires faces shells listings : List ℕ) (l : Lent p counts fronts backs uses wires faces shells listings) where

@@ -8,8 +8,6 @@ use Rattle.face.specs.Faces.{wireCount}
 use Rattle.pattern.proofs.Counts.{Full}
 use Rattle.pattern.specs.Checks.{patternFaults}
 use Rattle.pattern.specs.declared.Pattern.{Pattern}
-use Rattle.shell_wires.specs.ShellWires.{shellWires}
-use Rattle.shell_wires.specs.declared.Marks.{Marks}
 
 -- the counts, the faces' numbers of wires, the shells and the listings
 pub record Listed (p : Pattern) (counts faces shells listings : List ℕ) : Type 0 where
@@ -28,7 +26,3 @@ pub record Lent (p : Pattern) (counts fronts backs uses wires faces shells listi
   pub backs-are : backs ≡ map backNumber (p .edges)
   pub uses-are : uses ≡ p .uses
   pub wires-are : wires ≡ p .wires
-
--- what the columns say of shell n
-abbrev pub marksOf : Pattern → ℕ → Marks
-marksOf p n = record { shared = shellWires p n .shared; wires = shellWires p n .wires }

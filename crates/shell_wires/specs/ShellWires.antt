@@ -4,17 +4,14 @@ use mathlib.Core.Bool.{false}
 use mathlib.Core.List.{map}
 use lib.ListN.{length}
 use Rattle.lists.specs.Lists.{has, numbers, padded}
-use Rattle.edge.specs.Edges.{backNumber, frontNumber}
 use Rattle.pattern.specs.Contents.{content}
 use Rattle.pattern.specs.declared.Pattern.{Pattern}
 use Rattle.shell_edits.specs.Edits.{sharesFace, wiresOf}
-use Rattle.shell_wires.specs.declared.ShellWires.{ShellWires}
+use Rattle.shell_wires.specs.declared.Marks.{Marks}
 
--- whether a face of shell n is also listed in another, which wires the shell has, the ends of the edges
-abbrev pub shellWires : Pattern → ℕ → ShellWires
-shellWires p n = record {
+-- whether a face of shell n is also listed in another, which wires the shell has
+abbrev pub marksOf : Pattern → ℕ → Marks
+marksOf p n = record {
   shared = sharesFace (content p) n;
   wires = padded 1024 false (map (λ (w : ℕ). has w (wiresOf (content p) n)) (numbers (length (content p .wires))));
-  fronts = map frontNumber (p .edges);
-  backs = map backNumber (p .edges);
 }

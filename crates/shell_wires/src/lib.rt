@@ -1,35 +1,21 @@
-// The wires of a shell, for its edits: which of the wires in storage are its own, whether it shares
-// a face with another shell, and the ends of the edges. Faces are marked first, then their wires.
+// The wires of a shell, for its edits: which of the wires in storage are its own, and whether it
+// shares a face with another shell. Faces are marked first, then their wires.
 ghost use mathlib.Core.Path.{_≡_};
 ghost use mathlib.Core.Bool.{false};
-ghost use mathlib.Core.List.{[], map, _++_};
+ghost use mathlib.Core.List.{map, _++_};
 ghost use Prim.Native.Nat.{_+_, _-_, _<_, _≤_, ℕ};
 ghost use lib.ListN.{drop, getD, length, replicate, take};
 ghost use lib.Seq.{sets};
 ghost use Rattle.lists.specs.Lists.{has, padded, sum, tabulate};
-ghost use Rattle.pattern.specs.Checks.{patternFaults};
 ghost use Rattle.shell.specs.Shells.{faceNumber};
 ghost use Rattle.shell_wires.specs.Flags.{NameFaces, listsFlagged, wireFlags};
 ghost use Rattle.pattern.specs.declared.Pattern.{Pattern};
-ghost use Rattle.shell_wires.specs.Lent.{Listed, marksOf};
-ghost use Rattle.shell_wires.specs.ShellWires.{shellWires};
-use edge::backs_of;
-use edge::fronts_of;
-use face::wire_counts;
-use pattern::Pattern;
+ghost use Rattle.shell_wires.specs.Lent.{Listed};
+ghost use Rattle.shell_wires.specs.ShellWires.{marksOf};
 use words::index;
 use words::sum_of;
 
-// Which wires a shell has, and whether another shell lists one of its faces; with the ends of the
-// edges.
-pub struct ShellWires {
-    pub shared: bool,
-    pub wires: [bool; 1024],
-    pub fronts: [u16; 1024],
-    pub backs: [u16; 1024],
-}
-
-// The same without the ends of the edges.
+// Which wires a shell has, and whether another shell lists one of its faces.
 pub struct Marks {
     pub shared: bool,
     pub wires: [bool; 1024],
@@ -134,27 +120,4 @@ pub fn mark_wires<'a>(
     let shared = lists_outside(listings, counts[6], first, end, &flags);
     let wires = wire_flags(&flags, faces, counts[4]);
     Marks { shared, wires }
-}
-
-// The wires of shell n of a pattern without fault.
-pub fn shell_wires(p: Pattern, n: usize) -> ShellWires
-    requires { ⌜ patternFaults p ≡ [] ⌝ }
-    requires { ⌜ n < getD (p .counts) 5 0 ⌝ }
-    ensures { λ r. ⌜ r ≡ shellWires p n ⌝ }
-{
-    let faces = p.faces;
-    let counts = wire_counts(faces);
-    let numbers = p.counts;
-    let marks = mark_wires(numbers, &counts, &p.shells, &p.listings, n);
-    let shared = marks.shared;
-    let wires = marks.wires;
-    let edges = p.edges;
-    let fronts = fronts_of(edges);
-    let backs = backs_of(edges);
-    ShellWires {
-        shared,
-        wires,
-        fronts,
-        backs,
-    }
 }
