@@ -3,16 +3,16 @@ use Prim.Native.Nat.{ℕ}
 use mathlib.Core.Bool.{Bool}
 use Rattle.lists.specs.Lists.{pick}
 use Rattle.answers.specs.declared.Answer.{Answer}
-use Rattle.calls.specs.declared.Conditioned.{Conditioned}
-use Rattle.calls.specs.declared.Conditioned.the-variants.{Is as Conditioned·Is, NoShell as Conditioned·NoShell, Refused as Conditioned·Refused}
-use Rattle.calls.specs.declared.Connected.{Connected}
-use Rattle.calls.specs.declared.Connected.the-variants.{Is as Connected·Is, NoShell as Connected·NoShell, Refused as Connected·Refused}
-use Rattle.calls.specs.declared.Grouped.{Grouped}
-use Rattle.calls.specs.declared.Grouped.the-variants.{Found as Grouped·Found, NoShell as Grouped·NoShell, Refused as Grouped·Refused}
-use Rattle.calls.specs.declared.Opened.{Opened}
-use Rattle.calls.specs.declared.Opened.the-variants.{Found as Opened·Found, NoShell as Opened·NoShell, Refused as Opened·Refused}
-use Rattle.calls.specs.declared.Points.{Points}
-use Rattle.calls.specs.declared.Points.the-variants.{Found as Points·Found, NoShell as Points·NoShell, Refused as Points·Refused}
+use Rattle.shell_calls.specs.declared.Conditioned.{Conditioned}
+use Rattle.shell_calls.specs.declared.Conditioned.the-variants.{Is as Conditioned·Is, NoShell as Conditioned·NoShell, Refused as Conditioned·Refused}
+use Rattle.group_calls.specs.declared.Connected.{Connected}
+use Rattle.group_calls.specs.declared.Connected.the-variants.{Is as Connected·Is, NoShell as Connected·NoShell, Refused as Connected·Refused}
+use Rattle.group_calls.specs.declared.Grouped.{Grouped}
+use Rattle.group_calls.specs.declared.Grouped.the-variants.{Found as Grouped·Found, NoShell as Grouped·NoShell, Refused as Grouped·Refused}
+use Rattle.shell_calls.specs.declared.Opened.{Opened}
+use Rattle.shell_calls.specs.declared.Opened.the-variants.{Found as Opened·Found, NoShell as Opened·NoShell, Refused as Opened·Refused}
+use Rattle.group_calls.specs.declared.Points.{Points}
+use Rattle.group_calls.specs.declared.Points.the-variants.{Found as Points·Found, NoShell as Points·NoShell, Refused as Points·Refused}
 use Rattle.edit_answers.specs.Answers.{editNumber, faceEditNumber}
 use Rattle.edit_answers.specs.declared.CutAnswer.{CutAnswer}
 use Rattle.edit_answers.specs.declared.CutAnswer.the-variants.{Cut, Not as Cut·Not, Refused as Cut·Refused}

@@ -2,11 +2,6 @@
 // refusal, and the values.
 ghost use mathlib.Core.Path.{_≡_};
 ghost use Rattle.answers.specs.Values.{checkValues, componentsValues, conditionValues, connectedValues, cutValues, done, faceValues, joinValues, openingsValues, placeValues, refused as refusedAnswer, singularValues, solidValues, unread as unreadAnswer, writtenValues};
-use calls::Conditioned;
-use calls::Connected;
-use calls::Grouped;
-use calls::Opened;
-use calls::Points;
 use edit_answers::CutAnswer;
 use edit_answers::FaceAnswer;
 use edit_answers::JoinAnswer;
@@ -17,7 +12,12 @@ use errors::Refusal;
 use errors::body_of;
 use errors::number_of;
 use errors::record_of;
+use group_calls::Connected;
+use group_calls::Grouped;
+use group_calls::Points;
 use pattern::WirePlace;
+use shell_calls::Conditioned;
+use shell_calls::Opened;
 use solid::reason_number;
 use solid_calls::SolidAnswer;
 use words::index;

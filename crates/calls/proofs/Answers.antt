@@ -1,19 +1,17 @@
--- The answers of the calls, case by case; the arrays of a shell's figures.
+-- Whether there is a shell; the arrays of a shell's figures, and what a call leaves in the lent lists.
 use Prim.Native.Nat.{_-_, _<_, _≤_, ℕ}
 use mathlib.Core.Bool.{Bool, false, true}
 use mathlib.Core.List.{List, [], _∷_, map}
-use mathlib.Core.Path.{_∙_, _≡_, ap, refl, sym}
+use mathlib.Core.Path.{_∙_, _≡_, ap, refl}
 use native.Mathlib.Omega.{arith}
 use lib.Dec.{ltb}
-use lib.ListN.{getD, length, length-append, length-map, replicate, take}
+use lib.ListN.{getD, length, length-append, replicate, take}
 use lib.Seq.{sets, take-append-seam}
 use borrow.Author.Tests.{le-ltb, lt-ltb, ltb-true}
-use Rattle.calls.specs.Calls.{componentsWhen, ifThere, presence, presenceOf}
-use Rattle.calls.specs.Figures.{GroupsHeld, Held, OpeningsHeld}
-use Rattle.calls.specs.declared.Grouped.the-variants.{Found}
-use Rattle.calls.specs.declared.Presence.{Presence}
+use Rattle.calls.specs.Calls.{ifThere, presence, presenceOf}
+use Rattle.calls.specs.Figures.{Held}
 use Rattle.calls.specs.declared.Presence.the-variants.{NoShell, Refused, There}
-use Rattle.columns.specs.Columns.{columnsIn}
+use Rattle.calls.specs.declared.Presence.{Presence}
 use Rattle.columns.specs.Sound.{Sound}
 use Rattle.errors.specs.Faults.{first}
 use Rattle.errors.specs.declared.Check.the-variants.{Refused as Check·Refused}
@@ -23,14 +21,6 @@ use Rattle.pattern.proofs.Counts.{shells-counted}
 use Rattle.pattern.specs.Checks.{patternFaults}
 use Rattle.pattern.specs.Contents.{Content, content}
 use Rattle.pattern.specs.declared.Pattern.{Pattern}
-use Rattle.reports.proofs.Groups.{components-bound, members-are, pairs-bound, singular-bound}
-use Rattle.reports.specs.Figures.{groupsFound, openingsFound}
-use Rattle.reports.specs.declared.ShellGroups.{ShellGroups}
-use Rattle.reports.specs.declared.ShellOpenings.{ShellOpenings}
-use Rattle.shell.specs.Components.{components}
-use Rattle.shell.specs.Openings.{shellWalk}
-use Rattle.shell.specs.Shells.{listingsOf}
-use Rattle.shell.specs.Singular.{singularPoints}
 
 -- ---- whether there is a shell
 pub presence-refused : (fs : List Refusal) (c : Content) (n : ℕ) (f : Refusal) → first fs ≡ Check·Refused f → Refused f ≡ presenceOf fs c n
@@ -65,44 +55,13 @@ module _ (p : Pattern) (n : ℕ) (h : presence p n ≡ There) where
 
 -- ---- the arrays
 module _ (m : ℕ) (xs : List ℕ) (few : length xs ≤ m) where
-  held : (array : List ℕ) (n : ℕ) → array ≡ padded m 0 xs → n ≡ length xs → Held xs m array n
+  pub held : (array : List ℕ) (n : ℕ) → array ≡ padded m 0 xs → n ≡ length xs → Held xs m array n
   held array n a e = record {
     long = e;
     first = rw (a, e) (take-append-seam xs (replicate (m - length xs) 0));
     inside = omega (arith, e, ap length a, length-append xs (replicate (m - length xs) 0));
     few = omega arith;
   }
-
-module _ (c : Content) (n : ℕ) (o : ShellOpenings) (e : o ≡ openingsFound c n) where
-  pub openings-held : (o .used ≤ 2048) → (o .openings ≤ 2048) → OpeningsHeld c n o
-  openings-held a b =
-      let os = shellWalk c n .openings in
-      let u : o .used ≡ length (flat os) = ap (λ (r : ShellOpenings). r .used) e in
-      let l : o .openings ≡ length os = ap (λ (r : ShellOpenings). r .openings) e in
-      record {
-        uses = held 2048 (flat os) (omega arith) (o .uses) (o .used) (ap (λ (r : ShellOpenings). r .uses) e) u;
-        lens = held 2048 (map length os) (omega (arith, length-map os length)) (o .lens) (o .openings) (ap (λ (r : ShellOpenings). r .lens) e) (l ∙ sym (length-map os length));
-      }
-
-module _ (p : Pattern) (s : Sound p) (n : ℕ) (here : n < getD (p .counts) 5 0) (g : ShellGroups) (e : g ≡ groupsFound (content p) n) where
-  pub groups-held : GroupsHeld (content p) n g
-  groups-held =
-      let cs = components (content p) n in
-      record {
-        pairs =
-            held 512 (flat cs) (omega (arith, members-are p s n here, pairs-bound p s n here)) (g .pairs) (g .members) (ap (λ (r : ShellGroups). r .pairs) e)
-            (ap (λ (r : ShellGroups). r .members) e ∙ sym (members-are p s n here));
-        lens =
-            held 512 (map length cs) (omega (arith, length-map cs length, components-bound p s n here)) (g .lens) (g .components) (ap (λ (r : ShellGroups). r .lens) e)
-            (ap (λ (r : ShellGroups). r .components) e ∙ sym (length-map cs length));
-        points =
-            held 2048 (singularPoints (content p) n) (singular-bound p s n here) (g .points) (g .singular) (ap (λ (r : ShellGroups). r .points) e)
-            (ap (λ (r : ShellGroups). r .singular) e);
-      }
-
--- the number of members is that of the components' pairs
-pub components-found : (c : Content) (n : ℕ) (g : ShellGroups) → g ≡ groupsFound c n → GroupsHeld c n g → Found (g .components) (g .members) ≡ componentsWhen There c n
-components-found c n g e h = let k : g .components ≡ length (components c n) = ap (λ (r : ShellGroups). r .components) e in rw (k, h .pairs .long)
 
 -- ---- what stands in the lent lists after a call
 module _ (q : Presence) (xss : List (List ℕ)) where

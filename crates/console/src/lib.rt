@@ -1,6 +1,55 @@
-// What the programs share: the files that the arguments name, and texts written to a descriptor. No
-// contract says what a descriptor was given; the texts are proved where they are made.
+// What the programs share: their usage, standard input read to its end, the files that the arguments
+// name, and texts written to a descriptor. No contract says what a descriptor gave or was given; the texts
+// are proved where they are made.
+ghost use Rattle.io.specs.Counts.{Counts};
 use errors::Refusal;
+use libc::STDERR_FILENO;
+use libc::STDIN_FILENO;
+
+// Whether the program was started with so many words after its name. Where it was not, its usage goes to
+// standard error.
+pub fn is_used(words: usize, usage: &[u8]) -> bool {
+    let given = os::arg_count();
+    if given > 0 {
+        if given - 1 == words {
+            return true;
+        }
+    }
+    io::write_all(STDERR_FILENO, usage);
+    false
+}
+
+// Reads the rest of an input that is longer than any that is taken.
+fn drain() {
+    let mut scratch = [0u8; 4096];
+    let mut turn: u64 = 0;
+    while turn < 18446744073709551615 {
+        if io::read_full(STDIN_FILENO, &mut scratch) == 0 {
+            return;
+        }
+        turn += 1;
+    }
+}
+
+// Reads standard input to its end, and answers how many bytes it put at the start of the list: a list of
+// one byte more than is taken is full where the input is too long.
+pub fn read_input(bytes: &mut [u8]) -> usize
+    ensures { λ r. ⌜ Counts r (now (bytes .exit)) ⌝ }
+{
+    let n = io::read_full(STDIN_FILENO, bytes);
+    if n == bytes.len() {
+        drain();
+    }
+    n
+}
+
+// The first n bytes, or nothing where there are fewer. Whether all was written.
+pub fn print_first(fd: i32, bytes: &[u8], n: usize) -> bool {
+    if n > bytes.len() {
+        return false;
+    }
+    io::write_all(fd, &bytes[0..n])
+}
 
 // The line of a refusal, `output::refusal_line`. Whether all of it was written.
 pub fn print_refusal(fd: i32, f: Refusal) -> bool {

@@ -15,7 +15,7 @@ use Rattle.pattern.specs.Checks.{contentFaults, countFaults}
 use Rattle.pattern.specs.Contents.{Content, content, countsOf, stored}
 use Rattle.pattern_file.proofs.RoundTrip.{content-of-stored}
 use Rattle.pattern_file.specs.File.{countAt, fileBytes, fileContent, fileCounts, fileFaults, startOf, tableFaults}
-use Rattle.reader.proofs.Laws.{counts-of-content, full}
+use Rattle.file_table.proofs.Laws.{counts-of-content, full}
 use Rattle.shell_edits.proofs.Stored.{edited-few}
 use Rattle.shell_edits.specs.Edits.{edited}
 use Rattle.writer.proofs.Parts.{upto-length}

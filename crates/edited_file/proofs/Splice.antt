@@ -17,7 +17,7 @@ use Rattle.lists.specs.Lists.{flat, tabulate}
 use Rattle.pattern.specs.Contents.{Content, countsOf}
 use Rattle.pattern_file.proofs.RoundTrip.{written-of-read}
 use Rattle.pattern_file.specs.File.{edgeBytes, faceBytes, fileBytes, fileContent, fileCounts, fileFaults, startOf, tableBytes}
-use Rattle.reader.proofs.Laws.{counts-of-content}
+use Rattle.file_table.proofs.Laws.{counts-of-content}
 use Rattle.shell_edits.specs.Edits.{edited}
 use Rattle.words.proofs.Laws.{Bytes}
 use Rattle.words.specs.Words.{bytes16, bytes32}

@@ -14,8 +14,8 @@ ghost use Rattle.pattern_file.specs.File.{countAt, edgeBytes, fileBytes, fileCo
 ghost use Rattle.writer.specs.Writing.{writeAnswer, writeBytes};
 ghost use Rattle.edited_file.specs.EditedFile.{editedFile};
 use edge::Edge;
+use file_table::counts_of;
 use pattern_file::starts_of;
-use reader::counts_of;
 use writer::Written;
 use writer::put_edge;
 use writer::put_table;

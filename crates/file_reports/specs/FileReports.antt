@@ -3,7 +3,8 @@ use Prim.Native.Nat.{ℕ}
 use mathlib.Core.List.{List}
 use Rattle.answers.specs.Values.{checkValues, componentsValues, conditionValues, connectedValues, openingsValues, placeValues, singularValues, solidValues, writtenValues}
 use Rattle.answers.specs.declared.Answer.{Answer}
-use Rattle.calls.specs.Calls.{componentsAnswer, componentsOut, conditionAnswer, connectedAnswer, openingsAnswer, openingsOut, singularAnswer, singularOut}
+use Rattle.group_calls.specs.GroupCalls.{componentsAnswer, componentsOut, connectedAnswer, singularAnswer, singularOut}
+use Rattle.shell_calls.specs.ShellCalls.{conditionAnswer, openingsAnswer, openingsOut}
 use Rattle.pattern.specs.Outlines.{wirePlace}
 use Rattle.reader.specs.Reading.{reading}
 use Rattle.solid_calls.specs.Solids.{solidAnswer}

@@ -30,7 +30,7 @@ item-short u =
       pick-short 1 (leb 32768 u) (ascii "-") (ascii "+") (omega arith) (omega arith),
     )
 
-items-short : (us : List ℕ) → length (flat (map item us)) ≤ 7 * length us
+pub items-short : (us : List ℕ) → length (flat (map item us)) ≤ 7 * length us
 unfolding flat
 items-short [] = omega arith
 items-short (u ∷ us) = omega (arith, items-short us, item-short u, length-append (item u) (flat (map item us)), mul-suc 7 (length us))
@@ -52,7 +52,7 @@ lines-short word (n ∷ ns) items =
       length-append (take n items) (drop n items),
     )
 
-number-short : (word : List ℕ) (k n : ℕ) → length (decimal n) ≤ k → length (wordNumber word n) ≤ length word + k + 1
+pub number-short : (word : List ℕ) (k n : ℕ) → length (decimal n) ≤ k → length (wordNumber word n) ≤ length word + k + 1
 number-short word k n h = omega (arith, length-append word (decimal n), length-append (word ++ decimal n) (ascii "\n"))
 
 numbers-short : (word ns : List ℕ) → ((k : ℕ) → getD ns k 0 < 65536) → length (wordNumbers word ns) ≤ (length word + 6) * length ns

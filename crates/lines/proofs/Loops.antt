@@ -10,7 +10,6 @@ use Rattle.lists.proofs.Laws.{length-split}
 use Rattle.lists.proofs.Sets.{Put, flat-next, put-then}
 use Rattle.lists.proofs.Split.{Walk, walk-fits, walk-next, walk-part, walk-start}
 use Rattle.lists.specs.Lists.{flat, split, sum}
-use Rattle.lines.specs.Parts.{wordLine, wordLines}
 
 module _ {ℓ} {A : Type ℓ} (f : A → List ℕ) where
   -- a part of the elements has no longer text than all
@@ -59,36 +58,36 @@ module _ {ℓ} {A : Type ℓ} (f : A → List ℕ) where
     pub putting-all : length xs ≤ k → Put l at (flat (map f xs)) out end
     putting-all h = rw (take-all k xs h) at (s .so-far)
 
--- the lines of k parts are written, and the next part begins at place `start` of the items
-pub record Lining (l : List ℕ) (at : ℕ) (word items lens out : List ℕ) (end start k : ℕ) : Type 0 where
-  pub summed : sum lens ≡ length items
-  pub walk : Walk lens k start
-  pub putting : Putting (wordLine word) l at (split lens items) out end k
+-- the texts of k parts, each given by f, are written, and the next part begins at place `start` of the items
+module _ (f : List ℕ → List ℕ) where
+  pub record Lining (l : List ℕ) (at : ℕ) (items lens out : List ℕ) (end start k : ℕ) : Type 0 where
+    pub summed : sum lens ≡ length items
+    pub walk : Walk lens k start
+    pub putting : Putting f l at (split lens items) out end k
 
-pub lining-start : (l : List ℕ) (at : ℕ) (word items lens : List ℕ) → sum lens ≡ length items → at + length (wordLines word lens items) ≤ length l
-    → Lining l at word items lens l at 0 0
-lining-start l at word items lens e h =
-    record { summed = e; walk = walk-start lens; putting = putting-start (wordLine word) l at (split lens items) h }
+  pub lining-start : (l : List ℕ) (at : ℕ) (items lens : List ℕ) → sum lens ≡ length items → at + length (flat (map f (split lens items))) ≤ length l
+      → Lining l at items lens l at 0 0
+  lining-start l at items lens e h = record { summed = e; walk = walk-start lens; putting = putting-start f l at (split lens items) h }
 
-module _ {l : List ℕ} {at : ℕ} {word items lens out : List ℕ} {end start k : ℕ} (s : Lining l at word items lens out end start k) where
-  module _ {n : ℕ} (h : k < length lens) (is : n ≡ getD lens k 0) where
-    pub lining-fits : start + n ≤ length items
-    lining-fits = omega (arith, walk-fits lens k start n (s .walk) h is, s .summed)
+  module _ {l : List ℕ} {at : ℕ} {items lens out : List ℕ} {end start k : ℕ} (s : Lining l at items lens out end start k) where
+    module _ {n : ℕ} (h : k < length lens) (is : n ≡ getD lens k 0) where
+      pub lining-fits : start + n ≤ length items
+      lining-fits = omega (arith, walk-fits lens k start n (s .walk) h is, s .summed)
 
-    inside : k < length (split lens items)
-    inside = omega (arith, length-split lens items)
+      inside : k < length (split lens items)
+      inside = omega (arith, length-split lens items)
 
-    pub lining-room : end + length (wordLine word (take (start + n - start) (drop start items))) ≤ length out
-    lining-room = putting-room (wordLine word) (s .putting) [] inside (walk-part lens k start n (s .walk) h is items)
+      pub lining-room : end + length (f (take (start + n - start) (drop start items))) ≤ length out
+      lining-room = putting-room f (s .putting) [] inside (walk-part lens k start n (s .walk) h is items)
 
-    pub lining-next : (out′ : List ℕ) (end′ : ℕ) → Put out end (wordLine word (take (start + n - start) (drop start items))) out′ end′
-        → Lining l at word items lens out′ end′ (start + n) (k + 1)
-    lining-next out′ end′ p =
-        record {
-          summed = s .summed;
-          walk = walk-next lens k start n (s .walk) h is;
-          putting = putting-next (wordLine word) (s .putting) [] inside (walk-part lens k start n (s .walk) h is items) out′ end′ p;
-        }
+      pub lining-next : (out′ : List ℕ) (end′ : ℕ) → Put out end (f (take (start + n - start) (drop start items))) out′ end′
+          → Lining l at items lens out′ end′ (start + n) (k + 1)
+      lining-next out′ end′ p =
+          record {
+            summed = s .summed;
+            walk = walk-next lens k start n (s .walk) h is;
+            putting = putting-next f (s .putting) [] inside (walk-part lens k start n (s .walk) h is items) out′ end′ p;
+          }
 
-  pub lining-all : length lens ≤ k → Put l at (wordLines word lens items) out end
-  lining-all h = putting-all (wordLine word) (s .putting) (omega (arith, length-split lens items))
+    pub lining-all : length lens ≤ k → Put l at (flat (map f (split lens items))) out end
+    lining-all h = putting-all f (s .putting) (omega (arith, length-split lens items))

@@ -46,7 +46,7 @@ fn put_item(out: &mut [u8], at: usize, u: u16) -> usize
 }
 
 // Writes the uses or listings of a line.
-fn put_items(out: &mut [u8], at: usize, us: &[u16]) -> usize
+pub fn put_items(out: &mut [u8], at: usize, us: &[u16]) -> usize
     requires { ⌜ at + length (flat (map item (now us))) ≤ length (now out) ⌝ }
     ensures { λ r. ⌜ (now (out .exit) ≡ sets (now (out .entry)) at (flat (map item (now (us .entry))))) × (r ≡ at + length (flat (map item (now (us .entry))))) ⌝ }
 {
@@ -88,7 +88,7 @@ pub fn put_lines(out: &mut [u8], at: usize, word: &[u8], items: &[u16], lens: &[
 }
 
 // Writes a line: a word, and a number after it.
-fn put_number(out: &mut [u8], at: usize, word: &[u8], n: usize) -> usize
+pub fn put_number(out: &mut [u8], at: usize, word: &[u8], n: usize) -> usize
     requires { ⌜ at + length (wordNumber (now word) n) ≤ length (now out) ⌝ }
     ensures { λ r. ⌜ (now (out .exit) ≡ sets (now (out .entry)) at (wordNumber (now (word .entry)) n)) × (r ≡ at + length (wordNumber (now (word .entry)) n)) ⌝ }
 {

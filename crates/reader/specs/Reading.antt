@@ -1,13 +1,9 @@
 -- What the reader answers: the first fault of the file, and the pattern.
-use mathlib.Core.List.{List, [], _∷_, map}
-use mathlib.Core.Path.{_≡_}
+use mathlib.Core.List.{List, [], _∷_}
 use Prim.Native.Nat.{ℕ}
-use Rattle.edge.specs.Edges.{backNumber, frontNumber}
 use Rattle.errors.specs.declared.Refusal.{Refusal}
 use Rattle.errors.specs.declared.Check.the-variants.{Accepted, Refused}
-use Rattle.face.specs.Faces.{wireCount}
 use Rattle.pattern.specs.Contents.{Content, stored}
-use Rattle.pattern.specs.declared.Pattern.{Pattern}
 use Rattle.pattern_file.specs.File.{fileContent, fileFaults}
 use Rattle.reader.specs.declared.Reading.{Reading}
 
@@ -26,13 +22,3 @@ readingOf (f ∷ fs) c = refusal f
 
 abbrev pub reading : List ℕ → Reading
 reading s = readingOf (fileFaults s) (fileContent s)
-
--- the tables of a pattern as columns of numbers, without labels, curves and surfaces
-pub record Tables (p : Pattern) (fronts backs uses wires faces shells listings : List ℕ) : Type 0 where
-  pub fronts-are : fronts ≡ map frontNumber (p .edges)
-  pub backs-are : backs ≡ map backNumber (p .edges)
-  pub uses-are : uses ≡ p .uses
-  pub wires-are : wires ≡ p .wires
-  pub faces-are : faces ≡ map wireCount (p .faces)
-  pub shells-are : shells ≡ p .shells
-  pub listings-are : listings ≡ p .listings

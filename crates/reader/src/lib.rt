@@ -3,25 +3,21 @@ ghost use mathlib.Core.Path.{_≡_};
 ghost use mathlib.Core.List.{[], _++_};
 ghost use Prim.Native.Nat.{ℕ, _+_, _*_, _≤_};
 ghost use lib.Ieee.{binary64, ofBits};
-ghost use lib.ListN.{length, drop, replicate};
+ghost use lib.ListN.{length, drop};
 ghost use Rattle.lists.specs.Lists.{tabulate, padded};
 ghost use Rattle.words.specs.Words.{le16, le32, le64};
-ghost use Rattle.errors.specs.Faults.{first as firstFault, each};
 ghost use Rattle.pattern.specs.Contents.{stored, zeroEdge, zeroFace};
-ghost use Rattle.pattern.specs.Checks.{contentFaults, edgeFaults};
-ghost use Rattle.pattern_file.specs.File.{startOf, fileCounts, edgeAt, faceAt, fileContent, offsetFaults, tableFaults};
-ghost use Rattle.reader.specs.Reading.{reading, refusal, Tables};
+ghost use Rattle.pattern_file.specs.File.{edgeAt, faceAt, fileContent, tableFaults};
+ghost use Rattle.reader.specs.Reading.{reading, refusal};
 use edge::Curve;
 use edge::Edge;
 use errors::Check;
 use errors::Refusal;
 use face::Face;
+use file_table::check_table;
+use file_table::counts_of;
 use pattern::Pattern;
-use pattern::check_columns;
 use pattern::check_content;
-use pattern::check_counts;
-use pattern::check_edge;
-use pattern::file_layout;
 use pattern_file::starts_of;
 use vertex::VertexID;
 use words::u16_at;
@@ -32,60 +28,6 @@ use words::u64_at;
 pub struct Reading {
     pub answer: Check,
     pub pattern: Pattern,
-}
-
-// The counts of the contents table.
-pub fn counts_of(s: &[u8]) -> [usize; 7]
-    requires { ⌜ 56 ≤ length (now s) ⌝ }
-    ensures { λ r. ⌜ r ≡ fileCounts (now (s .entry)) ⌝ }
-{
-    let mut out = [0usize; 7];
-    let mut b: usize = 0;
-    while b < 7 {
-        out[b] = u32_at(s, 8 * b + 4) as usize;
-        b += 1;
-    }
-    out
-}
-
-// The offsets of the contents table in body order, then the end of file: 1.
-fn check_offsets(s: &[u8], starts: [usize; 8]) -> Check
-    requires { ⌜ 56 ≤ length (now s) ⌝ }
-    requires { ⌜ starts ≡ tabulate 8 (startOf (fileCounts (now s))) ⌝ }
-    ensures { λ r. ⌜ r ≡ firstFault (offsetFaults (now (s .entry))) ⌝ }
-{
-    let mut b: usize = 0;
-    while b < 7 {
-        if u32_at(s, 8 * b) as usize != starts[b] {
-            return Check::Refused(Refusal::Layout(b));
-        }
-        b += 1;
-    }
-    if s.len() != starts[7] {
-        return Check::Refused(Refusal::Layout(6));
-    }
-    Check::Accepted
-}
-
-// The contents table: length, counts, offsets, end of file.
-pub fn check_table(s: &[u8]) -> Check
-    ensures { λ r. ⌜ r ≡ firstFault (tableFaults (now (s .entry))) ⌝ }
-{
-    let lay = file_layout();
-    let limits = lay.limits;
-    let longest = starts_of(limits);
-    if s.len() < lay.first {
-        return Check::Refused(Refusal::Layout(0));
-    }
-    if s.len() > longest[7] {
-        return Check::Refused(Refusal::Layout(0));
-    }
-    let counts = counts_of(s);
-    let answer = check_counts(counts);
-    match answer {
-        Check::Refused(f) => Check::Refused(f),
-        Check::Accepted => check_offsets(s, starts_of(counts)),
-    }
 }
 
 // The f64 whose bits stand at `at`; the bits of a NaN give the NaN.
@@ -122,7 +64,7 @@ fn face_at(s: &[u8], at: usize) -> Face
 }
 
 // Reads n numbers, one in each `step` bytes, to the front of a list.
-fn read_u16s(s: &[u8], at: usize, step: usize, n: usize, out: &mut [u16])
+pub fn read_u16s(s: &[u8], at: usize, step: usize, n: usize, out: &mut [u16])
     requires { ⌜ (at + step * n + 2 ≤ length (now s) + step) × (n ≤ length (now out)) ⌝ }
     ensures { λ _. ⌜ now (out .exit) ≡ tabulate n (λ (k : ℕ). le16 (now (s .entry)) (at + step * k)) ++ drop n (now (out .entry)) ⌝ }
 {
@@ -250,84 +192,5 @@ fn refused(f: Refusal) -> Reading
     Reading {
         answer: Check::Refused(f),
         pattern,
-    }
-}
-
-// Reads the tables of a file whose contents table is right as columns: the ends of the edges, the
-// uses, the wires, the faces' numbers of wires, the shells, the listings.
-pub fn read_columns(
-    s: &[u8],
-    fronts: &mut [u16],
-    backs: &mut [u16],
-    uses: &mut [u16],
-    wires: &mut [u16],
-    faces: &mut [u16],
-    shells: &mut [u16],
-    listings: &mut [u16],
-)
-    requires { ⌜ tableFaults (now s) ≡ [] ⌝ }
-    requires { ⌜ (now fronts ≡ replicate 1024 0) × (now backs ≡ replicate 1024 0) × (now uses ≡ replicate 4096 0) × (now wires ≡ replicate 1024 0) × (now faces ≡ replicate 256 0) × (now shells ≡ replicate 16 0) × (now listings ≡ replicate 512 0) ⌝ }
-    ensures { λ _. ⌜ Tables (stored (fileContent (now (s .entry)))) (now (fronts .exit)) (now (backs .exit)) (now (uses .exit)) (now (wires .exit)) (now (faces .exit)) (now (shells .exit)) (now (listings .exit)) ⌝ }
-{
-    let counts = counts_of(s);
-    let starts = starts_of(counts);
-    read_u16s(s, starts[1], 20, counts[1], fronts);
-    read_u16s(s, starts[1] + 2, 20, counts[1], backs);
-    read_u16s(s, starts[2], 2, counts[2], uses);
-    read_u16s(s, starts[3], 2, counts[3], wires);
-    read_u16s(s, starts[4], 4, counts[4], faces);
-    read_u16s(s, starts[5], 2, counts[5], shells);
-    read_u16s(s, starts[6], 2, counts[6], listings);
-}
-
-// Checks n edges, each where it stands in the file.
-fn check_edges(s: &[u8], at: usize, n: usize, points: usize) -> Check
-    requires { ⌜ (at + 20 * n ≤ length (now s)) × (n ≤ 1024) ⌝ }
-    ensures { λ r. ⌜ r ≡ firstFault (each (edgeFaults points) 0 (tabulate n (λ (k : ℕ). edgeAt (now (s .entry)) (at + 20 * k)))) ⌝ }
-{
-    let mut k: usize = 0;
-    while k < n {
-        let answer = check_edge(edge_at(s, at + 20 * k), k, points);
-        match answer {
-            Check::Refused(f) => {
-                return Check::Refused(f);
-            }
-            Check::Accepted => {}
-        }
-        k += 1;
-    }
-    Check::Accepted
-}
-
-// The reading checks of a file whose contents table is right, on its columns.
-pub fn check_file<'a>(
-    s: &[u8],
-    fronts: &'a [u16],
-    backs: &'a [u16],
-    uses: &'a [u16],
-    wires: &'a [u16],
-    faces: &'a [u16],
-    shells: &'a [u16],
-    listings: &'a [u16],
-) -> Check
-    requires { ⌜ tableFaults (now s) ≡ [] ⌝ }
-    requires { ⌜ Tables (stored (fileContent (now s))) (now fronts) (now backs) (now uses) (now wires) (now faces) (now shells) (now listings) ⌝ }
-    ensures { λ r. ⌜ r ≡ firstFault (contentFaults (fileContent (now (s .entry)))) ⌝ }
-{
-    let counts = counts_of(s);
-    let starts = starts_of(counts);
-    let edges = check_edges(s, starts[1], counts[1], counts[0]);
-    match edges {
-        Check::Refused(f) => Check::Refused(f),
-        Check::Accepted => check_columns(
-            counts,
-            fronts,
-            backs,
-            uses,
-            wires,
-            faces,
-            shells,
-            listings,
-        ),
     }
 }

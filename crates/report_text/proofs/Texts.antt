@@ -29,8 +29,9 @@ use Rattle.pattern.specs.Contents.{Content, content, countsOf, stored}
 use Rattle.pattern.specs.declared.Pattern.{Pattern}
 use Rattle.pattern_file.proofs.RoundTrip.{content-of-stored}
 use Rattle.pattern_file.specs.File.{fileContent, fileCounts, fileFaults, tableFaults}
-use Rattle.reader.proofs.Laws.{counts-of-content, full, limits, stored-passes}
-use Rattle.reader.specs.Reading.{Tables}
+use Rattle.file_table.proofs.Laws.{counts-of-content, full, limits}
+use Rattle.reader.proofs.Laws.{stored-passes}
+use Rattle.file_columns.specs.Columns.{Tables}
 use Rattle.report_text.specs.Report.{reportOf, reportText, shellReport, solidText, textFor}
 use Rattle.report_text.specs.Texts.{Shelled, Tabled, arrayLines}
 use Rattle.report_text.specs.declared.ShellText.{ShellText}

@@ -11,7 +11,7 @@ use Rattle.pattern.proofs.Counts.{Full, Limited}
 use Rattle.pattern.specs.Checks.{patternFaults}
 use Rattle.pattern.specs.Contents.{Content}
 use Rattle.pattern.specs.declared.Pattern.{Pattern}
-use Rattle.reader.specs.Reading.{Tables}
+use Rattle.file_columns.specs.Columns.{Tables}
 use Rattle.report_text.specs.Report.{shellReport}
 use Rattle.report_text.specs.declared.ShellText.{ShellText}
 use Rattle.solid.specs.Solid.{firstError, shellErrors}

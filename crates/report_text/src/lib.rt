@@ -13,13 +13,13 @@ ghost use Rattle.report_text.specs.Report.{reportOf, reportText, solidTe
 ghost use Rattle.report_text.specs.Texts.{arrayLines, OfTables, Shelled, Tabled};
 use columns::put_columns;
 use errors::Check;
+use file_columns::check_file;
+use file_columns::read_columns;
+use file_table::check_table;
+use file_table::counts_of;
 use lines::put_shell;
 use lines::put_solid;
 use output::put_refusal;
-use reader::check_file;
-use reader::check_table;
-use reader::counts_of;
-use reader::read_columns;
 use reports::put_groups;
 use reports::put_openings;
 use solid::ShellCheck;

@@ -55,7 +55,7 @@ pub fn put_u16s(out: &mut [u8], at: usize, ns: &[u16], n: usize)
 }
 
 // Writes the first n points, of four bytes each, from `at` on.
-fn put_points(out: &mut [u8], at: usize, points: &[u32], n: usize)
+pub fn put_points(out: &mut [u8], at: usize, points: &[u32], n: usize)
     requires { ⌜ (at + 4 * n ≤ length (now out)) × (n ≤ length (now points)) ⌝ }
     ensures { λ _. ⌜ now (out .exit) ≡ sets (now (out .entry)) at (flat (map bytes32 (take n (now (points .entry))))) ⌝ }
 {

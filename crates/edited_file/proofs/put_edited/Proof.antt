@@ -12,7 +12,7 @@ use Rattle.lists.specs.Lists.{tabulate}
 use Rattle.pattern.specs.Checks.{countFaults}
 use Rattle.pattern.specs.Contents.{Content, countsOf}
 use Rattle.pattern_file.specs.File.{countAt, fileBytes, startOf}
-use Rattle.reader.proofs.Laws.{table-counts, table-long}
+use Rattle.file_table.proofs.Laws.{table-counts, table-long}
 use Rattle.writer.proofs.Laws.{write-short, write-whole}
 use Rattle.edited_file.proofs.put_edited.Statement.{statement}
 use Rattle.edited_file.proofs.put_edited.Tie as tie

@@ -4,21 +4,22 @@ use native.Mathlib.Omega.{arith}
 use lib.ListN.{length}
 use borrow.Author.Needs.{needs}
 use Rattle.lines.proofs.Loops.{Lining, lining-all, lining-fits, lining-next, lining-room, lining-start}
+use Rattle.lines.specs.Parts.{wordLine}
 use Rattle.lines.proofs.put_lines.Statement.{statement}
 use Rattle.lines.proofs.put_lines.Tie as tie
 
 abbrev Inv-loop : tie.InvT-loop
-Inv-loop out₀ at word items lens end₀ start₀ k₀ out end start k = Lining out₀ at word items lens out end start k
+Inv-loop out₀ at word items lens end₀ start₀ k₀ out end start k = Lining (wordLine word) out₀ at items lens out end start k
 
 abbrev μ-loop : tie.MeasureT-loop
 μ-loop out₀ at word items lens end₀ start₀ k₀ out end start k = length lens - k
 
 -- part k ends inside the list
 fits : (c : tie.After-index Inv-loop μ-loop) → c .before .before .before .loop .start + c .index .result ≤ length (c .before .before .before .before .before .before .before .before .args .items .now)
-fits c = lining-fits (c .before .before .before .loop .inv) (c .before .before .loop-test .taken) (c .index .ensures .0)
+fits c = lining-fits (wordLine (c .before .before .before .before .before .before .before .before .args .word .now)) (c .before .before .before .loop .inv) (c .before .before .loop-test .taken) (c .index .ensures .0)
 
 loop-holds : tie.Need-loop-holds Inv-loop μ-loop
-loop-holds c = lining-start (c .before .before .before .before .args .out .now) (c .before .before .before .before .args .at) (c .before .before .before .before .args .word .now) (c .before .before .before .before .args .items .now) (c .before .before .before .before .args .lens .now) (c .before .before .before .before .pre .0) (c .before .before .before .before .pre .1)
+loop-holds c = lining-start (wordLine (c .before .before .before .before .args .word .now)) (c .before .before .before .before .args .out .now) (c .before .before .before .before .args .at) (c .before .before .before .before .args .items .now) (c .before .before .before .before .args .lens .now) (c .before .before .before .before .pre .0) (c .before .before .before .before .pre .1)
 
 mul-index : tie.Need-mul-index Inv-loop μ-loop
 mul-index c = search needs
@@ -45,7 +46,7 @@ part-put-line-end : tie.Need-part-put-line-end Inv-loop μ-loop
 part-put-line-end c = fits (c .before)
 
 put-line-requires : tie.Need-put-line-requires Inv-loop μ-loop
-put-line-requires c κs = lining-room (c .before .before .before .before .before .loop .inv) (c .before .before .before .before .loop-test .taken) (c .before .before .index .ensures .0)
+put-line-requires c κs = lining-room (wordLine (c .before .before .before .before .before .before .before .before .before .before .args .word .now)) (c .before .before .before .before .before .loop .inv) (c .before .before .before .before .loop-test .taken) (c .before .before .index .ensures .0)
 
 add-start : tie.Need-add-start Inv-loop μ-loop
 add-start c = omega (arith, fits (c .before .before .before .before .before))
@@ -57,13 +58,13 @@ loop-less : tie.Need-loop-less Inv-loop μ-loop
 loop-less c = search needs
 
 loop-again : tie.Need-loop-again Inv-loop μ-loop
-loop-again c = lining-next (c .before .before .before .before .before .before .before .before .loop .inv) (c .before .before .before .before .before .before .before .loop-test .taken) (c .before .before .before .before .before .index .ensures .0) (c .before .before .put-line .last .0) (c .before .before .put-line .result) (c .before .before .put-line .ensures)
+loop-again c = lining-next (wordLine (c .before .before .before .before .before .before .before .before .before .before .before .before .before .args .word .now)) (c .before .before .before .before .before .before .before .before .loop .inv) (c .before .before .before .before .before .before .before .loop-test .taken) (c .before .before .before .before .before .index .ensures .0) (c .before .before .put-line .last .0) (c .before .before .put-line .result) (c .before .before .put-line .ensures)
 
 same-length : tie.Need-same-length Inv-loop μ-loop
 same-length c = c .before .loop .inv .putting .long
 
 returns : tie.Need-returns Inv-loop μ-loop
-returns c = lining-all (c .before .loop .inv) (c .loop-test .left)
+returns c = lining-all (wordLine (c .before .before .before .before .before .before .args .word .now)) (c .before .loop .inv) (c .loop-test .left)
 
 pub put-lines-spec : {M : Type 1} → statement M
 put-lines-spec =

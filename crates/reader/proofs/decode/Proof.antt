@@ -4,7 +4,8 @@ use native.Mathlib.Omega.{arith}
 use lib.ListN.{getD, length}
 use borrow.Author.Needs.{needs}
 use Rattle.pattern.specs.Contents.{layout}
-use Rattle.reader.proofs.Laws.{body-inside, decoded, table-counts, table-long}
+use Rattle.file_table.proofs.Laws.{body-inside, table-counts, table-long}
+use Rattle.reader.proofs.Laws.{decoded}
 use Rattle.reader.proofs.decode.Statement.{statement}
 use Rattle.reader.proofs.decode.Tie as tie
 

@@ -12,7 +12,8 @@ use Rattle.pattern.specs.Contents.{Content, content, stored}
 use Rattle.pattern.specs.declared.Pattern.{Pattern}
 use Rattle.pattern_file.proofs.RoundTrip.{content-of-stored}
 use Rattle.pattern_file.specs.File.{fileContent, fileFaults, tableFaults}
-use Rattle.reader.proofs.Laws.{counts-of-content, reading-accepted, reading-refused, table-counts}
+use Rattle.file_table.proofs.Laws.{counts-of-content, table-counts}
+use Rattle.reader.proofs.Laws.{reading-accepted, reading-refused}
 use Rattle.reader.proofs.read.Statement.{statement}
 use Rattle.reader.proofs.read.Tie as tie
 

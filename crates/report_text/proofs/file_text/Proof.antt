@@ -5,7 +5,7 @@ use lib.Seq.{sets}
 use borrow.Author.Needs.{needs}
 use Rattle.pattern.specs.Contents.{stored}
 use Rattle.pattern_file.specs.File.{fileContent}
-use Rattle.reader.proofs.Laws.{counts-of-content, full, limits, table-long}
+use Rattle.file_table.proofs.Laws.{counts-of-content, full, limits, table-long}
 use Rattle.report_text.proofs.Texts.{content-accepted, content-passes, content-refused, file-tabled}
 use Rattle.report_text.proofs.file_text.Statement.{statement}
 use Rattle.report_text.proofs.file_text.Tie as tie

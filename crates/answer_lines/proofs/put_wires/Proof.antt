@@ -1,0 +1,92 @@
+-- After k turns the first k wires are written.
+use Prim.Native.Nat.{_+_, _-_, _≤_}
+use native.Mathlib.Omega.{arith}
+use lib.ListN.{length}
+use borrow.Author.Needs.{needs}
+use Rattle.lines.proofs.Loops.{Lining, lining-all, lining-fits, lining-next, lining-room, lining-start}
+use Rattle.answer_lines.specs.AnswerLines.{wireText, wiresText}
+use Rattle.answer_lines.proofs.put_wires.Statement.{statement}
+use Rattle.answer_lines.proofs.put_wires.Tie as tie
+
+abbrev Inv-loop : tie.InvT-loop
+Inv-loop out₀ at us lens end₀ start₀ k₀ out end start k = Lining wireText out₀ at us lens out end start k
+
+abbrev μ-loop : tie.MeasureT-loop
+μ-loop out₀ at us lens end₀ start₀ k₀ out end start k = length lens - k
+
+-- part k ends inside the list
+fits : (c : tie.After-index Inv-loop μ-loop) → c .before .before .before .loop .start + c .index .result ≤ length (c .before .before .before .before .before .before .before .args .us .now)
+fits c = lining-fits wireText (c .before .before .before .loop .inv) (c .before .before .loop-test .taken) (c .index .ensures .0)
+
+loop-holds : tie.Need-loop-holds Inv-loop μ-loop
+unfolding wiresText
+loop-holds c = lining-start wireText (c .before .before .before .args .out .now) (c .before .before .before .args .at) (c .before .before .before .args .us .now) (c .before .before .before .args .lens .now) (c .before .before .before .pre .0) (c .before .before .before .pre .1)
+
+mul-index : tie.Need-mul-index Inv-loop μ-loop
+mul-index c = search needs
+
+shared-slice-read-index : tie.Need-shared-slice-read-index Inv-loop μ-loop
+shared-slice-read-index c = search needs
+
+index-requires : tie.Need-index-requires Inv-loop μ-loop
+index-requires c κs = search needs
+
+add-put-wire : tie.Need-add-put-wire Inv-loop μ-loop
+add-put-wire c = omega (arith, fits (c .before))
+
+mul-put-wire : tie.Need-mul-put-wire Inv-loop μ-loop
+mul-put-wire c = omega (arith, fits (c .before))
+
+sub-put-wire : tie.Need-sub-put-wire Inv-loop μ-loop
+sub-put-wire c = search needs
+
+part-put-wire-start : tie.Need-part-put-wire-start Inv-loop μ-loop
+part-put-wire-start c = search needs
+
+part-put-wire-end : tie.Need-part-put-wire-end Inv-loop μ-loop
+part-put-wire-end c = fits (c .before)
+
+put-wire-requires : tie.Need-put-wire-requires Inv-loop μ-loop
+put-wire-requires c κs = lining-room wireText (c .before .before .before .before .before .loop .inv) (c .before .before .before .before .loop-test .taken) (c .before .before .index .ensures .0)
+
+add-start : tie.Need-add-start Inv-loop μ-loop
+add-start c = omega (arith, fits (c .before .before .before .before .before))
+
+add-k : tie.Need-add-k Inv-loop μ-loop
+add-k c = search needs
+
+loop-less : tie.Need-loop-less Inv-loop μ-loop
+loop-less c = search needs
+
+loop-again : tie.Need-loop-again Inv-loop μ-loop
+loop-again c = lining-next wireText (c .before .before .before .before .before .before .before .before .loop .inv) (c .before .before .before .before .before .before .before .loop-test .taken) (c .before .before .before .before .before .index .ensures .0) (c .before .before .put-wire .last .0) (c .before .before .put-wire .result) (c .before .before .put-wire .ensures)
+
+same-length : tie.Need-same-length Inv-loop μ-loop
+same-length c = c .before .loop .inv .putting .long
+
+returns : tie.Need-returns Inv-loop μ-loop
+unfolding wiresText
+returns c = lining-all wireText (c .before .loop .inv) (c .loop-test .left)
+
+pub put-wires-spec : {M : Type 1} → statement M
+put-wires-spec =
+    tie.close
+    (tie.spec
+    Inv-loop
+    μ-loop
+    loop-holds
+    mul-index
+    shared-slice-read-index
+    index-requires
+    add-put-wire
+    mul-put-wire
+    sub-put-wire
+    part-put-wire-start
+    part-put-wire-end
+    put-wire-requires
+    add-start
+    add-k
+    loop-less
+    loop-again
+    same-length
+    returns)

@@ -1,0 +1,13 @@
+pub mod Numerals
+pub mod Rounding
+pub mod Hex
+pub mod Point
+pub mod Unsigned
+pub mod Real
+pub mod Whole
+pub mod Places
+pub mod Last
+pub mod Texts
+pub mod Digits
+pub mod Back
+pub mod Examples

@@ -1,0 +1,45 @@
+-- The point, then the digits.
+use mathlib.Core.Path.{_∙_}
+use native.Mathlib.Omega.{arith}
+use lib.ListN.{length-set}
+use borrow.Author.Needs.{needs}
+use Rattle.decimals.proofs.Texts.{no-places, some-places}
+use Rattle.decimals.proofs.put_places.Statement.{statement}
+use Rattle.decimals.proofs.put_places.Tie as tie
+
+returns : tie.Need-returns
+returns c = no-places (c .before .before .args .out .now) (c .before .before .args .at) (c .before .before .args .k) (c .before .before .args .m) (c .if1 .taken)
+
+slice-write-out : tie.Need-slice-write-out
+slice-write-out c = search needs
+
+add-put-last : tie.Need-add-put-last
+add-put-last c = search needs
+
+put-last-requires : tie.Need-put-last-requires
+put-last-requires c κs = simp length-set (omega arith)
+
+add-result : tie.Need-add-result
+add-result c = search needs
+
+add-result-2 : tie.Need-add-result-2
+add-result-2 c = search needs
+
+same-length : tie.Need-same-length
+same-length c = c .before .before .put-last .kept .0 ∙ length-set (c .before .before .before .before .before .before .args .out .now) (c .before .before .before .before .before .before .args .at) 46
+
+returns-2 : tie.Need-returns-2
+returns-2 c = some-places (c .before .before .before .before .before .before .args .out .now) (c .before .before .before .before .before .before .args .at) (c .before .before .before .before .before .before .args .k) (c .before .before .before .before .before .before .args .m) (c .before .before .before .before .if1 .left) _ (c .before .before .put-last .ensures)
+
+pub put-places-spec : {M : Type 1} → statement M
+put-places-spec =
+    tie.close
+    (tie.spec
+    returns
+    slice-write-out
+    add-put-last
+    put-last-requires
+    add-result
+    add-result-2
+    same-length
+    returns-2)

@@ -1,0 +1,22 @@
+-- The magnitude is no NaN; 0.5 is the half of one.
+use mathlib.Core.Path.{_∙_}
+use borrow.Author.Needs.{needs}
+use Rattle.decimals.proofs.Whole.{no-nan, scaled-is}
+use Rattle.decimals.proofs.scaled_of.Statement.{statement}
+use Rattle.decimals.proofs.scaled_of.Tie as tie
+
+float-from-bits-whole-of : tie.Need-float-from-bits-whole-of
+float-from-bits-whole-of c = rw (no-nan (c .args .bits) (c .pre .0)) tt
+
+power-requires : tie.Need-power-requires
+power-requires c κs = search needs
+
+whole-of-requires : tie.Need-whole-of-requires
+whole-of-requires c κs = search needs
+
+returns : tie.Need-returns
+returns c = c .whole-of .ensures ∙ scaled-is (c .before .before .args .bits) (c .before .before .args .k) _ (c .before .power .ensures)
+
+pub scaled-of-spec : {M : Type 1} → statement M
+scaled-of-spec =
+    tie.close (tie.spec float-from-bits-whole-of power-requires whole-of-requires returns)

@@ -1,0 +1,74 @@
+-- Nothing, the line of a fault with its number, or the line of a text that is too long.
+use mathlib.Core.List.{_++_}
+use mathlib.Core.Path.{ap}
+use native.Mathlib.Omega.{arith}
+use Rattle.fault_lines.proofs.Laws.{line-is, none-is, put-short}
+use Rattle.fault_lines.specs.FaultLines.{faultText, madeText}
+use Rattle.lists.proofs.Sets.{put-then}
+use Rattle.output.proofs.Laws.{decimal-20}
+use Rattle.output.specs.Text.{ascii, decimal, field}
+use borrow.Author.Needs.{needs}
+use Rattle.fault_lines.proofs.put_made.Statement.{statement}
+use Rattle.fault_lines.proofs.put_made.Tie as tie
+
+enum-known-m : tie.Need-enum-known-m
+enum-known-m c = search needs
+
+enum-told : tie.Need-enum-told
+enum-told c = search needs
+
+slice-aggregate-put-text : tie.Need-slice-aggregate-put-text
+slice-aggregate-put-text c = search needs
+
+put-text-requires : tie.Need-put-text-requires
+put-text-requires c κs = search needs
+
+enum-known-m-2 : tie.Need-enum-known-m-2
+enum-known-m-2 c = search needs
+
+slice-aggregate-put-field : tie.Need-slice-aggregate-put-field
+slice-aggregate-put-field c = search needs
+
+put-field-requires : tie.Need-put-field-requires
+put-field-requires c κs = omega (arith, decimal-20 (c .before .before .before .m2 .given .0 .0) (omega arith))
+
+put-fault-requires : tie.Need-put-fault-requires
+put-fault-requires c κs = omega (arith, decimal-20 (c .before .before .before .before .before .m2 .given .0 .0) (omega arith), c .before .put-field .kept)
+
+returns : tie.Need-returns
+returns c =
+    let e = none-is (c .before .m .given .0 .0) (c .before .before .before .args .out .now) (c .before .m .given .1) in
+    (e .0, e .1, omega arith)
+
+returns-2 : tie.Need-returns-2
+unfolding madeText
+returns-2 c =
+    let p = put-short (c .before .before .before .before .before .args .out .now) 0 256 _ _ (ap madeText (c .before .before .before .enum-told .given .1)) (c .put-text .ensures) (omega arith) in
+    (p .0, omega (arith, p .1), omega (arith, p .2))
+
+returns-3 : tie.Need-returns-3
+unfolding field
+returns-3 c =
+    let a = c .before .before .before .before .before .before .before .before .args in
+    let m = c .before .before .before .before .before .before .m2 .given in
+    let e = c .put-fault .ensures in
+    let x = ascii "line " ++ decimal (m .0 .0) in
+    let q = put-then (a .out .now) 0 x (faultText (m .0 .1 .0)) _ _ _ _ (c .before .before .put-field .ensures) (e .0, e .1) in
+    let p = put-short (a .out .now) 0 256 _ _ (line-is (m .0 .0) (m .0 .1 .0) (m .1)) q (omega (arith, q .1, e .2, decimal-20 (m .0 .0) (omega arith))) in
+    (p .0, omega (arith, p .1), omega (arith, p .2))
+
+pub put-made-spec : {M : Type 1} → statement M
+put-made-spec =
+    tie.close
+    (tie.spec
+    enum-known-m
+    enum-told
+    slice-aggregate-put-text
+    put-text-requires
+    enum-known-m-2
+    slice-aggregate-put-field
+    put-field-requires
+    put-fault-requires
+    returns
+    returns-2
+    returns-3)

@@ -1,0 +1,57 @@
+-- The edges where they stand, then the columns.
+use mathlib.Core.Path.{_∙_, sym}
+use native.Mathlib.Omega.{arith}
+use borrow.Author.Needs.{needs}
+use Rattle.file_columns.proofs.Laws.{edges-wrong, file-checkable, file-checked}
+use Rattle.file_table.proofs.Laws.{body-inside, table-counts, table-long}
+use Rattle.file_columns.proofs.check_file.Statement.{statement}
+use Rattle.file_columns.proofs.check_file.Tie as tie
+
+counts-of-requires : tie.Need-counts-of-requires
+counts-of-requires c κs = table-long (c .before .before .before .before .before .before .before .before .args .s .now) (c .before .before .before .before .before .before .before .before .pre .0)
+
+starts-of-requires : tie.Need-starts-of-requires
+starts-of-requires c κs = rw (c .counts-of .ensures) (table-counts (c .before .before .before .before .before .before .before .before .before .args .s .now) (c .before .before .before .before .before .before .before .before .before .pre .0))
+
+array-read-check-edges : tie.Need-array-read-check-edges
+array-read-check-edges c = search needs
+
+array-read-check-edges-2 : tie.Need-array-read-check-edges-2
+array-read-check-edges-2 c = search needs
+
+array-read-check-edges-3 : tie.Need-array-read-check-edges-3
+array-read-check-edges-3 c = search needs
+
+check-edges-requires : tie.Need-check-edges-requires
+check-edges-requires c κs = body-inside (c .before .before .before .before .before .before .before .before .before .before .args .s .now) (c .before .before .before .before .before .before .before .before .before .before .pre .0) (c .before .counts-of .result) (c .starts-of .result) (c .before .counts-of .ensures) (c .starts-of .ensures) 1 (omega arith)
+
+enum-known-edges : tie.Need-enum-known-edges
+enum-known-edges c = search needs
+
+enum-told : tie.Need-enum-told
+enum-told c = search needs
+
+check-columns-requires : tie.Need-check-columns-requires
+check-columns-requires c κs = file-checkable (c .before .before .before .before .before .before .before .before .before .before .before .before .before .args .s .now) (c .before .before .before .before .before .before .before .before .before .before .before .before .before .pre .0) (c .before .before .before .before .counts-of .result) (c .before .before .before .starts-of .result) (c .before .before .before .before .counts-of .ensures) (c .before .before .before .starts-of .ensures) (sym (c .before .before .check-edges .ensures) ∙ c .enum-told .given .1) (c .before .before .before .before .before .before .before .before .before .before .before .before .before .pre .1)
+
+returns : tie.Need-returns
+returns c = edges-wrong (c .before .before .before .before .before .before .before .before .before .before .before .before .before .before .args .s .now) (c .before .before .before .before .before .before .before .before .before .before .before .before .before .before .pre .0) (c .before .before .before .before .before .counts-of .result) (c .before .before .before .before .starts-of .result) (c .before .before .before .before .before .counts-of .ensures) (c .before .before .before .before .starts-of .ensures) _ (sym (c .before .before .before .check-edges .ensures) ∙ c .before .edges .given .1)
+
+returns-2 : tie.Need-returns-2
+returns-2 c = c .check-columns .ensures ∙ file-checked (c .before .before .before .before .before .before .before .before .before .before .before .before .before .before .args .s .now) (c .before .before .before .before .before .before .before .before .before .before .before .before .before .before .pre .0) (c .before .before .before .before .before .counts-of .result) (c .before .before .before .before .starts-of .result) (c .before .before .before .before .before .counts-of .ensures) (c .before .before .before .before .starts-of .ensures) (sym (c .before .before .before .check-edges .ensures) ∙ c .before .enum-told .given .1) (c .before .before .before .before .before .before .before .before .before .before .before .before .before .before .pre .1)
+
+pub check-file-spec : {M : Type 1} → statement M
+check-file-spec =
+    tie.close
+    (tie.spec
+    counts-of-requires
+    starts-of-requires
+    array-read-check-edges
+    array-read-check-edges-2
+    array-read-check-edges-3
+    check-edges-requires
+    enum-known-edges
+    enum-told
+    check-columns-requires
+    returns
+    returns-2)

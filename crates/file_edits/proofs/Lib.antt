@@ -1,3 +1,0 @@
-pub mod Spliced
-pub mod CutFile
-pub mod RemoveFile

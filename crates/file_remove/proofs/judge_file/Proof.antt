@@ -1,0 +1,78 @@
+-- The columns are those of the file's pattern, and so are the edges of the pair.
+use Prim.Native.Nat.{_<_}
+use mathlib.Core.Path.{_∙_, sym}
+use native.Mathlib.Omega.{arith}
+use lib.ListN.{getD}
+use borrow.Author.Needs.{needs}
+use Rattle.edge.specs.Uses.{edgeNumber}
+use Rattle.file_remove.proofs.RemoveFile.{edge-stored}
+use Rattle.file_edge.proofs.Spliced.{file-lent}
+use Rattle.pattern.specs.Contents.{content, stored}
+use Rattle.pattern_file.specs.File.{fileContent}
+use Rattle.remove_vertex.proofs.Removals.{of-edges}
+use Rattle.remove_vertex.proofs.Stored.{pair-refused, pair-removed}
+use Rattle.shell_wires.specs.Lent.{Lent}
+use Rattle.file_remove.proofs.judge_file.Statement.{statement}
+use Rattle.file_remove.proofs.judge_file.Tie as tie
+
+lent : (s : tie.Start) → Lent (stored (fileContent (s .args .file .now))) (s .args .t2) (s .args .fronts .now) (s .args .backs .now) (s .args .uses .now) (s .args .wires .now) (s .args .faces .now) (s .args .shells .now) (s .args .listings .now)
+lent s = file-lent (s .args .file .now) (s .pre .0) (s .pre .1) (s .pre .2)
+
+-- the pair is of edges of the file
+inside : (c : tie.After-found2) → (edgeNumber (c .found2 .given .0 .1 .0 .ending) < getD (c .before .before .before .before .before .before .before .before .before .before .before .args .t2) 1 0) × (edgeNumber (c .found2 .given .0 .1 .0 .next) < getD (c .before .before .before .before .before .before .before .before .before .before .before .args .t2) 1 0)
+inside c = of-edges (getD (c .before .before .before .before .before .before .before .before .before .before .before .args .t2) 1 0) (c .found2 .given .1) (c .before .before .find-pair .ensures .1)
+
+find-pair-requires : tie.Need-find-pair-requires
+find-pair-requires c κs = (stored (fileContent (c .before .before .before .before .before .before .before .before .args .file .now)), lent (c .before .before .before .before .before .before .before .before))
+
+enum-known-found : tie.Need-enum-known-found
+enum-known-found c = search needs
+
+enum-known-found-2 : tie.Need-enum-known-found-2
+enum-known-found-2 c = search needs
+
+index-requires : tie.Need-index-requires
+index-requires c κs = search needs
+
+file-edge-requires : tie.Need-file-edge-requires
+file-edge-requires c κs = (c .before .before .before .before .before .before .before .before .before .before .before .before .before .before .pre .0, c .before .before .before .before .before .before .before .before .before .before .before .before .before .before .pre .1, omega (arith, c .index .ensures .0, inside (c .before .before .before) .0))
+
+index-requires-2 : tie.Need-index-requires-2
+index-requires-2 c κs = search needs
+
+file-edge-requires-2 : tie.Need-file-edge-requires-2
+file-edge-requires-2 c κs = (c .before .before .before .before .before .before .before .before .before .before .before .before .before .before .before .before .before .pre .0, c .before .before .before .before .before .before .before .before .before .before .before .before .before .before .before .before .before .pre .1, omega (arith, c .index2 .ensures .0, inside (c .before .before .before .before .before .before) .1))
+
+array-read-join-pair : tie.Need-array-read-join-pair
+array-read-join-pair c = search needs
+
+join-pair-requires : tie.Need-join-pair-requires
+join-pair-requires c κs = search needs
+
+returns : tie.Need-returns
+returns c = let s = c .before .before .before .before .before .before .before .before .before .before .before .before in
+    let p = stored (fileContent (s .args .file .now)) in
+    pair-refused (content p) (s .args .n) (s .args .v .0) (sym (c .before .found .given .1) ∙ c .before .before .before .find-pair .ensures .0 p (lent s))
+
+returns-2 : tie.Need-returns-2
+returns-2 c = let s = c .before .before .before .before .before .before .before .before .before .before .before .before .before .before .before .before .before .before .before in
+    let f = s .args .file .now in
+    let p = stored (fileContent f) in
+    let k = c .before .before .before .before .before .before .before .before .found2 .given .0 .1 .0 in
+    pair-removed p _ _ _ _ _ _ _ _ (lent s) (s .args .n) (s .args .v .0) _ _ (sym (c .before .before .before .before .before .before .before .before .found2 .given .1) ∙ c .before .before .before .before .before .before .before .before .before .before .find-pair .ensures .0 p (lent s)) _ _ (edge-stored f (k .ending) (c .before .before .before .before .before .index .ensures .0) (c .before .before .before .before .file-edge .ensures)) (edge-stored f (k .next) (c .before .before .index2 .ensures .0) (c .before .file-edge2 .ensures)) _ (c .join-pair .ensures)
+
+pub judge-file-spec : {M : Type 1} → statement M
+judge-file-spec =
+    tie.close
+    (tie.spec
+    find-pair-requires
+    enum-known-found
+    enum-known-found-2
+    index-requires
+    file-edge-requires
+    index-requires-2
+    file-edge-requires-2
+    array-read-join-pair
+    join-pair-requires
+    returns
+    returns-2)

@@ -1,0 +1,83 @@
+-- The loop has passed b offsets.
+use Prim.Native.Nat.{_-_, _<_, _≤_, ℕ}
+use mathlib.Core.List.{List}
+use mathlib.Core.Path.{_∙_, _≡_, ap, sym}
+use native.Mathlib.Omega.{arith}
+use lib.ListN.{getD}
+use borrow.Author.Needs.{needs}
+use Rattle.errors.proofs.Laws.{Passed, passed-start}
+use Rattle.lists.proofs.Flat.{getD-tabulate}
+use Rattle.lists.specs.Lists.{tabulate}
+use Rattle.pattern_file.proofs.Places.{offsetFault}
+use Rattle.pattern_file.specs.File.{fileCounts, offsetAt, startOf}
+use Rattle.file_table.proofs.Laws.{right-end, right-offset, wrong-end, wrong-offset}
+use Rattle.file_table.proofs.check_offsets.Statement.{statement}
+use Rattle.file_table.proofs.check_offsets.Tie as tie
+
+abbrev Inv-loop : tie.InvT-loop
+Inv-loop s starts b₀ b = (b ≤ 7) × Passed (offsetFault (fileCounts s)) 0 (tabulate 7 (offsetAt s)) 0 b
+
+abbrev μ-loop : tie.MeasureT-loop
+μ-loop s starts b₀ b = 7 - b
+
+start-is : (s : tie.Start Inv-loop μ-loop) (b : ℕ) → b < 8 → getD (s .args .t2) b 0 ≡ startOf (fileCounts (s .args .s .now)) b
+start-is s b h = ap (λ (l : List ℕ). getD l b 0) (s .pre .1) ∙ getD-tabulate 8 (startOf (fileCounts (s .args .s .now))) b 0 h
+
+loop-holds : tie.Need-loop-holds Inv-loop μ-loop
+loop-holds c = (omega arith, passed-start (offsetFault (fileCounts (c .before .args .s .now))) 0 _ 0)
+
+mul-u32-at : tie.Need-mul-u32-at Inv-loop μ-loop
+mul-u32-at c = search needs
+
+u32-at-requires : tie.Need-u32-at-requires Inv-loop μ-loop
+u32-at-requires c κs = search needs
+
+cast-if1 : tie.Need-cast-if1 Inv-loop μ-loop
+cast-if1 c = search needs
+
+mul-if1 : tie.Need-mul-if1 Inv-loop μ-loop
+mul-if1 c = search needs
+
+array-read-if1 : tie.Need-array-read-if1 Inv-loop μ-loop
+array-read-if1 c = search needs
+
+returns : tie.Need-returns Inv-loop μ-loop
+returns c = wrong-offset (c .before .before .before .before .before .args .s .now) (c .before .before .before .loop .b) (c .before .before .before .loop .inv .1) (c .before .before .loop-test .taken) (λ e. c .if1 .taken (c .before .u32-at .ensures ∙ e ∙ sym (start-is (c .before .before .before .before .before) (c .before .before .before .loop .b) (omega arith))))
+
+add-b : tie.Need-add-b Inv-loop μ-loop
+add-b c = search needs
+
+loop-less : tie.Need-loop-less Inv-loop μ-loop
+loop-less c = search needs
+
+loop-again : tie.Need-loop-again Inv-loop μ-loop
+loop-again c = (omega arith, right-offset (c .before .before .before .before .before .args .s .now) (c .before .before .before .loop .b) (c .before .before .before .loop .inv .1) (c .before .before .loop-test .taken) (sym (c .before .u32-at .ensures) ∙ c .if1 .left ∙ start-is (c .before .before .before .before .before) (c .before .before .before .loop .b) (omega arith)))
+
+array-read-if2 : tie.Need-array-read-if2 Inv-loop μ-loop
+array-read-if2 c = search needs
+
+returns-2 : tie.Need-returns-2 Inv-loop μ-loop
+returns-2 c = wrong-end (c .before .before .before .before .args .s .now) (c .before .before .loop .b) (c .before .before .loop .inv .1) (c .before .loop-test .left) (λ e. c .if2 .taken (e ∙ sym (start-is (c .before .before .before .before) 7 (omega arith))))
+
+returns-3 : tie.Need-returns-3 Inv-loop μ-loop
+returns-3 c = right-end (c .before .before .before .before .args .s .now) (c .before .before .loop .b) (c .before .before .loop .inv .1) (c .before .loop-test .left) (c .if2 .left ∙ start-is (c .before .before .before .before) 7 (omega arith))
+
+pub check-offsets-spec : {M : Type 1} → statement M
+check-offsets-spec =
+    tie.close
+    (tie.spec
+    Inv-loop
+    μ-loop
+    loop-holds
+    mul-u32-at
+    u32-at-requires
+    cast-if1
+    mul-if1
+    array-read-if1
+    returns
+    add-b
+    loop-less
+    loop-again
+    array-read-if2
+    returns-2
+    returns-3)

@@ -1,0 +1,124 @@
+-- After i words their values are written, and the words of the rest of the line are left.
+use Prim.Native.Nat.{_-_, _<_, _≤_}
+use mathlib.Core.List.{_∷_}
+use mathlib.Core.Path.{_∙_, _≡_, ap}
+use native.Mathlib.Omega.{arith}
+use lib.ListN.{drop, drop-of-length-le, length, length-drop, take}
+use borrow.Author.Needs.{needs}
+use Rattle.forms.proofs.Values.{Reading, reading-all, reading-long, reading-next, reading-not, reading-room, reading-start}
+use Rattle.text.proofs.Words.{word-at, word-none, words-few, words-nil}
+use Rattle.text.specs.Text.{words}
+use Rattle.forms.proofs.put_values.Statement.{statement}
+use Rattle.forms.proofs.put_values.Tie as tie
+
+abbrev Inv-loop : tie.InvT-loop
+Inv-loop line from kinds rest out₀ at₀ i₀ out at i = (at ≤ length line) × Reading kinds rest (words (drop from line)) out₀ out i (words (drop at line))
+
+abbrev μ-loop : tie.MeasureT-loop
+μ-loop line from kinds rest out₀ at₀ i₀ out at i = length line - at
+
+-- the next word of the line and the rest of it
+word : (c : tie.After-word-end Inv-loop μ-loop)
+    → (
+    words (drop (c .before .before .before .before .loop .at) (c .before .before .before .before .before .before .before .before .args .line .now))
+    ≡ take (c .word-end .result - c .before .before .word-start .result) (drop (c .before .before .word-start .result) (c .before .before .before .before .before .before .before .before .args .line .now))
+    ∷ words (drop (c .word-end .result) (c .before .before .before .before .before .before .before .before .args .line .now))
+    ) × (c .before .before .word-start .result < c .word-end .result)
+word c =
+    word-at (c .before .before .before .before .before .before .before .before .args .line .now) (c .before .before .before .before .loop .at) (c .before .before .word-start .result) (c .before .before .word-start .ensures .0) (c .word-end .result) (omega arith) (c .word-end .ensures .0)
+
+-- there is a place for its value
+room : (c : tie.After-word-end Inv-loop μ-loop) → (c .before .before .before .before .loop .i < length (c .before .before .before .before .before .before .before .before .args .out .now)) × (c .before .before .before .before .loop .i < length (c .before .before .before .before .loop .out))
+room c =
+    reading-room (c .before .before .before .before .loop .inv .1) (word c .0) (length (drop (c .before .before .before .before .before .before .before .before .args .from) (c .before .before .before .before .before .before .before .before .args .line .now))) (words-few (drop (c .before .before .before .before .before .before .before .before .args .from) (c .before .before .before .before .before .before .before .before .args .line .now))) (omega (arith, length-drop (c .before .before .before .before .before .before .before .before .args .from) (c .before .before .before .before .before .before .before .before .args .line .now)))
+
+loop-holds : tie.Need-loop-holds Inv-loop μ-loop
+loop-holds c = (c .before .before .before .pre .0, reading-start (c .before .before .before .args .kinds .now) (c .before .before .before .args .rest) (words (drop (c .before .before .before .args .from) (c .before .before .before .args .line .now))) (c .before .before .before .args .out .now))
+
+word-start-requires : tie.Need-word-start-requires Inv-loop μ-loop
+word-start-requires c κs = search needs
+
+word-end-requires : tie.Need-word-end-requires Inv-loop μ-loop
+word-end-requires c κs = search needs
+
+kind-at-requires : tie.Need-kind-at-requires Inv-loop μ-loop
+kind-at-requires c κs = search needs
+
+sub-token-of : tie.Need-sub-token-of Inv-loop μ-loop
+sub-token-of c = search needs
+
+part-token-of-start : tie.Need-part-token-of-start Inv-loop μ-loop
+part-token-of-start c = search needs
+
+part-token-of-end : tie.Need-part-token-of-end Inv-loop μ-loop
+part-token-of-end c = search needs
+
+token-of-requires : tie.Need-token-of-requires Inv-loop μ-loop
+token-of-requires c κs = search needs
+
+enum-told : tie.Need-enum-told Inv-loop μ-loop
+enum-told c = search needs
+
+same-length : tie.Need-same-length Inv-loop μ-loop
+same-length c = reading-long (c .before .before .before .before .before .before .before .before .before .loop .inv .1)
+
+returns : tie.Need-returns Inv-loop μ-loop
+returns c = reading-not (c .before .before .before .before .before .before .before .before .before .loop .inv .1) (word (c .before .before .before .before .before) .0) (c .before .before .before .before .kind-at .ensures) (c .before .before .token-of .ensures) (c .enum-told .given .1)
+
+enum-known-read : tie.Need-enum-known-read Inv-loop μ-loop
+enum-known-read c = search needs
+
+mul-out : tie.Need-mul-out Inv-loop μ-loop
+mul-out c = let h = room (c .before .before .before .before .before .before) .0 in search needs
+
+slice-write-out : tie.Need-slice-write-out Inv-loop μ-loop
+slice-write-out c = room (c .before .before .before .before .before .before) .1
+
+add-i : tie.Need-add-i Inv-loop μ-loop
+add-i c = let h = room (c .before .before .before .before .before .before) .0 in search needs
+
+loop-less : tie.Need-loop-less Inv-loop μ-loop
+loop-less c = let h = word (c .before .before .before .before .before .before) .1 in omega arith
+
+loop-again : tie.Need-loop-again Inv-loop μ-loop
+loop-again c = (c .before .before .before .before .before .before .word-end .ensures .1, reading-next (c .before .before .before .before .before .before .before .before .before .before .loop .inv .1) (word (c .before .before .before .before .before .before) .0) (c .before .before .before .before .before .kind-at .ensures) (c .before .before .before .token-of .ensures) (c .before .read .given .1))
+
+same-length-2 : tie.Need-same-length-2 Inv-loop μ-loop
+same-length-2 c = reading-long (c .before .loop .inv .1)
+
+returns-2 : tie.Need-returns-2 Inv-loop μ-loop
+returns-2 c = reading-all (c .before .loop .inv .1) (ap words (drop-of-length-le (c .before .before .before .before .before .args .line .now) (c .loop-test .left)) ∙ words-nil)
+
+same-length-3 : tie.Need-same-length-3 Inv-loop μ-loop
+same-length-3 c = reading-long (c .before .before .before .loop .inv .1)
+
+returns-3 : tie.Need-returns-3 Inv-loop μ-loop
+returns-3 c = reading-all (c .before .before .before .loop .inv .1) (word-none (c .before .before .before .before .before .before .before .args .line .now) (c .before .before .before .loop .at) (c .before .word-start .result) (c .before .word-start .ensures .0) (c .if1 .taken))
+
+pub put-values-spec : {M : Type 1} → statement M
+put-values-spec =
+    tie.close
+    (tie.spec
+    Inv-loop
+    μ-loop
+    loop-holds
+    word-start-requires
+    word-end-requires
+    kind-at-requires
+    sub-token-of
+    part-token-of-start
+    part-token-of-end
+    token-of-requires
+    enum-told
+    same-length
+    returns
+    enum-known-read
+    mul-out
+    slice-write-out
+    add-i
+    loop-less
+    loop-again
+    same-length-2
+    returns-2
+    same-length-3
+    returns-3)

@@ -1,0 +1,2 @@
+pub mod GroupCalls
+pub mod Figures

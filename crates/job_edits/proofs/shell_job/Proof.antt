@@ -1,0 +1,112 @@
+-- Each branch is the edit that the definition picks.
+use mathlib.Core.Logic.{inl}
+use mathlib.Core.Path.{ap}
+use native.Mathlib.Omega.{arith}
+use lib.ListN.{length}
+use borrow.Author.Needs.{needs}
+use Rattle.job_edits.proofs.Edits.{concat-is, cut-is, remove-is, shell-made}
+use Rattle.job_lines.proofs.Forms.{kinds-cut, kinds-remove, kinds-two}
+use Rattle.job_edits.proofs.shell_job.Statement.{statement}
+use Rattle.job_edits.proofs.shell_job.Tie as tie
+
+shared-slice-read-file-cut : tie.Need-shared-slice-read-file-cut
+shared-slice-read-file-cut c = omega (arith, ap length (kinds-cut (c .before .before .before .before .before .args .j) (c .before .if1 .taken)))
+
+shared-slice-read-small : tie.Need-shared-slice-read-small
+shared-slice-read-small c = omega (arith, ap length (kinds-cut (c .before .before .before .before .before .before .args .j) (c .before .before .if1 .taken)))
+
+small-requires : tie.Need-small-requires
+small-requires c κs = search needs
+
+shared-slice-read-small-2 : tie.Need-shared-slice-read-small-2
+shared-slice-read-small-2 c = omega (arith, ap length (kinds-cut (c .before .before .before .before .before .before .before .before .args .j) (c .before .before .before .before .if1 .taken)))
+
+small-requires-2 : tie.Need-small-requires-2
+small-requires-2 c κs = search needs
+
+shared-slice-read-file-cut-2 : tie.Need-shared-slice-read-file-cut-2
+shared-slice-read-file-cut-2 c = omega (arith, ap length (kinds-cut (c .before .before .before .before .before .before .before .before .before .before .args .j) (c .before .before .before .before .before .before .if1 .taken)))
+
+file-cut-requires : tie.Need-file-cut-requires
+file-cut-requires c κs = search needs
+
+same-length : tie.Need-same-length
+same-length c = search needs
+
+returns : tie.Need-returns
+returns c =
+    let a = c .before .before .before .before .before .before .before .before .before .before .before .before .before .before .args in
+    let e = cut-is (a .j) (a .v .now) (a .file .now) (a .out .now) _ _ (c .before .before .before .before .before .before .before .before .before .before .if1 .taken) (c .before .before .before .before .before .before .before .small .ensures) (c .before .before .before .before .before .small2 .ensures) in
+    shell-made e _ _ (c .before .before .file-cut .ensures)
+
+shared-slice-read-file-remove : tie.Need-shared-slice-read-file-remove
+shared-slice-read-file-remove c = omega (arith, ap length (kinds-remove (c .before .before .before .before .before .before .args .j) (c .before .if2 .taken)))
+
+shared-slice-read-small-3 : tie.Need-shared-slice-read-small-3
+shared-slice-read-small-3 c = omega (arith, ap length (kinds-remove (c .before .before .before .before .before .before .before .args .j) (c .before .before .if2 .taken)))
+
+small-requires-3 : tie.Need-small-requires-3
+small-requires-3 c κs = search needs
+
+file-remove-requires : tie.Need-file-remove-requires
+file-remove-requires c κs = search needs
+
+same-length-2 : tie.Need-same-length-2
+same-length-2 c = search needs
+
+returns-2 : tie.Need-returns-2
+returns-2 c =
+    let a = c .before .before .before .before .before .before .before .before .before .before .before .before .args in
+    let e = remove-is (a .j) (a .v .now) (a .file .now) (a .out .now) _ (c .before .before .before .before .before .before .before .before .if1 .left) (c .before .before .before .before .before .before .before .if2 .taken) (c .before .before .before .before .small3 .ensures) in
+    shell-made e _ _ (c .before .before .file-remove .ensures)
+
+shared-slice-read-small-4 : tie.Need-shared-slice-read-small-4
+shared-slice-read-small-4 c = omega (arith, ap length (kinds-two (c .before .before .before .before .before .before .args .j) (inl (omega arith))))
+
+small-requires-4 : tie.Need-small-requires-4
+small-requires-4 c κs = search needs
+
+shared-slice-read-small-5 : tie.Need-shared-slice-read-small-5
+shared-slice-read-small-5 c = omega (arith, ap length (kinds-two (c .before .before .before .before .before .before .before .before .args .j) (inl (omega arith))))
+
+small-requires-5 : tie.Need-small-requires-5
+small-requires-5 c κs = search needs
+
+file-concat-requires : tie.Need-file-concat-requires
+file-concat-requires c κs = search needs
+
+same-length-3 : tie.Need-same-length-3
+same-length-3 c = search needs
+
+returns-3 : tie.Need-returns-3
+returns-3 c =
+    let a = c .before .before .before .before .before .before .before .before .before .before .before .before .before .args in
+    let e = concat-is (a .j) (a .v .now) (a .file .now) (a .out .now) _ _ (c .before .before .before .before .before .before .before .before .before .if1 .left) (c .before .before .before .before .before .before .before .before .if2 .left) (c .before .before .before .before .before .before .small4 .ensures) (c .before .before .before .before .small5 .ensures) in
+    shell-made e _ _ (c .before .before .file-concat .ensures)
+
+pub shell-job-spec : {M : Type 1} → statement M
+shell-job-spec =
+    tie.close
+    (tie.spec
+    shared-slice-read-file-cut
+    shared-slice-read-small
+    small-requires
+    shared-slice-read-small-2
+    small-requires-2
+    shared-slice-read-file-cut-2
+    file-cut-requires
+    same-length
+    returns
+    shared-slice-read-file-remove
+    shared-slice-read-small-3
+    small-requires-3
+    file-remove-requires
+    same-length-2
+    returns-2
+    shared-slice-read-small-4
+    small-requires-4
+    shared-slice-read-small-5
+    small-requires-5
+    file-concat-requires
+    same-length-3
+    returns-3)

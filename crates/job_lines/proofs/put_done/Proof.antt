@@ -1,0 +1,52 @@
+-- The word, the wires and the line feed; the wires have at most 49,152 bytes.
+use mathlib.Core.List.{_++_}
+use native.Mathlib.Omega.{arith}
+use borrow.Author.Needs.{needs}
+use Rattle.answer_lines.proofs.Bounds.{wires-short}
+use Rattle.answer_lines.specs.AnswerLines.{wiresText}
+use Rattle.lists.proofs.Sets.{put-then}
+use Rattle.lists.specs.Lists.{split}
+use Rattle.output.specs.Text.{ascii}
+use Rattle.job_lines.specs.JobLines.{doneText}
+use Rattle.job_lines.proofs.put_done.Statement.{statement}
+use Rattle.job_lines.proofs.put_done.Tie as tie
+
+slice-aggregate-put-text : tie.Need-slice-aggregate-put-text
+slice-aggregate-put-text c = search needs
+
+put-text-requires : tie.Need-put-text-requires
+put-text-requires c κs = search needs
+
+put-wires-requires : tie.Need-put-wires-requires
+put-wires-requires c κs = (search needs, omega (arith, wires-short (c .before .before .before .before .before .before .before .before .before .args .lens .now) (c .before .before .before .before .before .before .before .before .before .args .uses .now)))
+
+slice-aggregate-put-text-2 : tie.Need-slice-aggregate-put-text-2
+slice-aggregate-put-text-2 c = search needs
+
+put-text-requires-2 : tie.Need-put-text-requires-2
+put-text-requires-2 c κs = omega (arith, wires-short (c .before .before .before .before .before .before .before .before .before .before .before .before .before .before .args .lens .now) (c .before .before .before .before .before .before .before .before .before .before .before .before .before .before .args .uses .now))
+
+same-length : tie.Need-same-length
+same-length c = search needs
+
+returns : tie.Need-returns
+unfolding doneText
+returns c =
+    let a = c .before .before .before .before .before .before .before .before .before .before .before .before .before .before .before .before .before .args in
+    let out = a .text .now in
+    let ws = wiresText (split (a .lens .now) (a .uses .now)) in
+    let p = put-then out 0 (ascii "done") ws _ _ _ _ (c .before .before .before .before .before .before .before .before .before .before .before .put-text .ensures) (c .before .before .before .before .before .before .before .put-wires .ensures) in
+    let q = put-then out 0 (ascii "done" ++ ws) (ascii "\n") _ _ _ _ p (c .before .before .put-text2 .ensures) in
+    (q .0, omega (arith, q .1))
+
+pub put-done-spec : {M : Type 1} → statement M
+put-done-spec =
+    tie.close
+    (tie.spec
+    slice-aggregate-put-text
+    put-text-requires
+    put-wires-requires
+    slice-aggregate-put-text-2
+    put-text-requires-2
+    same-length
+    returns)

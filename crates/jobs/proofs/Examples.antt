@@ -1,0 +1,24 @@
+-- Examples: lines that are jobs and lines that are not.
+use Prim.Native.Nat.{ℕ}
+use mathlib.Core.Bool.{true}
+use mathlib.Core.List.{List, [], _∷_}
+use mathlib.Core.Path.{_≡_, refl}
+use Rattle.forms.specs.Forms.{token, values}
+use Rattle.job_lines.specs.JobLines.{jobForm, jobKinds, jobNumber, jobRest, noJob}
+use Rattle.output.specs.Text.{ascii, decimal, digits, field}
+use Rattle.text.specs.Text.{words}
+use Rattle.text.specs.Tokens.{allDigits, name, nameAfter, number, signed, valueAfter}
+use Rattle.jobs.specs.Jobs.{isJob, lineText, lineValues}
+
+jobs-read : (lineValues (ascii "cut 0 3 12 nowhere") ≡ 0 ∷ 3 ∷ 12 ∷ 0x7ff8000000000000 ∷ [])
+    × (lineValues (ascii "add\t2- 7+ 40000-\r") ≡ 32770 ∷ 7 ∷ 65535 ∷ [])
+    × (isJob (ascii "remove 0 5\r") ≡ true)
+unfolding values token words number signed valueAfter allDigits name nameAfter jobNumber jobKinds jobRest
+jobs-read = (refl, refl, refl)
+
+no-jobs : (s out : List ℕ)
+    → (lineText (ascii "remove 0 5 6") s out ≡ ascii "no job: word 4 of remove SHELL POINT\n")
+    × (lineText (ascii "glue 1+ 2") s out ≡ ascii "no job: word 3 of glue FACE FACE\n")
+    × (lineText [] s out ≡ ascii "no job: begin with cut, remove, concat, add, cutface or glue\n")
+unfolding lineText noJob jobForm field decimal digits values token words number signed valueAfter allDigits name nameAfter jobNumber jobKinds jobRest
+no-jobs s out = (refl, refl, refl)

@@ -1,0 +1,4 @@
+pub mod Wires
+pub mod Counts
+pub mod Columns
+pub mod Holding

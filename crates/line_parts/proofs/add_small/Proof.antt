@@ -1,0 +1,80 @@
+-- The loop writes value after value.
+use Prim.Native.Nat.{_-_, _≤_}
+use mathlib.Core.List.{map}
+use mathlib.Core.Path.{_≡_}
+use native.Mathlib.Omega.{arith}
+use lib.ListN.{length, length-set, take}
+use lib.Seq.{sets, take-all}
+use borrow.Author.Needs.{needs}
+use Rattle.line_parts.proofs.Columns.{small-next}
+use Rattle.line_parts.specs.Parts.{short}
+use Rattle.line_parts.proofs.add_small.Statement.{statement}
+use Rattle.line_parts.proofs.add_small.Tie as tie
+
+abbrev Inv-loop : tie.InvT-loop
+Inv-loop v out₀ at i₀ out i = (i ≤ length v) × (length out ≡ length out₀) × (out ≡ sets out₀ at (map short (take i v)))
+
+abbrev μ-loop : tie.MeasureT-loop
+μ-loop v out₀ at i₀ out i = length v - i
+
+loop-holds : tie.Need-loop-holds Inv-loop μ-loop
+loop-holds c = search needs
+
+mul-small : tie.Need-mul-small Inv-loop μ-loop
+mul-small c = search needs
+
+shared-slice-read-small : tie.Need-shared-slice-read-small Inv-loop μ-loop
+shared-slice-read-small c = search needs
+
+small-requires : tie.Need-small-requires Inv-loop μ-loop
+small-requires c κs = search needs
+
+add-out : tie.Need-add-out Inv-loop μ-loop
+add-out c = search needs
+
+mul-out : tie.Need-mul-out Inv-loop μ-loop
+mul-out c = search needs
+
+slice-write-out : tie.Need-slice-write-out Inv-loop μ-loop
+slice-write-out c = search needs
+
+add-i : tie.Need-add-i Inv-loop μ-loop
+add-i c = search needs
+
+loop-less : tie.Need-loop-less Inv-loop μ-loop
+loop-less c = search needs
+
+loop-again : tie.Need-loop-again Inv-loop μ-loop
+loop-again c =
+    let v = c .before .before .before .loop .inv in
+    let a = c .before .before .before .before .before .before .args in
+    let i = c .before .before .before .loop .i in (
+      omega arith,
+      simp length-set (v .1),
+      rw (v .2, c .small .ensures) (small-next (a .out .now) (a .at) (a .v .now) i (c .before .before .loop-test .taken)),
+    )
+
+same-length : tie.Need-same-length Inv-loop μ-loop
+same-length c = c .before .loop .inv .1
+
+returns : tie.Need-returns Inv-loop μ-loop
+returns c = rw (take-all (c .before .loop .i) (c .before .before .before .before .args .v .now) (c .loop-test .left)) at (c .before .loop .inv .2)
+
+pub add-small-spec : {M : Type 1} → statement M
+add-small-spec =
+    tie.close
+    (tie.spec
+    Inv-loop
+    μ-loop
+    loop-holds
+    mul-small
+    shared-slice-read-small
+    small-requires
+    add-out
+    mul-out
+    slice-write-out
+    add-i
+    loop-less
+    loop-again
+    same-length
+    returns)

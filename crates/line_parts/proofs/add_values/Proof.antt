@@ -1,0 +1,145 @@
+-- What each kind of line writes.
+use borrow.Author.Needs.{needs}
+use Rattle.line_parts.proofs.Columns.{Adding, Columns, edge-joined, edge-room, edge-words, face-joined, face-room, face-words, none-joined, point-joined, point-room, point-words, shell-joined, shell-room, shell-words}
+use Rattle.line_parts.proofs.Counts.{rest-whole}
+use Rattle.line_parts.proofs.add_values.Statement.{statement}
+use Rattle.line_parts.proofs.add_values.Tie as tie
+
+adding : (s : tie.Start) → Adding (s .args .k) (s .args .v .now) (s .args .t3)
+adding s = record { few = s .pre .0; within = s .pre .1 }
+
+abbrev columns : tie.Start → Columns
+columns s = record {
+  points = s .args .points .now;
+  edges = s .args .edges .now;
+  uses = s .args .uses .now;
+  wires = s .args .wires .now;
+  faces = s .args .faces .now;
+  shells = s .args .shells .now;
+  listings = s .args .listings .now;
+}
+
+shared-slice-read-add-point : tie.Need-shared-slice-read-add-point
+shared-slice-read-add-point c = let m = point-words (adding (c .before .before .before)) (c .before .if1 .taken) in search needs
+
+array-read-add-point : tie.Need-array-read-add-point
+array-read-add-point c = search needs
+
+add-point-requires : tie.Need-add-point-requires
+add-point-requires c κs = let m = point-room (adding (c .before .before .before .before)) (c .before .before .if1 .taken) in search needs
+
+returns : tie.Need-returns
+returns c = point-joined (adding (c .before .before .before .before .before)) (columns (c .before .before .before .before .before)) _ (c .before .before .before .if1 .taken) (search needs) (c .add-point .ensures)
+
+array-read-add-edge : tie.Need-array-read-add-edge
+array-read-add-edge c = search needs
+
+add-edge-requires : tie.Need-add-edge-requires
+add-edge-requires c κs =
+    let m = edge-room (adding (c .before .before .before .before)) (c .before .if2 .taken) in
+    (edge-words (adding (c .before .before .before .before)) (c .before .if2 .taken), search needs)
+
+returns-2 : tie.Need-returns-2
+returns-2 c = edge-joined (adding (c .before .before .before .before .before)) (columns (c .before .before .before .before .before)) _ (c .before .before .if2 .taken) (search needs) (c .add-edge .ensures)
+
+sub-add-wires : tie.Need-sub-add-wires
+sub-add-wires c = let m = face-words (adding (c .before .before .before .before)) (c .if3 .taken) in search needs
+
+part-add-wires-start : tie.Need-part-add-wires-start
+part-add-wires-start c = let m = face-words (adding (c .before .before .before .before)) (c .if3 .taken) in search needs
+
+part-add-wires-end : tie.Need-part-add-wires-end
+part-add-wires-end c = search needs
+
+array-read-add-wires : tie.Need-array-read-add-wires
+array-read-add-wires c = search needs
+
+array-read-add-wires-2 : tie.Need-array-read-add-wires-2
+array-read-add-wires-2 c = search needs
+
+add-wires-requires : tie.Need-add-wires-requires
+add-wires-requires c κs =
+    let m = face-room (adding (c .before .before .before .before .before .before .before)) (c .before .before .before .if3 .taken) in
+    rw (rest-whole (c .before .before .before .before .before .before .before .args .v .now) 3) (search needs)
+
+shared-slice-read-add-face : tie.Need-shared-slice-read-add-face
+shared-slice-read-add-face c = let m = face-words (adding (c .before .before .before .before .before .before .before .before .before)) (c .before .before .before .before .before .if3 .taken) in search needs
+
+array-read-add-face : tie.Need-array-read-add-face
+array-read-add-face c = search needs
+
+add-face-requires : tie.Need-add-face-requires
+add-face-requires c κs = let m = face-room (adding (c .before .before .before .before .before .before .before .before .before .before)) (c .before .before .before .before .before .before .if3 .taken) in search needs
+
+returns-3 : tie.Need-returns-3
+returns-3 c =
+    let e = c .before .before .before .add-wires .ensures in
+    let w = rest-whole (c .before .before .before .before .before .before .before .before .before .before .before .args .v .now) 3 in
+    face-joined (adding (c .before .before .before .before .before .before .before .before .before .before .before)) (columns (c .before .before .before .before .before .before .before .before .before .before .before)) _ _ _ _ (c .before .before .before .before .before .before .before .if3 .taken) (search needs) (search needs) (search needs)
+    (rw w at (e .0)) (rw w at (e .1)) (rw w at (e .2)) (c .add-face .ensures)
+
+sub-add-shell : tie.Need-sub-add-shell
+sub-add-shell c = let m = shell-words (adding (c .before .before .before .before .before)) (c .if4 .taken) in search needs
+
+array-read-add-shell : tie.Need-array-read-add-shell
+array-read-add-shell c = search needs
+
+add-shell-requires : tie.Need-add-shell-requires
+add-shell-requires c κs = let m = shell-room (adding (c .before .before .before .before .before .before)) (c .before .if4 .taken) in search needs
+
+sub-add-small : tie.Need-sub-add-small
+sub-add-small c = let m = shell-words (adding (c .before .before .before .before .before .before .before)) (c .before .before .if4 .taken) in search needs
+
+part-add-small-start : tie.Need-part-add-small-start
+part-add-small-start c = let m = shell-words (adding (c .before .before .before .before .before .before .before)) (c .before .before .if4 .taken) in search needs
+
+part-add-small-end : tie.Need-part-add-small-end
+part-add-small-end c = search needs
+
+array-read-add-small : tie.Need-array-read-add-small
+array-read-add-small c = search needs
+
+add-small-requires : tie.Need-add-small-requires
+add-small-requires c κs =
+    let m = shell-room (adding (c .before .before .before .before .before .before .before .before .before)) (c .before .before .before .before .if4 .taken) in
+    rw (rest-whole (c .before .before .before .before .before .before .before .before .before .args .v .now) 2) (search needs)
+
+returns-4 : tie.Need-returns-4
+returns-4 c =
+    let w = rest-whole (c .before .before .before .before .before .before .before .before .before .before .args .v .now) 2 in
+    shell-joined (adding (c .before .before .before .before .before .before .before .before .before .before)) (columns (c .before .before .before .before .before .before .before .before .before .before)) _ _ (c .before .before .before .before .before .if4 .taken) (search needs) (search needs) (c .before .before .before .add-shell .ensures) (rw w at (c .add-small .ensures))
+
+returns-5 : tie.Need-returns-5
+returns-5 c = none-joined (adding (c .before .before .before .before .before)) (columns (c .before .before .before .before .before)) (c .before .before .before .if1 .left) (c .before .before .if2 .left) (c .before .if3 .left) (c .if4 .left)
+
+pub add-values-spec : {M : Type 1} → statement M
+add-values-spec =
+    tie.close
+    (tie.spec
+    shared-slice-read-add-point
+    array-read-add-point
+    add-point-requires
+    returns
+    array-read-add-edge
+    add-edge-requires
+    returns-2
+    sub-add-wires
+    part-add-wires-start
+    part-add-wires-end
+    array-read-add-wires
+    array-read-add-wires-2
+    add-wires-requires
+    shared-slice-read-add-face
+    array-read-add-face
+    add-face-requires
+    returns-3
+    sub-add-shell
+    array-read-add-shell
+    add-shell-requires
+    sub-add-small
+    part-add-small-start
+    part-add-small-end
+    array-read-add-small
+    add-small-requires
+    returns-4
+    returns-5)

@@ -1,0 +1,45 @@
+-- The number, then the label.
+use mathlib.Core.List.{_++_}
+use native.Mathlib.Omega.{arith}
+use Rattle.lines.specs.Lines.{numberLine}
+use Rattle.lines.specs.Parts.{wordNumber}
+use Rattle.lists.proofs.Sets.{put-then}
+use Rattle.output.specs.Text.{ascii, decimal, field}
+use Rattle.pattern_lines.proofs.Bounds.{five, label-short}
+use Rattle.pattern_lines.specs.PatternLines.{pointLine}
+use borrow.Author.Needs.{needs}
+use Rattle.pattern_lines.proofs.put_point.Statement.{statement}
+use Rattle.pattern_lines.proofs.put_point.Tie as tie
+
+slice-aggregate-put-field : tie.Need-slice-aggregate-put-field
+slice-aggregate-put-field c = search needs
+
+put-field-requires : tie.Need-put-field-requires
+put-field-requires c κs = omega (arith, five (c .before .before .before .args .k) (c .before .before .before .pre .1))
+
+slice-aggregate-put-number : tie.Need-slice-aggregate-put-number
+slice-aggregate-put-number c = search needs
+
+put-number-requires : tie.Need-put-number-requires
+put-number-requires c κs = omega (arith, five (c .before .before .before .before .before .before .before .before .args .k) (c .before .before .before .before .before .before .before .before .pre .1), label-short (c .before .before .before .before .before .before .before .before .args .label) (omega arith))
+
+same-length : tie.Need-same-length
+same-length c = search needs
+
+returns : tie.Need-returns
+unfolding pointLine numberLine field
+returns c =
+    let a = c .before .before .before .before .before .before .before .before .before .before .before .args in
+    let p = put-then (a .out .now) (a .at) (ascii "point " ++ decimal (a .k)) (wordNumber (ascii " label ") (a .label)) _ _ _ _ (c .before .before .before .before .before .before .before .put-field .ensures) (c .before .before .put-number .ensures) in
+    (p .0, p .1, omega (arith, five (a .k) (c .before .before .before .before .before .before .before .before .before .before .before .pre .1), label-short (a .label) (omega arith)))
+
+pub put-point-spec : {M : Type 1} → statement M
+put-point-spec =
+    tie.close
+    (tie.spec
+    slice-aggregate-put-field
+    put-field-requires
+    slice-aggregate-put-number
+    put-number-requires
+    same-length
+    returns)

@@ -1,0 +1,62 @@
+-- The number, then the word, the listings and the line feed.
+use mathlib.Core.List.{_++_, map}
+use native.Mathlib.Omega.{arith}
+use Rattle.lines.proofs.Bounds.{items-short}
+use Rattle.lines.specs.Parts.{item}
+use Rattle.lists.proofs.Sets.{put-then}
+use Rattle.lists.specs.Lists.{flat}
+use Rattle.output.specs.Text.{ascii, decimal, field}
+use Rattle.pattern_lines.proofs.Bounds.{five}
+use Rattle.pattern_lines.specs.PatternLines.{shellLine}
+use borrow.Author.Needs.{needs}
+use Rattle.pattern_lines.proofs.put_shell.Statement.{statement}
+use Rattle.pattern_lines.proofs.put_shell.Tie as tie
+
+slice-aggregate-put-field : tie.Need-slice-aggregate-put-field
+slice-aggregate-put-field c = search needs
+
+put-field-requires : tie.Need-put-field-requires
+put-field-requires c κs = omega (arith, five (c .before .before .before .before .args .k) (c .before .before .before .before .pre .0))
+
+slice-aggregate-put-text : tie.Need-slice-aggregate-put-text
+slice-aggregate-put-text c = search needs
+
+put-text-requires : tie.Need-put-text-requires
+put-text-requires c κs = omega (arith, five (c .before .before .before .before .before .before .before .before .before .args .k) (c .before .before .before .before .before .before .before .before .before .pre .0))
+
+put-items-requires : tie.Need-put-items-requires
+put-items-requires c κs = omega (arith, five (c .before .before .before .before .before .before .before .before .before .before .before .before .before .args .k) (c .before .before .before .before .before .before .before .before .before .before .before .before .before .pre .0), items-short (c .before .before .before .before .before .before .before .before .before .before .before .before .before .args .listings .now))
+
+slice-aggregate-put-text-2 : tie.Need-slice-aggregate-put-text-2
+slice-aggregate-put-text-2 c = search needs
+
+put-text-requires-2 : tie.Need-put-text-requires-2
+put-text-requires-2 c κs = omega (arith, five (c .before .before .before .before .before .before .before .before .before .before .before .before .before .before .before .before .before .before .args .k) (c .before .before .before .before .before .before .before .before .before .before .before .before .before .before .before .before .before .before .pre .0), items-short (c .before .before .before .before .before .before .before .before .before .before .before .before .before .before .before .before .before .before .args .listings .now))
+
+same-length : tie.Need-same-length
+same-length c = search needs
+
+returns : tie.Need-returns
+unfolding shellLine field
+returns c =
+    let a = c .before .before .before .before .before .before .before .before .before .before .before .before .before .before .before .before .before .before .before .before .before .args in
+    let x = ascii "shell " ++ decimal (a .k) in
+    let items = flat (map item (a .listings .now)) in
+    let p = put-then (a .out .now) (a .at) x (ascii " faces") _ _ _ _ (c .before .before .before .before .before .before .before .before .before .before .before .before .before .before .before .before .put-field .ensures) (c .before .before .before .before .before .before .before .before .before .before .before .put-text .ensures) in
+    let q = put-then (a .out .now) (a .at) (x ++ ascii " faces") items _ _ _ _ p (c .before .before .before .before .before .before .before .put-items .ensures) in
+    let r = put-then (a .out .now) (a .at) (x ++ ascii " faces" ++ items) (ascii "\n") _ _ _ _ q (c .before .before .put-text2 .ensures) in
+    (r .0, r .1, omega (arith, five (a .k) (c .before .before .before .before .before .before .before .before .before .before .before .before .before .before .before .before .before .before .before .before .before .pre .0), items-short (a .listings .now)))
+
+pub put-shell-spec : {M : Type 1} → statement M
+put-shell-spec =
+    tie.close
+    (tie.spec
+    slice-aggregate-put-field
+    put-field-requires
+    slice-aggregate-put-text
+    put-text-requires
+    put-items-requires
+    slice-aggregate-put-text-2
+    put-text-requires-2
+    same-length
+    returns)

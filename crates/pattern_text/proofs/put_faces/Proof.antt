@@ -1,0 +1,161 @@
+-- After k turns the lines of the first k faces are written.
+use Prim.Native.Nat.{_*_, _+_, _-_, _<_, _≤_, ℕ}
+use mathlib.Core.List.{List}
+use mathlib.Core.Path.{_≡_}
+use native.Mathlib.Omega.{arith}
+use lib.ListN.{drop, length, take}
+use Rattle.pattern_text.proofs.Faces.{Facing, face-next, face-room, face-sum, face-there, face-uses, face-wires, facing-all, facing-start}
+use Rattle.pattern_text.proofs.Laws.{inside}
+use borrow.Author.Needs.{needs}
+use Rattle.pattern_text.proofs.put_faces.Statement.{statement}
+use Rattle.pattern_text.proofs.put_faces.Tie as tie
+
+abbrev Inv-loop : tie.InvT-loop
+Inv-loop file out₀ at start n uses wires faces end₀ wire₀ first₀ k₀ out end wire first k = Facing file out₀ at out end wire first k
+
+abbrev μ-loop : tie.MeasureT-loop
+μ-loop file out₀ at start n uses wires faces end₀ wire₀ first₀ k₀ out end wire first k = n - k
+
+-- the faces stand within the file
+within : (c : tie.Start Inv-loop μ-loop) → (c .args .start + 4 * c .args .n ≤ length (c .args .file .now)) × (c .args .n ≤ 256)
+within c = inside (c .args .file .now) (c .pre .0) 4 (c .args .start) (c .args .n) (omega arith) (c .pre .1) (c .pre .2)
+
+there : (c : tie.In-loop Inv-loop μ-loop) → (c .before .loop .k < length (c .before .before .before .before .before .before .before .args .faces .now)) × (c .before .loop .k < 256)
+there c = face-there (c .before .before .before .before .before .before .before .args .file .now) (c .before .before .before .before .before .before .before .pre .0) (c .before .loop .inv) (c .before .before .before .before .before .before .before .pre .3) (c .before .before .before .before .before .before .before .pre .4) (c .before .before .before .before .before .before .before .pre .5) (omega arith)
+
+abbrev lens : tie.After-index Inv-loop μ-loop → List ℕ
+lens c = take (c .before .before .before .loop .wire + c .index .result - c .before .before .before .loop .wire) (drop (c .before .before .before .loop .wire) (c .before .before .before .before .before .before .before .before .before .args .wires .now))
+
+fits : (c : tie.After-index Inv-loop μ-loop) → (c .before .before .before .loop .wire + c .index .result ≤ length (c .before .before .before .before .before .before .before .before .before .args .wires .now)) × (length (lens c) ≡ c .index .result) × (c .before .before .before .loop .wire + c .index .result ≤ 1024)
+fits c = face-wires (c .before .before .before .before .before .before .before .before .before .args .file .now) (c .before .before .before .before .before .before .before .before .before .pre .0) (c .before .before .before .loop .inv) (c .before .before .before .before .before .before .before .before .before .pre .3) (c .before .before .before .before .before .before .before .before .before .pre .4) (c .before .before .before .before .before .before .before .before .before .pre .5) (omega arith) (c .index .ensures .0)
+
+fits-uses : (c : tie.After-sum-of Inv-loop μ-loop) → (c .before .before .before .before .before .loop .first + c .sum-of .result ≤ length (c .before .before .before .before .before .before .before .before .before .before .before .args .uses .now)) × (c .before .before .before .before .before .loop .first + c .sum-of .result ≤ 4096)
+fits-uses c =
+    let f = face-uses (c .before .before .before .before .before .before .before .before .before .before .before .args .file .now) (c .before .before .before .before .before .before .before .before .before .before .before .pre .0) (c .before .before .before .before .before .loop .inv) (c .before .before .before .before .before .before .before .before .before .before .before .pre .3) (c .before .before .before .before .before .before .before .before .before .before .before .pre .4) (c .before .before .before .before .before .before .before .before .before .before .before .pre .5) (omega arith) (c .before .before .index .ensures .0) (c .sum-of .ensures) in
+    (f .0, f .2)
+
+loop-holds : tie.Need-loop-holds Inv-loop μ-loop
+loop-holds c = facing-start (c .before .before .before .before .before .args .file .now) (c .before .before .before .before .before .args .out .now) (c .before .before .before .before .before .args .at)
+
+mul-index : tie.Need-mul-index Inv-loop μ-loop
+mul-index c = omega (arith, there c)
+
+shared-slice-read-index : tie.Need-shared-slice-read-index Inv-loop μ-loop
+shared-slice-read-index c = there (c .before) .0
+
+index-requires : tie.Need-index-requires Inv-loop μ-loop
+index-requires c κs = search needs
+
+add-last : tie.Need-add-last Inv-loop μ-loop
+add-last c = omega (arith, fits c)
+
+mul-lens : tie.Need-mul-lens Inv-loop μ-loop
+mul-lens c = omega (arith, fits c)
+
+sub-lens : tie.Need-sub-lens Inv-loop μ-loop
+sub-lens c = omega arith
+
+part-lens-start : tie.Need-part-lens-start Inv-loop μ-loop
+part-lens-start c = search needs
+
+part-lens-end : tie.Need-part-lens-end Inv-loop μ-loop
+part-lens-end c = fits c .0
+
+sub-sum-of : tie.Need-sub-sum-of Inv-loop μ-loop
+sub-sum-of c = omega arith
+
+sum-of-requires : tie.Need-sum-of-requires Inv-loop μ-loop
+sum-of-requires c κs = (omega (arith, fits (c .before) .1), omega (arith, fits (c .before) .2))
+
+mul-u16-at : tie.Need-mul-u16-at Inv-loop μ-loop
+mul-u16-at c = omega (arith, there (c .before .before .before .before .before))
+
+add-u16-at : tie.Need-add-u16-at Inv-loop μ-loop
+add-u16-at c = omega (arith, within (c .before .before .before .before .before .before .before .before .before .before .before .before))
+
+add-u16-at-2 : tie.Need-add-u16-at-2 Inv-loop μ-loop
+add-u16-at-2 c = omega (arith, within (c .before .before .before .before .before .before .before .before .before .before .before .before))
+
+u16-at-requires : tie.Need-u16-at-requires Inv-loop μ-loop
+u16-at-requires c κs = omega (arith, within (c .before .before .before .before .before .before .before .before .before .before .before .before))
+
+add-put-face : tie.Need-add-put-face Inv-loop μ-loop
+add-put-face c = omega (arith, fits-uses (c .before .before))
+
+mul-put-face : tie.Need-mul-put-face Inv-loop μ-loop
+mul-put-face c = omega (arith, fits-uses (c .before .before))
+
+sub-put-face : tie.Need-sub-put-face Inv-loop μ-loop
+sub-put-face c = search needs
+
+part-put-face-start : tie.Need-part-put-face-start Inv-loop μ-loop
+part-put-face-start c = search needs
+
+part-put-face-end : tie.Need-part-put-face-end Inv-loop μ-loop
+part-put-face-end c = fits-uses (c .before .before) .0
+
+put-face-requires : tie.Need-put-face-requires Inv-loop μ-loop
+put-face-requires c κs =
+    let f = c .before .before .before .before .before .before .before .before .before .before .before .before .before .before .args .file .now in
+    let r = c .before .before .before .before .before .before .before .before .before .before .before .before .before .before .pre in
+    let v = c .before .before .before .before .before .before .before .before .loop .inv in
+    let n = c .before .before .before .before .before .index .ensures .0 in
+    let m = c .before .before .before .sum-of .ensures in
+    (face-sum f (r .0) v (r .3) (r .4) (r .5) (omega arith) n m, omega (arith, there (c .before .before .before .before .before .before .before)), face-room f (r .0) v (r .3) (r .4) (r .5) (omega arith) n m (r .6))
+
+add-first : tie.Need-add-first Inv-loop μ-loop
+add-first c = omega (arith, fits-uses (c .before .before .before .before .before .before))
+
+add-k : tie.Need-add-k Inv-loop μ-loop
+add-k c = omega (arith, there (c .before .before .before .before .before .before .before .before .before .before))
+
+loop-less : tie.Need-loop-less Inv-loop μ-loop
+loop-less c = search needs
+
+loop-again : tie.Need-loop-again Inv-loop μ-loop
+loop-again c =
+    let r = c .before .before .before .before .before .before .before .before .before .before .before .before .before .before .before .before .before .pre in
+    let p = c .before .before .put-face .ensures in
+    face-next (c .before .before .before .before .before .before .before .before .before .before .before .before .before .before .before .before .before .args .file .now) (r .0) (c .before .before .before .before .before .before .before .before .before .before .before .loop .inv) (r .3) (r .4) (r .5) (omega arith) (c .before .before .before .before .before .before .before .before .index .ensures .0) (c .before .before .before .before .before .before .sum-of .ensures) (r .1) (c .before .before .before .before .u16-at .ensures) _ _ (p .0, p .1) (p .2)
+
+same-length : tie.Need-same-length Inv-loop μ-loop
+same-length c = c .before .loop .inv .listing .long
+
+returns : tie.Need-returns Inv-loop μ-loop
+returns c =
+    let e = facing-all (c .before .before .before .before .before .before .before .args .file .now) (c .before .before .before .before .before .before .before .pre .0) (c .before .loop .inv) (c .before .before .before .before .before .before .before .args .n) (c .before .before .before .before .before .before .before .pre .2) (c .loop-test .left) in
+    (e .0 .0, e .0 .1, e .1)
+
+pub put-faces-spec : {M : Type 1} → statement M
+put-faces-spec =
+    tie.close
+    (tie.spec
+    Inv-loop
+    μ-loop
+    loop-holds
+    mul-index
+    shared-slice-read-index
+    index-requires
+    add-last
+    mul-lens
+    sub-lens
+    part-lens-start
+    part-lens-end
+    sub-sum-of
+    sum-of-requires
+    mul-u16-at
+    add-u16-at
+    add-u16-at-2
+    u16-at-requires
+    add-put-face
+    mul-put-face
+    sub-put-face
+    part-put-face-start
+    part-put-face-end
+    put-face-requires
+    add-first
+    add-k
+    loop-less
+    loop-again
+    same-length
+    returns)

@@ -1,0 +1,121 @@
+-- The bodies one after the other: points, edges, faces, shells.
+use Prim.Native.Nat.{_<_, _≤_, ℕ}
+use mathlib.Core.List.{_++_}
+use mathlib.Core.Path.{_∙_, _≡_, ap}
+use native.Mathlib.Omega.{arith}
+use lib.ListN.{getD, length}
+use Rattle.lists.proofs.Sets.{put-then}
+use Rattle.pattern.specs.Checks.{countFaults}
+use Rattle.pattern.specs.Contents.{layout}
+use Rattle.pattern_file.specs.File.{fileCounts, startOf}
+use Rattle.pattern_text.proofs.Laws.{body-at, table-right}
+use Rattle.pattern_text.specs.PatternText.{edgeAt, faceAt, patternText, pointAt, recordLines, shellAt}
+use Rattle.file_table.proofs.Laws.{table-counts, table-long}
+use borrow.Author.Needs.{needs}
+use Rattle.pattern_text.proofs.put_records.Statement.{statement}
+use Rattle.pattern_text.proofs.put_records.Tie as tie
+
+-- where body b begins, and how many records it has
+body : (c : tie.After-starts-of) (b : ℕ) → b < 7
+    → (getD (c .starts-of .result) b 0 ≡ startOf (fileCounts (c .before .before .before .before .before .before .before .before .before .args .file .now)) b) × (getD (c .before .counts-of .result) b 0 ≡ getD (fileCounts (c .before .before .before .before .before .before .before .before .before .args .file .now)) b 0) × (getD (c .before .counts-of .result) b 0 ≤ getD (layout .limits) b 0)
+body c b h = body-at (c .before .before .before .before .before .before .before .before .before .args .file .now) (c .before .before .before .before .before .before .before .before .before .pre .0) (c .before .counts-of .result) (c .starts-of .result) (c .before .counts-of .ensures) (c .starts-of .ensures) b h
+
+-- the lines of the points and the edges leave room for the others
+points-end : (c : tie.After-put-points) → (c .put-points .result ≤ 81920) × (228480 ≤ length (c .put-points .last .1 .0))
+points-end c = let n = body (c .before .before) 0 (omega arith) in (omega (arith, n .2, c .put-points .ensures .2), omega (arith, c .before .before .before .before .before .before .before .before .before .before .before .pre .6, c .put-points .kept))
+
+edges-end : (c : tie.After-put-edges) → (c .put-edges .result ≤ 180224) × (228480 ≤ length (c .put-edges .last .1 .0))
+edges-end c = let n = body (c .before .before .before .before .before .before) 1 (omega arith) in let p = points-end (c .before .before .before .before) in (omega (arith, n .2, p .0, c .put-edges .ensures .2), omega (arith, p .1, c .put-edges .kept))
+
+counts-of-requires : tie.Need-counts-of-requires
+counts-of-requires c κs = table-long (c .before .before .before .before .before .before .before .args .file .now) (table-right (c .before .before .before .before .before .before .before .args .file .now) (c .before .before .before .before .before .before .before .pre .0))
+
+starts-of-requires : tie.Need-starts-of-requires
+starts-of-requires c κs =
+    let f = c .before .before .before .before .before .before .before .before .args .file .now in
+    ap countFaults (c .counts-of .ensures) ∙ table-counts f (table-right f (c .before .before .before .before .before .before .before .before .pre .0))
+
+array-read-put-points : tie.Need-array-read-put-points
+array-read-put-points c = search needs
+
+array-read-put-points-2 : tie.Need-array-read-put-points-2
+array-read-put-points-2 c = search needs
+
+put-points-requires : tie.Need-put-points-requires
+put-points-requires c κs =
+    let n = body (c .before) 0 (omega arith) in
+    (c .before .before .before .before .before .before .before .before .before .before .pre .0, n .0, n .1, omega (arith, n .2, c .before .before .before .before .before .before .before .before .before .before .pre .6))
+
+array-read-put-edges : tie.Need-array-read-put-edges
+array-read-put-edges c = search needs
+
+array-read-put-edges-2 : tie.Need-array-read-put-edges-2
+array-read-put-edges-2 c = search needs
+
+put-edges-requires : tie.Need-put-edges-requires
+put-edges-requires c κs =
+    let n = body (c .before .before .before .before .before) 1 (omega arith) in
+    let p = points-end (c .before .before .before) in
+    (c .before .before .before .before .before .before .before .before .before .before .before .before .before .before .pre .0, n .0, n .1, omega (arith, n .2, p .0, p .1))
+
+array-read-put-faces : tie.Need-array-read-put-faces
+array-read-put-faces c = search needs
+
+array-read-put-faces-2 : tie.Need-array-read-put-faces-2
+array-read-put-faces-2 c = search needs
+
+put-faces-requires : tie.Need-put-faces-requires
+put-faces-requires c κs =
+    let n = body (c .before .before .before .before .before .before .before .before .before) 4 (omega arith) in
+    let r = c .before .before .before .before .before .before .before .before .before .before .before .before .before .before .before .before .before .before .pre in
+    let p = edges-end (c .before .before .before) in
+    (r .0, n .0, n .1, r .1, r .2, r .3, omega (arith, p .0, p .1))
+
+array-read-put-shells : tie.Need-array-read-put-shells
+array-read-put-shells c = search needs
+
+put-shells-requires : tie.Need-put-shells-requires
+put-shells-requires c κs =
+    let n = body (c .before .before .before .before .before .before .before .before .before .before .before .before .before) 5 (omega arith) in
+    let r = c .before .before .before .before .before .before .before .before .before .before .before .before .before .before .before .before .before .before .before .before .before .before .pre in
+    let p = edges-end (c .before .before .before .before .before .before .before) in
+    (r .0, n .1, r .4, r .5, omega (arith, p .0, p .1, c .before .before .before .put-faces .ensures .2, c .before .before .before .put-faces .kept))
+
+same-length : tie.Need-same-length
+same-length c = search needs
+
+returns : tie.Need-returns
+unfolding patternText
+returns c =
+    let a = c .before .before .before .before .before .before .before .before .before .before .before .before .before .before .before .before .before .before .before .before .before .before .before .before .before .args in
+    let f = a .file .now in
+    let points = recordLines pointAt f 0 in
+    let edges = recordLines edgeAt f 1 in
+    let faces = recordLines faceAt f 4 in
+    let p1 = c .before .before .before .before .before .before .before .before .before .before .before .before .before .before .put-points .ensures in
+    let p2 = c .before .before .before .before .before .before .before .before .before .before .put-edges .ensures in
+    let p3 = c .before .before .before .before .before .before .put-faces .ensures in
+    let q2 = put-then (a .out .now) 0 points edges _ _ _ _ (p1 .0, p1 .1) (p2 .0, p2 .1) in
+    let q3 = put-then (a .out .now) 0 (points ++ edges) faces _ _ _ _ q2 (p3 .0, p3 .1) in
+    let q4 = put-then (a .out .now) 0 (points ++ edges ++ faces) (recordLines shellAt f 5) _ _ _ _ q3 (c .before .before .put-shells .ensures) in
+    (q4 .0, omega (arith, q4 .1))
+
+pub put-records-spec : {M : Type 1} → statement M
+put-records-spec =
+    tie.close
+    (tie.spec
+    counts-of-requires
+    starts-of-requires
+    array-read-put-points
+    array-read-put-points-2
+    put-points-requires
+    array-read-put-edges
+    array-read-put-edges-2
+    put-edges-requires
+    array-read-put-faces
+    array-read-put-faces-2
+    put-faces-requires
+    array-read-put-shells
+    put-shells-requires
+    same-length
+    returns)

@@ -1,0 +1,96 @@
+-- After k turns the lines of the first k shells are written.
+use Prim.Native.Nat.{_+_, _-_, _<_, _≤_}
+use native.Mathlib.Omega.{arith}
+use lib.ListN.{length}
+use Rattle.pattern_text.proofs.Shells.{Shelling, shell-fits, shell-next, shell-room, shell-there, shelling-all, shelling-start}
+use borrow.Author.Needs.{needs}
+use Rattle.pattern_text.proofs.put_shells.Statement.{statement}
+use Rattle.pattern_text.proofs.put_shells.Tie as tie
+
+abbrev Inv-loop : tie.InvT-loop
+Inv-loop file out₀ at n shells listings end₀ first₀ k₀ out end first k = Shelling file out₀ at out end first k
+
+abbrev μ-loop : tie.MeasureT-loop
+μ-loop file out₀ at n shells listings end₀ first₀ k₀ out end first k = n - k
+
+there : (c : tie.In-loop Inv-loop μ-loop) → (c .before .loop .k < length (c .before .before .before .before .before .before .args .shells .now)) × (c .before .loop .k < 16)
+there c = shell-there (c .before .before .before .before .before .before .args .file .now) (c .before .before .before .before .before .before .pre .0) (c .before .loop .inv) (c .before .before .before .before .before .before .pre .2) (c .before .before .before .before .before .before .pre .3) (omega arith)
+
+fits : (c : tie.After-index Inv-loop μ-loop) → (c .before .before .before .loop .first + c .index .result ≤ length (c .before .before .before .before .before .before .before .before .args .listings .now)) × (c .before .before .before .loop .first + c .index .result ≤ 512)
+fits c =
+    let f = shell-fits (c .before .before .before .before .before .before .before .before .args .file .now) (c .before .before .before .before .before .before .before .before .pre .0) (c .before .before .before .loop .inv) (c .before .before .before .before .before .before .before .before .pre .2) (c .before .before .before .before .before .before .before .before .pre .3) (omega arith) (c .index .ensures .0) in
+    (f .0, f .2)
+
+loop-holds : tie.Need-loop-holds Inv-loop μ-loop
+loop-holds c = shelling-start (c .before .before .before .before .args .file .now) (c .before .before .before .before .args .out .now) (c .before .before .before .before .args .at)
+
+mul-index : tie.Need-mul-index Inv-loop μ-loop
+mul-index c = omega (arith, there c)
+
+shared-slice-read-index : tie.Need-shared-slice-read-index Inv-loop μ-loop
+shared-slice-read-index c = there (c .before) .0
+
+index-requires : tie.Need-index-requires Inv-loop μ-loop
+index-requires c κs = search needs
+
+add-put-shell : tie.Need-add-put-shell Inv-loop μ-loop
+add-put-shell c = omega (arith, fits (c .before))
+
+mul-put-shell : tie.Need-mul-put-shell Inv-loop μ-loop
+mul-put-shell c = omega (arith, fits (c .before))
+
+sub-put-shell : tie.Need-sub-put-shell Inv-loop μ-loop
+sub-put-shell c = search needs
+
+part-put-shell-start : tie.Need-part-put-shell-start Inv-loop μ-loop
+part-put-shell-start c = search needs
+
+part-put-shell-end : tie.Need-part-put-shell-end Inv-loop μ-loop
+part-put-shell-end c = fits (c .before) .0
+
+put-shell-requires : tie.Need-put-shell-requires Inv-loop μ-loop
+put-shell-requires c κs =
+    (omega (arith, there (c .before .before .before .before)), shell-room (c .before .before .before .before .before .before .before .before .before .before .args .file .now) (c .before .before .before .before .before .before .before .before .before .before .pre .0) (c .before .before .before .before .before .loop .inv) (c .before .before .before .before .before .before .before .before .before .before .pre .2) (c .before .before .before .before .before .before .before .before .before .before .pre .3) (omega arith) (c .before .before .index .ensures .0) (c .before .before .before .before .before .before .before .before .before .before .pre .4))
+
+add-first : tie.Need-add-first Inv-loop μ-loop
+add-first c = omega (arith, fits (c .before .before .before .before .before))
+
+add-k : tie.Need-add-k Inv-loop μ-loop
+add-k c = omega (arith, there (c .before .before .before .before .before .before .before))
+
+loop-less : tie.Need-loop-less Inv-loop μ-loop
+loop-less c = search needs
+
+loop-again : tie.Need-loop-again Inv-loop μ-loop
+loop-again c =
+    let p = c .before .before .put-shell .ensures in
+    shell-next (c .before .before .before .before .before .before .before .before .before .before .before .before .before .args .file .now) (c .before .before .before .before .before .before .before .before .before .before .before .before .before .pre .0) (c .before .before .before .before .before .before .before .before .loop .inv) (c .before .before .before .before .before .before .before .before .before .before .before .before .before .pre .2) (c .before .before .before .before .before .before .before .before .before .before .before .before .before .pre .3) (omega arith) (c .before .before .before .before .before .index .ensures .0) _ _ (p .0, p .1) (p .2)
+
+same-length : tie.Need-same-length Inv-loop μ-loop
+same-length c = c .before .loop .inv .listing .long
+
+returns : tie.Need-returns Inv-loop μ-loop
+returns c = shelling-all (c .before .before .before .before .before .before .args .file .now) (c .before .before .before .before .before .before .pre .0) (c .before .loop .inv) (c .before .before .before .before .before .before .args .n) (c .before .before .before .before .before .before .pre .1) (c .loop-test .left)
+
+pub put-shells-spec : {M : Type 1} → statement M
+put-shells-spec =
+    tie.close
+    (tie.spec
+    Inv-loop
+    μ-loop
+    loop-holds
+    mul-index
+    shared-slice-read-index
+    index-requires
+    add-put-shell
+    mul-put-shell
+    sub-put-shell
+    part-put-shell-start
+    part-put-shell-end
+    put-shell-requires
+    add-first
+    add-k
+    loop-less
+    loop-again
+    same-length
+    returns)

@@ -1,0 +1,100 @@
+-- The text of an accepted file, or the line of its refusal.
+use mathlib.Core.List.{[]}
+use mathlib.Core.Path.{_∙_, _≡_, sym}
+use Rattle.errors.proofs.Laws.{accepted-none}
+use Rattle.pattern_file.specs.File.{fileFaults}
+use Rattle.pattern_text.proofs.Laws.{accepted-is, refused-is}
+use borrow.Author.Needs.{needs}
+use Rattle.pattern_text.proofs.show.Statement.{statement}
+use Rattle.pattern_text.proofs.show.Tie as tie
+
+right : (c : tie.After-enum-told) → fileFaults (c .before .before .before .before .before .before .before .before .before .before .before .before .before .before .before .before .before .before .args .file .now) ≡ []
+right c = accepted-none (fileFaults (c .before .before .before .before .before .before .before .before .before .before .before .before .before .before .before .before .before .before .args .file .now)) (sym (c .before .before .before .before .before .before .before .before .before .read-file .ensures .0) ∙ c .enum-told .given .1)
+
+slice-aggregate-read-file : tie.Need-slice-aggregate-read-file
+slice-aggregate-read-file c = search needs
+
+slice-aggregate-read-file-2 : tie.Need-slice-aggregate-read-file-2
+slice-aggregate-read-file-2 c = search needs
+
+slice-aggregate-read-file-3 : tie.Need-slice-aggregate-read-file-3
+slice-aggregate-read-file-3 c = search needs
+
+slice-aggregate-read-file-4 : tie.Need-slice-aggregate-read-file-4
+slice-aggregate-read-file-4 c = search needs
+
+slice-aggregate-read-file-5 : tie.Need-slice-aggregate-read-file-5
+slice-aggregate-read-file-5 c = search needs
+
+slice-aggregate-read-file-6 : tie.Need-slice-aggregate-read-file-6
+slice-aggregate-read-file-6 c = search needs
+
+slice-aggregate-read-file-7 : tie.Need-slice-aggregate-read-file-7
+slice-aggregate-read-file-7 c = search needs
+
+read-file-requires : tie.Need-read-file-requires
+read-file-requires c κs = search needs
+
+enum-known-checked : tie.Need-enum-known-checked
+enum-known-checked c = search needs
+
+put-refusal-requires : tie.Need-put-refusal-requires
+put-refusal-requires c κs = search needs
+
+enum-told : tie.Need-enum-told
+enum-told c = search needs
+
+slice-aggregate-put-records : tie.Need-slice-aggregate-put-records
+slice-aggregate-put-records c = search needs
+
+slice-aggregate-put-records-2 : tie.Need-slice-aggregate-put-records-2
+slice-aggregate-put-records-2 c = search needs
+
+slice-aggregate-put-records-3 : tie.Need-slice-aggregate-put-records-3
+slice-aggregate-put-records-3 c = search needs
+
+slice-aggregate-put-records-4 : tie.Need-slice-aggregate-put-records-4
+slice-aggregate-put-records-4 c = search needs
+
+slice-aggregate-put-records-5 : tie.Need-slice-aggregate-put-records-5
+slice-aggregate-put-records-5 c = search needs
+
+put-records-requires : tie.Need-put-records-requires
+put-records-requires c κs =
+    let ok = right (c .before .before .before .before .before .before) in
+    let t = c .before .before .before .before .before .before .before .before .before .before .before .before .before .before .before .read-file .ensures .1 ok in
+    (ok, t .uses-are, t .wires-are, t .faces-are, t .shells-are, t .listings-are, search needs)
+
+returns : tie.Need-returns
+returns c =
+    let s = c .before .before .before .before .before .before .before .before .before .before .before .before .before .before .before .before .before .before .before .before .before .args .file .now in
+    rw (refused-is (fileFaults s) s (sym (c .before .before .before .before .before .before .before .before .before .before .before .before .read-file .ensures .0) ∙ c .before .before .before .checked .given .1)) (c .put-refusal .ensures .0, c .put-refusal .ensures .1)
+
+returns-2 : tie.Need-returns-2
+returns-2 c =
+    let s = c .before .before .before .before .before .before .before .before .before .before .before .before .before .before .before .before .before .before .before .before .before .before .before .before .before .args .file .now in
+    rw (accepted-is (fileFaults s) s (right (c .before .before .before .before .before .before .before))) (c .put-records .ensures)
+
+pub show-spec : {M : Type 1} → statement M
+show-spec =
+    tie.close
+    (tie.spec
+    slice-aggregate-read-file
+    slice-aggregate-read-file-2
+    slice-aggregate-read-file-3
+    slice-aggregate-read-file-4
+    slice-aggregate-read-file-5
+    slice-aggregate-read-file-6
+    slice-aggregate-read-file-7
+    read-file-requires
+    enum-known-checked
+    put-refusal-requires
+    enum-told
+    slice-aggregate-put-records
+    slice-aggregate-put-records-2
+    slice-aggregate-put-records-3
+    slice-aggregate-put-records-4
+    slice-aggregate-put-records-5
+    put-records-requires
+    returns
+    returns-2)

@@ -1,0 +1,2 @@
+pub mod ShellCalls
+pub mod Figures

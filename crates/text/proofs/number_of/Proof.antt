@@ -1,0 +1,78 @@
+-- The digits passed are those of n, which has at most as many.
+use Prim.Native.Nat.{_-_, _≤_}
+use mathlib.Core.Path.{sym}
+use native.Mathlib.Omega.{arith}
+use lib.ListN.{length}
+use borrow.Author.Needs.{needs}
+use Rattle.text.proofs.Numbers.{Digits, digit-high, digit-low, digits-next, digits-start, number-all, number-empty, number-long, number-small, number-stop}
+use Rattle.text.proofs.number_of.Statement.{statement}
+use Rattle.text.proofs.number_of.Tie as tie
+
+abbrev Inv-loop : tie.InvT-loop
+Inv-loop word n₀ i₀ n i = (Digits 0 word n i) × (1 ≤ length word) × (length word ≤ 9)
+
+abbrev μ-loop : tie.MeasureT-loop
+μ-loop word n₀ i₀ n i = length word - i
+
+returns : tie.Need-returns Inv-loop μ-loop
+returns c = sym (number-empty (c .before .before .args .word .now) (c .if1 .taken))
+
+returns-2 : tie.Need-returns-2 Inv-loop μ-loop
+returns-2 c = sym (number-long (c .before .before .before .args .word .now) (omega arith))
+
+loop-holds : tie.Need-loop-holds Inv-loop μ-loop
+loop-holds c = (digits-start 0 (c .before .before .before .args .word .now), omega arith, omega arith)
+
+shared-slice-read-b : tie.Need-shared-slice-read-b Inv-loop μ-loop
+shared-slice-read-b c = search needs
+
+returns-3 : tie.Need-returns-3 Inv-loop μ-loop
+returns-3 c = sym (number-stop (c .before .before .before .loop .inv .0) (c .before .before .loop-test .taken) (digit-low _ (c .if3 .taken)))
+
+returns-4 : tie.Need-returns-4 Inv-loop μ-loop
+returns-4 c = sym (number-stop (c .before .before .before .before .loop .inv .0) (c .before .before .before .loop-test .taken) (digit-high _ (c .if4 .taken)))
+
+mul-n : tie.Need-mul-n Inv-loop μ-loop
+mul-n c = omega (arith, number-small (c .before .before .before .before .loop .inv .0) (omega arith))
+
+wide-requires : tie.Need-wide-requires Inv-loop μ-loop
+wide-requires c κs = search needs
+
+sub-n : tie.Need-sub-n Inv-loop μ-loop
+sub-n c = search needs
+
+add-n : tie.Need-add-n Inv-loop μ-loop
+add-n c = omega (arith, number-small (c .before .before .before .before .before .loop .inv .0) (omega arith))
+
+add-i : tie.Need-add-i Inv-loop μ-loop
+add-i c = search needs
+
+loop-less : tie.Need-loop-less Inv-loop μ-loop
+loop-less c = search needs
+
+loop-again : tie.Need-loop-again Inv-loop μ-loop
+loop-again c = (rw (c .wide .ensures .0) (digits-next (c .before .before .before .before .before .loop .inv .0) (c .before .before .before .before .loop-test .taken) (omega arith) (omega arith)), c .before .before .before .before .before .loop .inv .1, c .before .before .before .before .before .loop .inv .2)
+
+returns-5 : tie.Need-returns-5 Inv-loop μ-loop
+returns-5 c = sym (number-all (c .before .loop .inv .0) (c .before .loop .inv .1) (c .before .loop .inv .2) (c .loop-test .left))
+
+pub number-of-spec : {M : Type 1} → statement M
+number-of-spec =
+    tie.close
+    (tie.spec
+    Inv-loop
+    μ-loop
+    returns
+    returns-2
+    loop-holds
+    shared-slice-read-b
+    returns-3
+    returns-4
+    mul-n
+    wide-requires
+    sub-n
+    add-n
+    add-i
+    loop-less
+    loop-again
+    returns-5)

@@ -1,0 +1,34 @@
+-- An empty line, a line that ends in a carriage return, and any other.
+use native.Mathlib.Omega.{arith}
+use borrow.Author.Needs.{needs}
+use Rattle.text.proofs.Words.{trimmed-empty, trimmed-other, trimmed-return}
+use Rattle.text.proofs.trimmed_length.Statement.{statement}
+use Rattle.text.proofs.trimmed_length.Tie as tie
+
+-- src/lib.rt:35:9
+returns : tie.Need-returns
+returns c = (omega arith, trimmed-empty (c .before .args .line .now) (c .if1 .taken))
+
+-- src/lib.rt:37:13
+sub-if2 : tie.Need-sub-if2
+sub-if2 c = search needs
+
+-- src/lib.rt:37:8
+shared-slice-read-if2 : tie.Need-shared-slice-read-if2
+shared-slice-read-if2 c = search needs
+
+-- src/lib.rt:38:16
+sub-result : tie.Need-sub-result
+sub-result c = search needs
+
+-- src/lib.rt:38:9
+returns-2 : tie.Need-returns-2
+returns-2 c = (omega arith, trimmed-return (c .before .before .before .args .line .now) (c .if2 .taken))
+
+-- src/lib.rt:30:1
+returns-3 : tie.Need-returns-3
+returns-3 c = (omega arith, trimmed-other (c .before .before .before .args .line .now) (c .if2 .left))
+
+pub trimmed-length-spec : {M : Type 1} → statement M
+trimmed-length-spec =
+    tie.close (tie.spec returns sub-if2 shared-slice-read-if2 sub-result returns-2 returns-3)

@@ -1,0 +1,132 @@
+-- The words of the line, then the limits, then the columns.
+use Prim.Native.Nat.{_-_, ℕ}
+use mathlib.Core.List.{List}
+use mathlib.Core.Path.{_∙_, sym}
+use lib.ListN.{drop, take}
+use borrow.Author.Needs.{needs}
+use Rattle.line_parts.specs.Parts.{Parts, partsIn}
+use Rattle.text.specs.Text.{words}
+use Rattle.text_pattern.proofs.Adding.{Counted, enough, few-after, line-comment, line-limit, line-right, line-wrong}
+use Rattle.text_pattern.proofs.Lines.{sliced}
+use Rattle.text_pattern.specs.TextPattern.{Read}
+use Rattle.text_pattern.proofs.add_line.Statement.{statement}
+use Rattle.text_pattern.proofs.add_line.Tie as tie
+
+abbrev parts : tie.Start → Parts
+parts s = partsIn (s .args .counts) (s .args .points .now) (s .args .edges .now) (s .args .uses .now) (s .args .wires .now) (s .args .faces .now) (s .args .shells .now) (s .args .listings .now)
+
+-- the values of the line are read
+read : (c : tie.Else1) → Read (words (c .before .before .before .before .before .before .before .before .before .args .line .now)) (c .before .before .before .before .before .read-line .result .words) (c .before .before .before .before .before .read-line .last .1 .1 .0)
+read c = c .before .before .before .before .before .read-line .ensures .1 (c .before .enum-told .given .1) (c .if1 .left)
+
+counted : (c : tie.After-counts-after)
+    → Counted (c .before .before .before .before .before .before .before .before .before .before .before .before .args .counts) (parts (c .before .before .before .before .before .before .before .before .before .before .before .before)) (words (c .before .before .before .before .before .before .before .before .before .before .before .before .args .line .now)) (c .before .before .before .before .before .before .before .before .read-line .result .kind)
+    (take (c .before .before .before .before .before .before .before .before .read-line .result .words - 0) (drop 0 (c .before .before .before .before .before .before .before .before .read-line .last .1 .1 .0))) (c .counts-after .result)
+counted c = record {
+  held = c .before .before .before .before .before .before .before .before .before .before .before .before .pre .1;
+  right = sym (c .before .before .before .before .enum-told .given .1) ∙ c .before .before .before .before .before .before .before .before .read-line .ensures .0 .1;
+  kind = c .before .before .before .before .before .before .before .before .read-line .ensures .0 .0;
+  other = c .before .before .before .if1 .left;
+  are = sliced (c .before .before .before .before .before .before .before .before .read-line .result .words) (c .before .before .before .before .before .before .before .before .read-line .last .1 .1 .0) _ (read (c .before .before .before) .are);
+  counts-are = c .counts-after .ensures;
+}
+
+read-line-requires : tie.Need-read-line-requires
+read-line-requires c κs = search needs
+
+enum-known-check : tie.Need-enum-known-check
+enum-known-check c = search needs
+
+same-length : tie.Need-same-length
+same-length c = search needs
+
+returns : tie.Need-returns
+returns c =
+    let s = c .before .before .before .before .before .before .before .before .before in
+    line-wrong (s .pre .1) (words (s .args .line .now)) _ _ _ (sym (c .before .check .given .1) ∙ c .before .before .before .before .before .read-line .ensures .0 .1)
+
+enum-told : tie.Need-enum-told
+enum-told c = search needs
+
+same-length-2 : tie.Need-same-length-2
+same-length-2 c = search needs
+
+returns-2 : tie.Need-returns-2
+returns-2 c =
+    let s = c .before .before .before .before .before .before .before .before .before in
+    line-comment (s .pre .1) (words (s .args .line .now)) _ (sym (c .before .enum-told .given .1) ∙ c .before .before .before .before .before .read-line .ensures .0 .1) (c .before .before .before .before .before .read-line .ensures .0 .0) (c .if1 .taken)
+
+sub-counts-after : tie.Need-sub-counts-after
+sub-counts-after c = search needs
+
+part-counts-after-start : tie.Need-part-counts-after-start
+part-counts-after-start c = search needs
+
+part-counts-after-end : tie.Need-part-counts-after-end
+part-counts-after-end c = read (c .before) .few
+
+counts-after-requires : tie.Need-counts-after-requires
+counts-after-requires c κs = search needs
+
+check-counts-requires : tie.Need-check-counts-requires
+check-counts-requires c κs = search needs
+
+enum-known-limits : tie.Need-enum-known-limits
+enum-known-limits c = search needs
+
+enum-told-2 : tie.Need-enum-told-2
+enum-told-2 c = search needs
+
+sub-add-values : tie.Need-sub-add-values
+sub-add-values c = search needs
+
+part-add-values-start : tie.Need-part-add-values-start
+part-add-values-start c = search needs
+
+part-add-values-end : tie.Need-part-add-values-end
+part-add-values-end c = read (c .before .before .before .before .before .before .before) .few
+
+add-values-requires : tie.Need-add-values-requires
+add-values-requires c κs = (enough (counted (c .before .before .before .before .before .before .before .before .before .before .before .before)) (read (c .before .before .before .before .before .before .before .before .before .before .before .before .before .before .before) .needed), few-after (counted (c .before .before .before .before .before .before .before .before .before .before .before .before)) (sym (c .before .before .before .before .before .before .before .before .before .enum-told2 .given .1) ∙ c .before .before .before .before .before .before .before .before .before .before .before .check-counts .ensures))
+
+same-length-3 : tie.Need-same-length-3
+same-length-3 c = search needs
+
+returns-3 : tie.Need-returns-3
+returns-3 c = line-limit (counted (c .before .before .before .before)) _ _ _ (sym (c .before .limits .given .1) ∙ c .before .before .before .check-counts .ensures)
+
+same-length-4 : tie.Need-same-length-4
+same-length-4 c = search needs
+
+returns-4 : tie.Need-returns-4
+returns-4 c =
+    let l = c .add-values .last in
+    line-right (counted (c .before .before .before .before .before .before .before .before .before .before .before .before .before)) (λ (ns : List ℕ). partsIn ns (l .1 .1 .1 .0) (l .1 .1 .1 .1 .0) (l .1 .1 .1 .1 .1 .0) (l .1 .1 .1 .1 .1 .1 .0) (l .1 .1 .1 .1 .1 .1 .1 .0) (l .1 .1 .1 .1 .1 .1 .1 .1 .0) (l .1 .1 .1 .1 .1 .1 .1 .1 .1 .0))
+    (sym (c .before .before .before .before .before .before .before .before .before .before .enum-told2 .given .1) ∙ c .before .before .before .before .before .before .before .before .before .before .before .before .check-counts .ensures) (c .add-values .ensures)
+
+pub add-line-spec : {M : Type 1} → statement M
+add-line-spec =
+    tie.close
+    (tie.spec
+    read-line-requires
+    enum-known-check
+    same-length
+    returns
+    enum-told
+    same-length-2
+    returns-2
+    sub-counts-after
+    part-counts-after-start
+    part-counts-after-end
+    counts-after-requires
+    check-counts-requires
+    enum-known-limits
+    enum-told-2
+    sub-add-values
+    part-add-values-start
+    part-add-values-end
+    add-values-requires
+    same-length-3
+    returns-3
+    same-length-4
+    returns-4)

@@ -1,0 +1,14 @@
+pub mod Sentences
+pub mod Numbers
+pub mod Reals
+pub mod Lines
+pub mod Values
+pub mod Adds
+pub mod Weights
+pub mod Says
+pub mod Regions
+pub mod States
+pub mod Counts
+pub mod Steps
+pub mod Text
+pub mod Theorem
