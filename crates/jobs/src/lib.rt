@@ -78,7 +78,7 @@ fn do_job(j: usize, v: &[u64], file: &[u8], out: &mut [u8], text: &mut [u8]) -> 
 
 // Applies the job that a line of text asks for to a file: `out` takes the edited file, `text` the line of
 // the answer.
-pub fn apply(line: &[u8], file: &[u8], out: &mut [u8], text: &mut [u8; 65536]) -> Job
+fn apply(line: &[u8], file: &[u8], out: &mut [u8], text: &mut [u8; 65536]) -> Job
     ensures { λ r. ⌜ (now (text .exit) ≡ sets (now (text .entry)) 0 (lineText (now (line .entry)) (now (file .entry)) (now (out .entry)))) × (r .text ≡ length (lineText (now (line .entry)) (now (file .entry)) (now (out .entry)))) ⌝ }
     ensures { λ r. ⌜ (now (out .exit) ≡ lineOut (now (line .entry)) (now (file .entry)) (now (out .entry))) × (r .file ≡ lineLength (now (line .entry)) (now (file .entry)) (now (out .entry))) ⌝ }
 {
