@@ -12,12 +12,6 @@ use Rattle.add_boundary.specs.Boundary.{boundaryFaults, storedAs}
 use Rattle.edit_answers.specs.declared.FaceAnswer.the-variants.{Written}
 use Rattle.add_boundary.proofs.add_wire.Tie as tie
 
-judge-wire-requires : tie.Need-judge-wire-requires
-judge-wire-requires c κs = search needs
-
-enum-known-judged : tie.Need-enum-known-judged
-enum-known-judged c = search needs
-
 returns : tie.Need-returns
 returns c =
     let a = c .before .before .before .before .before .before .before .before .before .before .before .args in
@@ -30,9 +24,6 @@ returns c =
       ),
     )
 
-enum-told : tie.Need-enum-told
-enum-told c = search needs
-
 put-boundary-requires : tie.Need-put-boundary-requires
 put-boundary-requires c κs =
     let a = c .before .before .before .before .before .before .before .before .before .before .before .args in
@@ -43,18 +34,6 @@ put-length-requires c κs =
     let a = c .before .before .before .before .before .before .before .before .before .before .before .before .before .before .before .args in
     let h = sym (c .before .before .before .before .before .before .before .judge-wire .ensures) ∙ c .before .before .before .before .before .enum-told .given .1 in
     (wires-fit (a .fronts .now) (a .backs .now) (a .own .now) (length (a .sizes .now)) (a .wire .now) (length (a .uses .now)) (length (a .lens .now)) h, omega (arith, is-short (a .fronts .now) (a .backs .now) (a .own .now) (length (a .sizes .now)) (a .wire .now) (length (a .uses .now)) (length (a .lens .now)) h (c .before .before .before .before .before .before .before .before .before .before .before .before .before .before .before .pre .0)))
-
-add-t19 : tie.Need-add-t19
-add-t19 c = search needs
-
-add-t20 : tie.Need-add-t20
-add-t20 c = search needs
-
-same-length : tie.Need-same-length
-same-length c = search needs
-
-same-length-2 : tie.Need-same-length-2
-same-length-2 c = search needs
 
 returns-2 : tie.Need-returns-2
 returns-2 c =
@@ -72,14 +51,14 @@ pub add-wire-spec : {M : Type 1} → statement M
 add-wire-spec =
     tie.close
     (tie.spec
-    judge-wire-requires
-    enum-known-judged
+    (λ c κs. search needs)
+    (λ c. search needs)
     returns
-    enum-told
+    (λ c. search needs)
     put-boundary-requires
     put-length-requires
-    add-t19
-    add-t20
-    same-length
-    same-length-2
+    (λ c. search needs)
+    (λ c. search needs)
+    (λ c. search needs)
+    (λ c. search needs)
     returns-2)

@@ -4,15 +4,6 @@ use Rattle.add_boundary.proofs.Laws.{apart-says}
 use Rattle.add_boundary.proofs.disjoint_from.Statement.{statement}
 use Rattle.add_boundary.proofs.disjoint_from.Tie as tie
 
-stamp-points-requires : tie.Need-stamp-points-requires
-stamp-points-requires c κs = search needs
-
-stamp-points-requires-2 : tie.Need-stamp-points-requires-2
-stamp-points-requires-2 c κs = search needs
-
-same-length : tie.Need-same-length
-same-length c = search needs
-
 returns : tie.Need-returns
 returns c =
     let a = c .before .before .before .before .before .before .before .before .before .before .before .before .before .args in
@@ -21,4 +12,4 @@ returns c =
 
 pub disjoint-from-spec : {M : Type 1} → statement M
 disjoint-from-spec =
-    tie.close (tie.spec stamp-points-requires stamp-points-requires-2 same-length returns)
+    tie.close (tie.spec (λ c κs. search needs) (λ c κs. search needs) (λ c. search needs) returns)

@@ -9,29 +9,14 @@ use Rattle.lists.proofs.Marks.{below-zeros}
 use Rattle.wire.proofs.Laws.{simple-sound}
 use Rattle.add_boundary.proofs.judge_wire.Tie as tie
 
-slice-aggregate-check-wire : tie.Need-slice-aggregate-check-wire
-slice-aggregate-check-wire c = search needs
-
 check-wire-requires : tie.Need-check-wire-requires
 check-wire-requires c κs =
     (c .before .before .before .before .before .pre .0, (refl, below-zeros 2048))
-
-enum-known-answer : tie.Need-enum-known-answer
-enum-known-answer c = search needs
-
-wire-error-requires : tie.Need-wire-error-requires
-wire-error-requires c κs = search needs
 
 returns : tie.Need-returns
 returns c =
     let a = c .before .before .before .before .before .before .before .before .before .before .before .args in
     unfit-wire (a .fronts .now) (a .backs .now) (a .own .now) (a .n) (a .wire .now) (a .m) (a .k) _ _ (sym (c .before .before .before .before .before .check-wire .ensures .0) ∙ c .before .before .answer .given .1) (c .wire-error .ensures)
-
-enum-told : tie.Need-enum-told
-enum-told c = search needs
-
-slice-aggregate-disjoint-from : tie.Need-slice-aggregate-disjoint-from
-slice-aggregate-disjoint-from c = search needs
 
 disjoint-from-requires : tie.Need-disjoint-from-requires
 disjoint-from-requires c κs =
@@ -45,16 +30,10 @@ returns-2 c =
     let a = c .before .before .before .before .before .before .before .before .before .before .before .before .before .args in
     unfit-shared (a .fronts .now) (a .backs .now) (a .own .now) (a .n) (a .wire .now) (a .m) (a .k) (sym (c .before .before .before .before .before .before .before .check-wire .ensures .0) ∙ c .before .before .before .before .enum-told .given .1) (sym (c .before .before .disjoint-from .ensures) ∙ not-true _ (c .if1 .taken))
 
-add-if2 : tie.Need-add-if2
-add-if2 c = search needs
-
 returns-3 : tie.Need-returns-3
 returns-3 c =
     let a = c .before .before .before .before .before .before .before .before .before .before .before .before .before .before .args in
     unfit-uses (a .fronts .now) (a .backs .now) (a .own .now) (a .n) (a .wire .now) (a .m) (a .k) (sym (c .before .before .before .before .before .before .before .before .check-wire .ensures .0) ∙ c .before .before .before .before .before .enum-told .given .1) (sym (c .before .before .before .disjoint-from .ensures) ∙ not-false _ (c .before .if1 .left)) (c .if2 .taken)
-
-add-if3 : tie.Need-add-if3
-add-if3 c = search needs
 
 returns-4 : tie.Need-returns-4
 returns-4 c =
@@ -70,17 +49,17 @@ pub judge-wire-spec : {M : Type 1} → statement M
 judge-wire-spec =
     tie.close
     (tie.spec
-    slice-aggregate-check-wire
+    (λ c. search needs)
     check-wire-requires
-    enum-known-answer
-    wire-error-requires
+    (λ c. search needs)
+    (λ c κs. search needs)
     returns
-    enum-told
-    slice-aggregate-disjoint-from
+    (λ c. search needs)
+    (λ c. search needs)
     disjoint-from-requires
     returns-2
-    add-if2
+    (λ c. search needs)
     returns-3
-    add-if3
+    (λ c. search needs)
     returns-4
     returns-5)

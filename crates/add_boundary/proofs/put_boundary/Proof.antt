@@ -7,19 +7,10 @@ use Rattle.add_boundary.specs.Boundary.{storedAs}
 use Rattle.lists.proofs.Sets.{sets-then}
 use Rattle.add_boundary.proofs.put_boundary.Tie as tie
 
-put-uses-requires : tie.Need-put-uses-requires
-put-uses-requires c κs = search needs
-
-put-stored-requires : tie.Need-put-stored-requires
-put-stored-requires c κs = search needs
-
-same-length : tie.Need-same-length
-same-length c = search needs
-
 returns : tie.Need-returns
 returns c =
     let a = c .before .before .before .before .before .before .before .before .before .before .before .args in
     sets-then (a .out .now) 0 (a .own .now) (storedAs (a .reversed) (a .wire .now)) (length (a .own .now)) (omega arith) (c .before .before .before .before .before .before .put-uses .ensures) (c .before .before .put-stored .ensures)
 
 pub put-boundary-spec : {M : Type 1} → statement M
-put-boundary-spec = tie.close (tie.spec put-uses-requires put-stored-requires same-length returns)
+put-boundary-spec = tie.close (tie.spec (λ c κs. search needs) (λ c κs. search needs) (λ c. search needs) returns)

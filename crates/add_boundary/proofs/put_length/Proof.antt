@@ -8,21 +8,6 @@ use Rattle.add_boundary.proofs.put_length.Statement.{statement}
 use Rattle.lists.proofs.Sets.{sets-then}
 use Rattle.add_boundary.proofs.put_length.Tie as tie
 
-put-uses-requires : tie.Need-put-uses-requires
-put-uses-requires c κs = search needs
-
-cast-out : tie.Need-cast-out
-cast-out c = search needs
-
-mul-out : tie.Need-mul-out
-mul-out c = search needs
-
-slice-write-out : tie.Need-slice-write-out
-slice-write-out c = search needs
-
-same-length : tie.Need-same-length
-same-length c = search needs
-
 returns : tie.Need-returns
 returns c =
     let a = c .before .before .before .before .before .before .args in
@@ -30,4 +15,4 @@ returns c =
 
 pub put-length-spec : {M : Type 1} → statement M
 put-length-spec =
-    tie.close (tie.spec put-uses-requires cast-out mul-out slice-write-out same-length returns)
+    tie.close (tie.spec (λ c κs. search needs) (λ c. search needs) (λ c. search needs) (λ c. search needs) (λ c. search needs) returns)

@@ -64,69 +64,30 @@ part-there c =
     let a = c .before .before .before .before .before .before .before .before .before .before .before .before .before .before .before .before .before .before .before .before .before .args in
     part-is (a .t1) (a .f) (a .wire .now) (a .uses .now) (a .lens .now) (good (c .before .before .before .before .before .before .before .before .before .before .before .before .before .before .before)) (there (c .before .before .before .before .before .before .before .before)) _ _ (c .before .before .before .before .before .before .before .before .before .before .before .before .before .before .index .ensures .0) (column-counts (c .before .before .before .before .before .before .before .before)) _ (c .face-part .ensures)
 
-check-requires : tie.Need-check-requires
-check-requires c κs = search needs
-
-enum-known-answer : tie.Need-enum-known-answer
-enum-known-answer c = search needs
-
 returns : tie.Need-returns
 returns c =
     let a = c .before .before .before .before .before .before .before .args in
     refused-says (a .t1) (a .f) (a .wire .now) (a .uses .now) (a .lens .now) _ (sym (c .before .before .before .check .ensures) ∙ c .before .answer .given .1)
-
-enum-told : tie.Need-enum-told
-enum-told c = search needs
-
-index-requires : tie.Need-index-requires
-index-requires c κs = search needs
-
-element-copy-out-if1 : tie.Need-element-copy-out-if1
-element-copy-out-if1 c = search needs
 
 returns-2 : tie.Need-returns-2
 returns-2 c =
     let a = c .before .before .before .before .before .before .before .before .before .args in
     no-face (a .t1) (a .f) (a .wire .now) (a .uses .now) (a .lens .now) (good (c .before .before .before)) (omega (arith, c .if1 .taken, c .before .before .index .ensures .0))
 
-element-copy-out-ecount : tie.Need-element-copy-out-ecount
-element-copy-out-ecount c = search needs
-
-are-uses-requires : tie.Need-are-uses-requires
-are-uses-requires c κs = search needs
-
 returns-3 : tie.Need-returns-3
 returns-3 c =
     let a = c .before .before .before .before .before .before .before .before .before .before .before .before .args in
     no-uses (a .t1) (a .f) (a .wire .now) (a .uses .now) (a .lens .now) (good (c .before .before .before .before .before .before)) (omega (arith, c .before .before .before .if1 .left, c .before .before .before .before .before .index .ensures .0)) (sym (c .before .are-uses .ensures) ∙ not-true _ (c .if2 .taken))
-
-face-columns-requires : tie.Need-face-columns-requires
-face-columns-requires c κs = search needs
-
-slice-aggregate-face-part : tie.Need-slice-aggregate-face-part
-slice-aggregate-face-part c = search needs
 
 face-part-requires : tie.Need-face-part-requires
 face-part-requires c κs =
     let a = c .before .before .before .before .before .before .before .before .before .before .before .before .before .before .before .before .before .before .before .before .args in
     part-requires (a .t1) (a .f) (a .wire .now) (a .uses .now) (a .lens .now) (good (c .before .before .before .before .before .before .before .before .before .before .before .before .before .before)) (there (c .before .before .before .before .before .before .before)) _ _ (c .before .before .before .before .before .before .before .before .before .before .before .before .before .index .ensures .0) (column-counts (c .before .before .before .before .before .before .before))
 
-slice-aggregate-add-at : tie.Need-slice-aggregate-add-at
-slice-aggregate-add-at c = search needs
-
-slice-aggregate-add-at-2 : tie.Need-slice-aggregate-add-at-2
-slice-aggregate-add-at-2 c = search needs
-
 add-at-requires : tie.Need-add-at-requires
 add-at-requires c κs =
     let a = c .before .before .before .before .before .before .before .before .before .before .before .before .before .before .before .before .before .before .before .before .before .before .before .before .before .before .before .before .before .before .args in
     at-requires (a .t1) (a .f) (a .wire .now) (a .uses .now) (a .lens .now) (good (c .before .before .before .before .before .before .before .before .before .before .before .before .before .before .before .before .before .before .before .before .before .before .before .before)) (there (c .before .before .before .before .before .before .before .before .before .before .before .before .before .before .before .before .before)) (named (c .before .before .before .before .before .before .before .before .before .before .before .before .before .before .before .before .before)) _ _ _ (column-fronts (c .before .before .before .before .before .before .before .before .before .before .before .before .before .before .before .before .before)) (column-backs (c .before .before .before .before .before .before .before .before .before .before .before .before .before .before .before .before .before)) (part-there (c .before .before .before .before .before .before .before .before .before))
-
-same-length : tie.Need-same-length
-same-length c = search needs
-
-same-length-2 : tie.Need-same-length-2
-same-length-2 c = search needs
 
 returns-4 : tie.Need-returns-4
 returns-4 c =
@@ -137,22 +98,22 @@ pub try-add-boundary-spec : {M : Type 1} → statement M
 try-add-boundary-spec =
     tie.close
     (tie.spec
-    check-requires
-    enum-known-answer
+    (λ c κs. search needs)
+    (λ c. search needs)
     returns
-    enum-told
-    index-requires
-    element-copy-out-if1
+    (λ c. search needs)
+    (λ c κs. search needs)
+    (λ c. search needs)
     returns-2
-    element-copy-out-ecount
-    are-uses-requires
+    (λ c. search needs)
+    (λ c κs. search needs)
     returns-3
-    face-columns-requires
-    slice-aggregate-face-part
+    (λ c κs. search needs)
+    (λ c. search needs)
     face-part-requires
-    slice-aggregate-add-at
-    slice-aggregate-add-at-2
+    (λ c. search needs)
+    (λ c. search needs)
     add-at-requires
-    same-length
-    same-length-2
+    (λ c. search needs)
+    (λ c. search needs)
     returns-4)

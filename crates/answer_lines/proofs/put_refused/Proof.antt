@@ -16,26 +16,14 @@ use Rattle.answer_lines.proofs.put_refused.Tie as tie
 short : (c : tie.Start) → (length (decimal (c .args .number)) ≤ 20) × (length (decimal (c .args .body)) ≤ 20) × (length (decimal (c .args .place)) ≤ 20)
 short c = (decimal-20 _ (omega arith), decimal-20 _ (omega arith), decimal-20 _ (omega arith))
 
-slice-aggregate-put-field : tie.Need-slice-aggregate-put-field
-slice-aggregate-put-field c = search needs
-
 put-field-requires : tie.Need-put-field-requires
 put-field-requires c κs = let s = short (c .before .before .before .before) in omega arith
-
-slice-aggregate-put-field-2 : tie.Need-slice-aggregate-put-field-2
-slice-aggregate-put-field-2 c = search needs
 
 put-field-requires-2 : tie.Need-put-field-requires-2
 put-field-requires-2 c κs = let s = short (c .before .before .before .before .before .before .before .before .before) in omega arith
 
-slice-aggregate-put-number : tie.Need-slice-aggregate-put-number
-slice-aggregate-put-number c = search needs
-
 put-number-requires : tie.Need-put-number-requires
 put-number-requires c κs = let s = short (c .before .before .before .before .before .before .before .before .before .before .before .before .before .before) in omega (arith, number-short (ascii " record ") 20 _ (s .2))
-
-same-length : tie.Need-same-length
-same-length c = search needs
 
 returns : tie.Need-returns
 returns c =
@@ -48,14 +36,8 @@ returns c =
     let e = put-front (a .out .now) _ _ (placed-is (a .outcome) (a .number) (a .body) (a .place) (c .before .before .before .before .before .before .before .before .before .before .before .before .before .before .before .if1 .taken)) q in
     (e .0, e .1, omega (arith, number-short (ascii " record ") 20 _ (s .2)))
 
-slice-aggregate-put-number-2 : tie.Need-slice-aggregate-put-number-2
-slice-aggregate-put-number-2 c = search needs
-
 put-number-requires-2 : tie.Need-put-number-requires-2
 put-number-requires-2 c κs = let s = short (c .before .before .before .before) in omega (arith, number-short (ascii "refused ") 20 _ (s .0))
-
-same-length-2 : tie.Need-same-length-2
-same-length-2 c = search needs
 
 returns-2 : tie.Need-returns-2
 returns-2 c =
@@ -68,15 +50,15 @@ pub put-refused-spec : {M : Type 1} → statement M
 put-refused-spec =
     tie.close
     (tie.spec
-    slice-aggregate-put-field
+    (λ c. search needs)
     put-field-requires
-    slice-aggregate-put-field-2
+    (λ c. search needs)
     put-field-requires-2
-    slice-aggregate-put-number
+    (λ c. search needs)
     put-number-requires
-    same-length
+    (λ c. search needs)
     returns
-    slice-aggregate-put-number-2
+    (λ c. search needs)
     put-number-requires-2
-    same-length-2
+    (λ c. search needs)
     returns-2)

@@ -8,22 +8,10 @@ use Rattle.output.specs.Text.{ascii}
 use Rattle.answer_lines.proofs.put_wire.Statement.{statement}
 use Rattle.answer_lines.proofs.put_wire.Tie as tie
 
-slice-aggregate-put-text : tie.Need-slice-aggregate-put-text
-slice-aggregate-put-text c = search needs
-
-put-text-requires : tie.Need-put-text-requires
-put-text-requires c κs = search needs
-
-put-items-requires : tie.Need-put-items-requires
-put-items-requires c κs = search needs
-
-same-length : tie.Need-same-length
-same-length c = search needs
-
 returns : tie.Need-returns
 returns c = put-then (c .before .before .before .before .before .before .before .before .before .before .before .args .out .now) (c .before .before .before .before .before .before .before .before .before .before .before .args .at) (ascii " wire") (flat (map item (c .before .before .before .before .before .before .before .before .before .before .before .args .us .now))) _ _ _ _ (c .before .before .before .before .before .before .put-text .ensures) (c .before .before .put-items .ensures)
 
 pub put-wire-spec : {M : Type 1} → statement M
 put-wire-spec =
     tie.close
-    (tie.spec slice-aggregate-put-text put-text-requires put-items-requires same-length returns)
+    (tie.spec (λ c. search needs) (λ c κs. search needs) (λ c κs. search needs) (λ c. search needs) returns)

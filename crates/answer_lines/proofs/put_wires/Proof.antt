@@ -22,26 +22,11 @@ loop-holds : tie.Need-loop-holds Inv-loop μ-loop
 unfolding wiresText
 loop-holds c = lining-start wireText (c .before .before .before .args .out .now) (c .before .before .before .args .at) (c .before .before .before .args .us .now) (c .before .before .before .args .lens .now) (c .before .before .before .pre .0) (c .before .before .before .pre .1)
 
-mul-index : tie.Need-mul-index Inv-loop μ-loop
-mul-index c = search needs
-
-shared-slice-read-index : tie.Need-shared-slice-read-index Inv-loop μ-loop
-shared-slice-read-index c = search needs
-
-index-requires : tie.Need-index-requires Inv-loop μ-loop
-index-requires c κs = search needs
-
 add-put-wire : tie.Need-add-put-wire Inv-loop μ-loop
 add-put-wire c = omega (arith, fits (c .before))
 
 mul-put-wire : tie.Need-mul-put-wire Inv-loop μ-loop
 mul-put-wire c = omega (arith, fits (c .before))
-
-sub-put-wire : tie.Need-sub-put-wire Inv-loop μ-loop
-sub-put-wire c = search needs
-
-part-put-wire-start : tie.Need-part-put-wire-start Inv-loop μ-loop
-part-put-wire-start c = search needs
 
 part-put-wire-end : tie.Need-part-put-wire-end Inv-loop μ-loop
 part-put-wire-end c = fits (c .before)
@@ -51,12 +36,6 @@ put-wire-requires c κs = lining-room wireText (c .before .before .before .befor
 
 add-start : tie.Need-add-start Inv-loop μ-loop
 add-start c = omega (arith, fits (c .before .before .before .before .before))
-
-add-k : tie.Need-add-k Inv-loop μ-loop
-add-k c = search needs
-
-loop-less : tie.Need-loop-less Inv-loop μ-loop
-loop-less c = search needs
 
 loop-again : tie.Need-loop-again Inv-loop μ-loop
 loop-again c = lining-next wireText (c .before .before .before .before .before .before .before .before .loop .inv) (c .before .before .before .before .before .before .before .loop-test .taken) (c .before .before .before .before .before .index .ensures .0) (c .before .before .put-wire .last .0) (c .before .before .put-wire .result) (c .before .before .put-wire .ensures)
@@ -75,18 +54,18 @@ put-wires-spec =
     Inv-loop
     μ-loop
     loop-holds
-    mul-index
-    shared-slice-read-index
-    index-requires
+    (λ c. search needs)
+    (λ c. search needs)
+    (λ c κs. search needs)
     add-put-wire
     mul-put-wire
-    sub-put-wire
-    part-put-wire-start
+    (λ c. search needs)
+    (λ c. search needs)
     part-put-wire-end
     put-wire-requires
     add-start
-    add-k
-    loop-less
+    (λ c. search needs)
+    (λ c. search needs)
     loop-again
     same-length
     returns)

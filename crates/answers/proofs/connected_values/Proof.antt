@@ -2,27 +2,6 @@ use borrow.Author.Needs.{needs}
 use Rattle.answers.proofs.connected_values.Statement.{statement}
 use Rattle.answers.proofs.connected_values.Tie as tie
 
-enum-known-a : tie.Need-enum-known-a
-enum-known-a c = search needs
-
-done-with-requires : tie.Need-done-with-requires
-done-with-requires c κs = search needs
-
-done-with-requires-2 : tie.Need-done-with-requires-2
-done-with-requires-2 c κs = search needs
-
-enum-known-a-2 : tie.Need-enum-known-a-2
-enum-known-a-2 c = search needs
-
-unread-requires : tie.Need-unread-requires
-unread-requires c κs = search needs
-
-enum-told : tie.Need-enum-told
-enum-told c = search needs
-
-refused-requires : tie.Need-refused-requires
-refused-requires c κs = search needs
-
 returns : tie.Need-returns
 returns c = rw (c .before .before .before .a .given .1, c .before .if1 .taken) (c .done-with .ensures)
 
@@ -39,13 +18,13 @@ pub connected-values-spec : {M : Type 1} → statement M
 connected-values-spec =
     tie.close
     (tie.spec
-    enum-known-a
-    done-with-requires
-    done-with-requires-2
-    enum-known-a-2
-    unread-requires
-    enum-told
-    refused-requires
+    (λ c. search needs)
+    (λ c κs. search needs)
+    (λ c κs. search needs)
+    (λ c. search needs)
+    (λ c κs. search needs)
+    (λ c. search needs)
+    (λ c κs. search needs)
     returns
     returns-2
     returns-3

@@ -2,24 +2,6 @@ use borrow.Author.Needs.{needs}
 use Rattle.answers.proofs.singular_values.Statement.{statement}
 use Rattle.answers.proofs.singular_values.Tie as tie
 
-enum-known-a : tie.Need-enum-known-a
-enum-known-a c = search needs
-
-done-with-requires : tie.Need-done-with-requires
-done-with-requires c κs = search needs
-
-enum-known-a-2 : tie.Need-enum-known-a-2
-enum-known-a-2 c = search needs
-
-unread-requires : tie.Need-unread-requires
-unread-requires c κs = search needs
-
-enum-told : tie.Need-enum-told
-enum-told c = search needs
-
-refused-requires : tie.Need-refused-requires
-refused-requires c κs = search needs
-
 returns : tie.Need-returns
 returns c = rw (c .before .before .a .given .1) (c .done-with .ensures)
 
@@ -33,12 +15,12 @@ pub singular-values-spec : {M : Type 1} → statement M
 singular-values-spec =
     tie.close
     (tie.spec
-    enum-known-a
-    done-with-requires
-    enum-known-a-2
-    unread-requires
-    enum-told
-    refused-requires
+    (λ c. search needs)
+    (λ c κs. search needs)
+    (λ c. search needs)
+    (λ c κs. search needs)
+    (λ c. search needs)
+    (λ c κs. search needs)
     returns
     returns-2
     returns-3)

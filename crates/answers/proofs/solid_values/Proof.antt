@@ -2,27 +2,6 @@ use borrow.Author.Needs.{needs}
 use Rattle.answers.proofs.solid_values.Statement.{statement}
 use Rattle.answers.proofs.solid_values.Tie as tie
 
-enum-told : tie.Need-enum-told
-enum-told c = search needs
-
-done-with-requires : tie.Need-done-with-requires
-done-with-requires c κs = search needs
-
-enum-known-a : tie.Need-enum-known-a
-enum-known-a c = search needs
-
-reason-number-requires : tie.Need-reason-number-requires
-reason-number-requires c κs = search needs
-
-refused-requires : tie.Need-refused-requires
-refused-requires c κs = search needs
-
-enum-known-a-2 : tie.Need-enum-known-a-2
-enum-known-a-2 c = search needs
-
-unread-requires : tie.Need-unread-requires
-unread-requires c κs = search needs
-
 returns : tie.Need-returns
 returns c = rw (c .before .enum-told .given .1) (c .done-with .ensures)
 
@@ -36,13 +15,13 @@ pub solid-values-spec : {M : Type 1} → statement M
 solid-values-spec =
     tie.close
     (tie.spec
-    enum-told
-    done-with-requires
-    enum-known-a
-    reason-number-requires
-    refused-requires
-    enum-known-a-2
-    unread-requires
+    (λ c. search needs)
+    (λ c κs. search needs)
+    (λ c. search needs)
+    (λ c κs. search needs)
+    (λ c κs. search needs)
+    (λ c. search needs)
+    (λ c κs. search needs)
     returns
     returns-2
     returns-3)

@@ -28,22 +28,10 @@ shells c =
     let few = count-kept (p .counts) 5 (none-left (countFaults (p .counts)) (contentFaults (content p)) (passed c)) (omega (arith, counts-long (c .before .before .before))) in
     length-take-le (getD (p .counts) 5 0) (p .shells) (omega (arith, few, shells-long (c .before .before .before)))
 
-check-requires : tie.Need-check-requires
-check-requires c κs = search needs
-
-enum-known-answer : tie.Need-enum-known-answer
-enum-known-answer c = search needs
-
 returns : tie.Need-returns
 returns c =
     let a = c .before .before .before .before .args in
     presence-refused (patternFaults (a .t1)) (content (a .t1)) (a .n) _ (sym (c .before .before .before .check .ensures) ∙ c .before .answer .given .1)
-
-enum-told : tie.Need-enum-told
-enum-told c = search needs
-
-element-copy-out-shells : tie.Need-element-copy-out-shells
-element-copy-out-shells c = search needs
 
 returns-2 : tie.Need-returns-2
 returns-2 c =
@@ -56,4 +44,4 @@ returns-3 c =
     presence-there (patternFaults (a .t1)) (passed (c .before .before)) (content (a .t1)) (a .n) (omega (arith, c .if1 .left, shells (c .before .before)))
 
 pub find-shell-spec : {M : Type 1} → statement M
-find-shell-spec = tie.close (tie.spec check-requires enum-known-answer returns enum-told element-copy-out-shells returns-2 returns-3)
+find-shell-spec = tie.close (tie.spec (λ c κs. search needs) (λ c. search needs) returns (λ c. search needs) (λ c. search needs) returns-2 returns-3)

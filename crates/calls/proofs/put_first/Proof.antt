@@ -15,27 +15,6 @@ Inv-loop out₀ from n i₀ out i = (i ≤ n) × (length out ≡ length out₀) 
 abbrev μ-loop : tie.MeasureT-loop
 μ-loop out₀ from n i₀ out i = n - i
 
-loop-holds : tie.Need-loop-holds Inv-loop μ-loop
-loop-holds c = search needs
-
-mul-out : tie.Need-mul-out Inv-loop μ-loop
-mul-out c = search needs
-
-shared-slice-read-out : tie.Need-shared-slice-read-out Inv-loop μ-loop
-shared-slice-read-out c = search needs
-
-mul-out-2 : tie.Need-mul-out-2 Inv-loop μ-loop
-mul-out-2 c = search needs
-
-slice-write-out : tie.Need-slice-write-out Inv-loop μ-loop
-slice-write-out c = search needs
-
-add-i : tie.Need-add-i Inv-loop μ-loop
-add-i c = search needs
-
-loop-less : tie.Need-loop-less Inv-loop μ-loop
-loop-less c = search needs
-
 loop-again : tie.Need-loop-again Inv-loop μ-loop
 loop-again c =
     let v = c .before .before .loop .inv in
@@ -46,9 +25,6 @@ loop-again c =
       simp length-set (v .1),
       rw (v .2) (rw e at (sets-next (a .out .now) 0 (a .from .now) i 0 (omega (arith, c .before .before .before .pre .1)))),
     )
-
-same-length : tie.Need-same-length Inv-loop μ-loop
-same-length c = search needs
 
 returns : tie.Need-returns Inv-loop μ-loop
 returns c =
@@ -61,13 +37,13 @@ put-first-spec =
     (tie.spec
     Inv-loop
     μ-loop
-    loop-holds
-    mul-out
-    shared-slice-read-out
-    mul-out-2
-    slice-write-out
-    add-i
-    loop-less
+    (λ c. search needs)
+    (λ c. search needs)
+    (λ c. search needs)
+    (λ c. search needs)
+    (λ c. search needs)
+    (λ c. search needs)
+    (λ c. search needs)
     loop-again
-    same-length
+    (λ c. search needs)
     returns)

@@ -48,36 +48,6 @@ fine s =
 loop-holds : tie.Need-loop-holds Inv-loop μ-loop
 loop-holds c = (full c .edges, column-start frontNumber noEdge (c .args .t1 .edges) _ (sym (full c .edges)), column-start backNumber noEdge (c .args .t1 .edges) _ (sym (full c .edges)))
 
-mul-fronts : tie.Need-mul-fronts Inv-loop μ-loop
-mul-fronts c = search needs
-
-element-copy-out-fronts : tie.Need-element-copy-out-fronts Inv-loop μ-loop
-element-copy-out-fronts c = search needs
-
-mul-fronts-2 : tie.Need-mul-fronts-2 Inv-loop μ-loop
-mul-fronts-2 c = search needs
-
-array-write-fronts : tie.Need-array-write-fronts Inv-loop μ-loop
-array-write-fronts c = search needs
-
-mul-backs : tie.Need-mul-backs Inv-loop μ-loop
-mul-backs c = search needs
-
-element-copy-out-backs : tie.Need-element-copy-out-backs Inv-loop μ-loop
-element-copy-out-backs c = search needs
-
-mul-backs-2 : tie.Need-mul-backs-2 Inv-loop μ-loop
-mul-backs-2 c = search needs
-
-array-write-backs : tie.Need-array-write-backs Inv-loop μ-loop
-array-write-backs c = search needs
-
-add-i : tie.Need-add-i Inv-loop μ-loop
-add-i c = search needs
-
-loop-less : tie.Need-loop-less Inv-loop μ-loop
-loop-less c = search needs
-
 loop-again : tie.Need-loop-again Inv-loop μ-loop
 loop-again c =
     let v = c .before .loop .inv in
@@ -87,32 +57,8 @@ loop-again c =
       column-next backNumber noEdge es (c .before .loop .backs) (c .before .loop .i) (v .2) (omega (arith, v .0)),
     )
 
-wire-counts-requires : tie.Need-wire-counts-requires Inv-loop μ-loop
-wire-counts-requires c κs = search needs
-
-slice-aggregate-put-columns : tie.Need-slice-aggregate-put-columns Inv-loop μ-loop
-slice-aggregate-put-columns c = search needs
-
-slice-aggregate-put-columns-2 : tie.Need-slice-aggregate-put-columns-2 Inv-loop μ-loop
-slice-aggregate-put-columns-2 c = search needs
-
-slice-aggregate-put-columns-3 : tie.Need-slice-aggregate-put-columns-3 Inv-loop μ-loop
-slice-aggregate-put-columns-3 c = search needs
-
-slice-aggregate-put-columns-4 : tie.Need-slice-aggregate-put-columns-4 Inv-loop μ-loop
-slice-aggregate-put-columns-4 c = search needs
-
-slice-aggregate-put-columns-5 : tie.Need-slice-aggregate-put-columns-5 Inv-loop μ-loop
-slice-aggregate-put-columns-5 c = search needs
-
 put-columns-requires : tie.Need-put-columns-requires Inv-loop μ-loop
 put-columns-requires c κs = (summed (c .before .before .before .before .before .before .before .before .before .before .before .before .before .before .before .before .before .before .before .args .t1) (limits (c .before .before .before .before .before .before .before .before .before .before .before .before .before .before .before .before .before .before .before)) (full (c .before .before .before .before .before .before .before .before .before .before .before .before .before .before .before .before .before .before .before)) (fine (c .before .before .before .before .before .before .before .before .before .before .before .before .before .before .before .before .before .before .before)) _ (c .before .before .before .before .before .before .before .before .before .before .before .before .before .before .wire-counts .ensures), search needs)
-
-array-read-t51 : tie.Need-array-read-t51 Inv-loop μ-loop
-array-read-t51 c = search needs
-
-array-read-t54 : tie.Need-array-read-t54 Inv-loop μ-loop
-array-read-t54 c = search needs
 
 returns : tie.Need-returns Inv-loop μ-loop
 returns c =
@@ -132,24 +78,24 @@ columns-of-spec =
     Inv-loop
     μ-loop
     loop-holds
-    mul-fronts
-    element-copy-out-fronts
-    mul-fronts-2
-    array-write-fronts
-    mul-backs
-    element-copy-out-backs
-    mul-backs-2
-    array-write-backs
-    add-i
-    loop-less
+    (λ c. search needs)
+    (λ c. search needs)
+    (λ c. search needs)
+    (λ c. search needs)
+    (λ c. search needs)
+    (λ c. search needs)
+    (λ c. search needs)
+    (λ c. search needs)
+    (λ c. search needs)
+    (λ c. search needs)
     loop-again
-    wire-counts-requires
-    slice-aggregate-put-columns
-    slice-aggregate-put-columns-2
-    slice-aggregate-put-columns-3
-    slice-aggregate-put-columns-4
-    slice-aggregate-put-columns-5
+    (λ c κs. search needs)
+    (λ c. search needs)
+    (λ c. search needs)
+    (λ c. search needs)
+    (λ c. search needs)
+    (λ c. search needs)
     put-columns-requires
-    array-read-t51
-    array-read-t54
+    (λ c. search needs)
+    (λ c. search needs)
     returns)

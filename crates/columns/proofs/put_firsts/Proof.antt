@@ -17,35 +17,14 @@ abbrev μ-loop : tie.MeasureT-loop
 loop-holds : tie.Need-loop-holds Inv-loop μ-loop
 loop-holds c = firsting-start _ _ (c .before .before .pre .0) (c .before .before .pre .1) _ (c .before .before .pre .2)
 
-mul-out : tie.Need-mul-out Inv-loop μ-loop
-mul-out c = search needs
-
 slice-write-out : tie.Need-slice-write-out Inv-loop μ-loop
 slice-write-out c = omega (arith, firsting-long (c .before .loop .inv), c .before .before .before .before .pre .0)
-
-mul-index : tie.Need-mul-index Inv-loop μ-loop
-mul-index c = search needs
-
-shared-slice-read-index : tie.Need-shared-slice-read-index Inv-loop μ-loop
-shared-slice-read-index c = search needs
-
-index-requires : tie.Need-index-requires Inv-loop μ-loop
-index-requires c κs = search needs
 
 add-at : tie.Need-add-at Inv-loop μ-loop
 add-at c = omega (arith, c .before .before .before .loop .inv .low, c .before .before .before .loop .inv .few, c .index .ensures .1)
 
-add-k : tie.Need-add-k Inv-loop μ-loop
-add-k c = search needs
-
-loop-less : tie.Need-loop-less Inv-loop μ-loop
-loop-less c = search needs
-
 loop-again : tie.Need-loop-again Inv-loop μ-loop
 loop-again c = firsting-next (c .before .before .before .loop .inv) (omega arith) (c .index .ensures .0) (c .index .ensures .1)
-
-mul-out-2 : tie.Need-mul-out-2 Inv-loop μ-loop
-mul-out-2 c = search needs
 
 slice-write-out-2 : tie.Need-slice-write-out-2 Inv-loop μ-loop
 slice-write-out-2 c = omega (arith, firsting-long (c .before .loop .inv), c .before .before .before .before .pre .0)
@@ -63,16 +42,16 @@ put-firsts-spec =
     Inv-loop
     μ-loop
     loop-holds
-    mul-out
+    (λ c. search needs)
     slice-write-out
-    mul-index
-    shared-slice-read-index
-    index-requires
+    (λ c. search needs)
+    (λ c. search needs)
+    (λ c κs. search needs)
     add-at
-    add-k
-    loop-less
+    (λ c. search needs)
+    (λ c. search needs)
     loop-again
-    mul-out-2
+    (λ c. search needs)
     slice-write-out-2
     same-length
     returns)

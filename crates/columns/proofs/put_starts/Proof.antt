@@ -7,22 +7,10 @@ use borrow.Author.Needs.{needs}
 use Rattle.columns.proofs.put_starts.Statement.{statement}
 use Rattle.columns.proofs.put_starts.Tie as tie
 
-sub-put-face-starts : tie.Need-sub-put-face-starts
-sub-put-face-starts c = search needs
-
-part-put-face-starts-start : tie.Need-part-put-face-starts-start
-part-put-face-starts-start c = search needs
-
-part-put-face-starts-end : tie.Need-part-put-face-starts-end
-part-put-face-starts-end c = search needs
-
 put-face-starts-requires : tie.Need-put-face-starts-requires
 put-face-starts-requires c κs =
     let lw = length-take-le (c .before .before .before .before .before .args .wcount) (c .before .before .before .before .before .args .wires .now) (c .before .before .before .before .before .pre .0 .1) in
     rw (sub-zero (c .before .before .before .before .before .args .wcount)) (c .before .before .before .before .before .pre .0 .2, c .before .before .before .before .before .pre .0 .3, c .before .before .before .before .before .pre .1 .0 ∙ sym lw, omega (arith, lw, c .before .before .before .before .before .pre .0 .0), c .before .before .before .before .before .pre .1 .1)
-
-same-length : tie.Need-same-length
-same-length c = search needs
 
 returns : tie.Need-returns
 returns c = rw (sub-zero (c .before .before .before .before .before .before .before .before .args .wcount)) at (c .before .before .put-face-starts .ensures)
@@ -31,9 +19,9 @@ pub put-starts-spec : {M : Type 1} → statement M
 put-starts-spec =
     tie.close
     (tie.spec
-    sub-put-face-starts
-    part-put-face-starts-start
-    part-put-face-starts-end
+    (λ c. search needs)
+    (λ c. search needs)
+    (λ c. search needs)
     put-face-starts-requires
-    same-length
+    (λ c. search needs)
     returns)

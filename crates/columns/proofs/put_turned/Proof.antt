@@ -7,32 +7,11 @@ use borrow.Author.Needs.{needs}
 use Rattle.columns.proofs.put_turned.Statement.{statement}
 use Rattle.columns.proofs.put_turned.Tie as tie
 
-sub-put-turned-uses : tie.Need-sub-put-turned-uses
-sub-put-turned-uses c = search needs
-
-part-put-turned-uses-start : tie.Need-part-put-turned-uses-start
-part-put-turned-uses-start c = search needs
-
-part-put-turned-uses-end : tie.Need-part-put-turned-uses-end
-part-put-turned-uses-end c = search needs
-
-sub-put-turned-uses-2 : tie.Need-sub-put-turned-uses-2
-sub-put-turned-uses-2 c = search needs
-
-part-put-turned-uses-start-2 : tie.Need-part-put-turned-uses-start-2
-part-put-turned-uses-start-2 c = search needs
-
-part-put-turned-uses-end-2 : tie.Need-part-put-turned-uses-end-2
-part-put-turned-uses-end-2 c = search needs
-
 put-turned-uses-requires : tie.Need-put-turned-uses-requires
 put-turned-uses-requires c κs =
     let lu = length-take-le (c .before .before .before .before .before .before .before .args .ucount) (c .before .before .before .before .before .before .before .args .uses .now) (c .before .before .before .before .before .before .before .pre .0 .1) in
     let lw = length-take-le (c .before .before .before .before .before .before .before .args .wcount) (c .before .before .before .before .before .before .before .args .wires .now) (c .before .before .before .before .before .before .before .pre .0 .3) in
     rw (sub-zero (c .before .before .before .before .before .before .before .args .ucount), sub-zero (c .before .before .before .before .before .before .before .args .wcount)) (omega (arith, lu, c .before .before .before .before .before .before .before .pre .0 .0), omega (arith, lw, c .before .before .before .before .before .before .before .pre .0 .2), c .before .before .before .before .before .before .before .pre .1 .0 ∙ sym lu, c .before .before .before .before .before .before .before .pre .1 .1)
-
-same-length : tie.Need-same-length
-same-length c = search needs
 
 returns : tie.Need-returns
 returns c = (rw (sub-zero (c .before .before .before .before .before .before .before .before .before .before .args .ucount), sub-zero (c .before .before .before .before .before .before .before .before .before .before .args .wcount)) at (c .before .before .put-turned-uses .ensures), λ k. (omega (arith, c .before .before .before .before .before .before .before .before .before .shared-slice-known .given k), omega (arith, c .before .before .before .before .before .before .before .shared-slice-known3 .given k)))
@@ -41,12 +20,12 @@ pub put-turned-spec : {M : Type 1} → statement M
 put-turned-spec =
     tie.close
     (tie.spec
-    sub-put-turned-uses
-    part-put-turned-uses-start
-    part-put-turned-uses-end
-    sub-put-turned-uses-2
-    part-put-turned-uses-start-2
-    part-put-turned-uses-end-2
+    (λ c. search needs)
+    (λ c. search needs)
+    (λ c. search needs)
+    (λ c. search needs)
+    (λ c. search needs)
+    (λ c. search needs)
     put-turned-uses-requires
-    same-length
+    (λ c. search needs)
     returns)

@@ -5,23 +5,8 @@ use Rattle.components.proofs.Roots.{components-few, components-long, ke
 use Rattle.components.proofs.components_of.Statement.{statement}
 use Rattle.components.proofs.components_of.Tie as tie
 
-slice-aggregate-put-keys : tie.Need-slice-aggregate-put-keys
-slice-aggregate-put-keys c = search needs
-
-put-keys-requires : tie.Need-put-keys-requires
-put-keys-requires c κs = search needs
-
-slice-aggregate-group-first : tie.Need-slice-aggregate-group-first
-slice-aggregate-group-first c = search needs
-
 group-first-requires : tie.Need-group-first-requires
 group-first-requires c κs = (keys-room _ _ _ (c .before .before .before .before .before .before .before .before .before .before .before .pre .shown) _ _ _ (c .before .before .before .before .before .before .before .before .before .before .before .pre) _ (c .before .before .before .before .put-keys .ensures), rw (keys-part _ _ _ (c .before .before .before .before .before .before .before .before .before .before .before .pre .shown) _ _ _ (c .before .before .before .before .before .before .before .before .before .before .before .pre) _ (c .before .before .before .before .put-keys .ensures)) (keys-keyed _ _ _ (c .before .before .before .before .before .before .before .before .before .before .before .pre .shown) _ _ _ (c .before .before .before .before .before .before .before .before .before .before .before .pre)))
-
-same-length : tie.Need-same-length
-same-length c = search needs
-
-same-length-2 : tie.Need-same-length-2
-same-length-2 c = search needs
 
 returns : tie.Need-returns
 returns c = let z = rw (keys-part _ _ _ (c .before .before .before .before .before .before .before .before .before .before .before .before .before .before .before .before .pre .shown) _ _ _ (c .before .before .before .before .before .before .before .before .before .before .before .before .before .before .before .before .pre) _ (c .before .before .before .before .before .before .before .before .before .put-keys .ensures), key-components _ _ _ (c .before .before .before .before .before .before .before .before .before .before .before .before .before .before .before .before .pre .shown) (c .before .before .before .before .before .before .before .before .before .before .before .before .before .before .before .before .args .pairs .now)) at (c .before .before .before .before .group-first .ensures) in (z .0, (z .1 .0, (z .1 .1, (components-long _ _ _ (c .before .before .before .before .before .before .before .before .before .before .before .before .before .before .before .before .pre .shown) _ _ _ (c .before .before .before .before .before .before .before .before .before .before .before .before .before .before .before .before .pre), omega (arith, z .1 .1, components-few _ _ _ (c .before .before .before .before .before .before .before .before .before .before .before .before .before .before .before .before .pre .shown) _ _ _ (c .before .before .before .before .before .before .before .before .before .before .before .before .before .before .before .before .pre))))))
@@ -30,10 +15,10 @@ pub components-of-spec : {M : Type 1} → statement M
 components-of-spec =
     tie.close
     (tie.spec
-    slice-aggregate-put-keys
-    put-keys-requires
-    slice-aggregate-group-first
+    (λ c. search needs)
+    (λ c κs. search needs)
+    (λ c. search needs)
     group-first-requires
-    same-length
-    same-length-2
+    (λ c. search needs)
+    (λ c. search needs)
     returns)

@@ -5,23 +5,8 @@ use Rattle.components.proofs.Loops.{first-part}
 use Rattle.components.proofs.group_first.Statement.{statement}
 use Rattle.components.proofs.group_first.Tie as tie
 
-sub-groups-by : tie.Need-sub-groups-by
-sub-groups-by c = search needs
-
-part-groups-by-start : tie.Need-part-groups-by-start
-part-groups-by-start c = search needs
-
-part-groups-by-end : tie.Need-part-groups-by-end
-part-groups-by-end c = search needs
-
 groups-by-requires : tie.Need-groups-by-requires
 groups-by-requires c κs = rw (first-part (length (c .before .before .before .before .before .before .before .args .names .now)) (c .before .before .before .before .before .before .before .args .keys .now)) (c .before .before .before .before .before .before .before .pre .1)
-
-same-length : tie.Need-same-length
-same-length c = search needs
-
-same-length-2 : tie.Need-same-length-2
-same-length-2 c = search needs
 
 returns : tie.Need-returns
 returns c = let z = rw (first-part (length (c .before .before .before .before .before .before .before .before .before .before .before .before .args .names .now)) (c .before .before .before .before .before .before .before .before .before .before .before .before .args .keys .now)) at (c .before .before .before .before .groups-by .ensures) in (z .0, (z .1 .0, z .1 .1 .0))
@@ -30,10 +15,10 @@ pub group-first-spec : {M : Type 1} → statement M
 group-first-spec =
     tie.close
     (tie.spec
-    sub-groups-by
-    part-groups-by-start
-    part-groups-by-end
+    (λ c. search needs)
+    (λ c. search needs)
+    (λ c. search needs)
     groups-by-requires
-    same-length
-    same-length-2
+    (λ c. search needs)
+    (λ c. search needs)
     returns)

@@ -25,17 +25,8 @@ find-requires c κs = c .before .before .before .before .pre .climbs (c .before 
 cast-out : tie.Need-cast-out Inv-loop μ-loop
 cast-out c = omega (arith, roots-low _ _ _ _ (c .before .before .before .before .before .pre) (c .before .before .loop .k) (omega arith), c .find .ensures)
 
-mul-out : tie.Need-mul-out Inv-loop μ-loop
-mul-out c = search needs
-
 slice-write-out : tie.Need-slice-write-out Inv-loop μ-loop
 slice-write-out c = omega (arith, putting-room _ _ _ _ _ (c .before .before .loop .inv) (omega (arith, roots-long (c .before .before .before .before .before .args .parents .now) (c .before .before .before .before .before .args .first) (c .before .before .before .before .before .args .n))))
-
-add-k : tie.Need-add-k Inv-loop μ-loop
-add-k c = search needs
-
-loop-less : tie.Need-loop-less Inv-loop μ-loop
-loop-less c = search needs
 
 loop-again : tie.Need-loop-again Inv-loop μ-loop
 loop-again c = putting-next _ _ _ _ _ (c .before .before .loop .inv) (omega (arith, roots-long (c .before .before .before .before .before .args .parents .now) (c .before .before .before .before .before .args .first) (c .before .before .before .before .before .args .n))) _ _ (omega arith) (root-at _ _ _ _ (c .before .before .before .before .before .pre) (c .before .before .loop .k) (omega arith) _ (c .find .ensures))
@@ -56,10 +47,10 @@ put-roots-spec =
     add-find
     find-requires
     cast-out
-    mul-out
+    (λ c. search needs)
     slice-write-out
-    add-k
-    loop-less
+    (λ c. search needs)
+    (λ c. search needs)
     loop-again
     same-length
     returns)

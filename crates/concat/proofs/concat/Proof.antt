@@ -49,12 +49,6 @@ few c =
     let p = s .args .t1 in
     omega (arith, edges-counted p (limits (c .before .before .before)) (full s), concat-room (content p) (s .args .u) (s .args .v) (joinedEdge (content p) (s .args .u) (s .args .v)) (made c))
 
-check-requires : tie.Need-check-requires
-check-requires c κs = search needs
-
-enum-known-checked : tie.Need-enum-known-checked
-enum-known-checked c = search needs
-
 returns : tie.Need-returns
 returns c =
     let s = c .before .before .before .before .args in
@@ -62,20 +56,8 @@ returns c =
     let es = concatFaults (content (s .t1)) (s .u) (s .v) in
     (judged-refused es Refused Not (Joined (nextEdge (s .t1) 0)) (patternFaults (s .t1)) e, (judged-refused es (λ f. s .t1) (λ f. s .t1) (storedIn (s .t1) (concatContent (content (s .t1)) (s .u) (s .v))) (patternFaults (s .t1)) e, λ fine. fine))
 
-enum-told : tie.Need-enum-told
-enum-told c = search needs
-
 concat-uses-requires : tie.Need-concat-uses-requires
 concat-uses-requires c κs = passed c
-
-enum-known-made : tie.Need-enum-known-made
-enum-known-made c = search needs
-
-enum-known-made-2 : tie.Need-enum-known-made-2
-enum-known-made-2 c = search needs
-
-element-copy-out-edges : tie.Need-element-copy-out-edges
-element-copy-out-edges c = search needs
 
 append-edge-requires : tie.Need-append-edge-requires
 append-edge-requires c κs = few (c .before .before)
@@ -112,14 +94,14 @@ pub concat-spec : {M : Type 1} → statement M
 concat-spec =
     tie.close
     (tie.spec
-    check-requires
-    enum-known-checked
+    (λ c κs. search needs)
+    (λ c. search needs)
     returns
-    enum-told
+    (λ c. search needs)
     concat-uses-requires
-    enum-known-made
-    enum-known-made-2
-    element-copy-out-edges
+    (λ c. search needs)
+    (λ c. search needs)
+    (λ c. search needs)
     append-edge-requires
     cast-t22
     returns-2

@@ -29,15 +29,6 @@ full s =
 limits : (s : tie.Start) → Limited (s .args .t1 .counts)
 limits s = limited (s .args .t1 .counts) (search needs) (none-left (countFaults (s .args .t1 .counts)) (contentFaults (content (s .args .t1))) (s .pre))
 
-element-copy-out-edges : tie.Need-element-copy-out-edges
-element-copy-out-edges c = search needs
-
-cast-i : tie.Need-cast-i
-cast-i c = search needs
-
-cast-j : tie.Need-cast-j
-cast-j c = search needs
-
 returns : tie.Need-returns
 returns c =
     let s = c .before .before in
@@ -48,20 +39,11 @@ returns-2 c =
     let s = c .before .before .before in
     second-unnamed (content (s .args .t1)) (s .args .u) (s .args .v) (getD (s .args .t1 .counts) 1 0) (edges-counted (s .args .t1) (limits s) (full s)) (c .if2 .taken)
 
-mul-a : tie.Need-mul-a
-mul-a c = search needs
-
 element-copy-out-a : tie.Need-element-copy-out-a
 element-copy-out-a c = omega (arith, limits (c .before .before .before) .edges)
 
-mul-b : tie.Need-mul-b
-mul-b c = search needs
-
 element-copy-out-b : tie.Need-element-copy-out-b
 element-copy-out-b c = omega (arith, limits (c .before .before .before .before) .edges)
-
-judge-concat-requires : tie.Need-judge-concat-requires
-judge-concat-requires c κs = search needs
 
 returns-3 : tie.Need-returns-3
 returns-3 c =
@@ -79,14 +61,14 @@ pub concat-uses-spec : {M : Type 1} → statement M
 concat-uses-spec =
     tie.close
     (tie.spec
-    element-copy-out-edges
-    cast-i
-    cast-j
+    (λ c. search needs)
+    (λ c. search needs)
+    (λ c. search needs)
     returns
     returns-2
-    mul-a
+    (λ c. search needs)
     element-copy-out-a
-    mul-b
+    (λ c. search needs)
     element-copy-out-b
-    judge-concat-requires
+    (λ c κs. search needs)
     returns-3)

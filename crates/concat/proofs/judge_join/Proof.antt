@@ -4,33 +4,15 @@ use borrow.Author.Needs.{needs}
 use Rattle.concat.proofs.judge_join.Statement.{statement}
 use Rattle.concat.proofs.judge_join.Tie as tie
 
-use-front-requires : tie.Need-use-front-requires
-use-front-requires c κs = search needs
-
-use-back-requires : tie.Need-use-back-requires
-use-back-requires c κs = search needs
-
-join-curves-requires : tie.Need-join-curves-requires
-join-curves-requires c κs = search needs
-
 returns : tie.Need-returns
 returns c =
     let s = c .before .before .before .before .before .before .args in
     ends-same (s .a) (s .u) (s .b) (s .v) (s .edges) (c .before .before .before .before .before .use-front .ensures) (c .before .before .before .before .use-back .ensures) (c .before .before .before .join-curves .ensures) (c .if1 .taken)
 
-enum-told : tie.Need-enum-told
-enum-told c = search needs
-
-enum-known-joined : tie.Need-enum-known-joined
-enum-known-joined c = search needs
-
 returns-2 : tie.Need-returns-2
 returns-2 c =
     let s = c .before .before .before .before .before .before .before .before .before .before .args in
     ends-full (s .a) (s .u) (s .b) (s .v) (s .edges) (c .before .before .before .before .before .before .before .before .before .use-front .ensures) (c .before .before .before .before .before .before .before .before .use-back .ensures) (c .before .before .before .before .before .before .before .join-curves .ensures) (c .before .before .before .before .if1 .left) (c .before .before .joined .given .1) (c .if2 .taken)
-
-new-unchecked-requires : tie.Need-new-unchecked-requires
-new-unchecked-requires c κs = search needs
 
 returns-3 : tie.Need-returns-3
 returns-3 c =
@@ -46,13 +28,13 @@ pub judge-join-spec : {M : Type 1} → statement M
 judge-join-spec =
     tie.close
     (tie.spec
-    use-front-requires
-    use-back-requires
-    join-curves-requires
+    (λ c κs. search needs)
+    (λ c κs. search needs)
+    (λ c κs. search needs)
     returns
-    enum-told
-    enum-known-joined
+    (λ c. search needs)
+    (λ c. search needs)
     returns-2
-    new-unchecked-requires
+    (λ c κs. search needs)
     returns-3
     returns-4)

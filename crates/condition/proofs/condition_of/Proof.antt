@@ -29,47 +29,14 @@ element-copy-out-byte-condition :
     tie.Need-element-copy-out-byte-condition Inv-loop μ-loop Inv-loop2 μ-loop2
 element-copy-out-byte-condition c = search needs
 
-byte-condition-requires : tie.Need-byte-condition-requires Inv-loop μ-loop Inv-loop2 μ-loop2
-byte-condition-requires c κs = search needs
-
-join-requires : tie.Need-join-requires Inv-loop μ-loop Inv-loop2 μ-loop2
-join-requires c κs = search needs
-
-add-e : tie.Need-add-e Inv-loop μ-loop Inv-loop2 μ-loop2
-add-e c = search needs
-
-loop-less : tie.Need-loop-less Inv-loop μ-loop Inv-loop2 μ-loop2
-loop-less c = search needs
-
 loop-again : tie.Need-loop-again Inv-loop μ-loop Inv-loop2 μ-loop2
 loop-again c = (joining-four _ _ _ _ (c .before .before .before .before .loop .inv .0) (c .before .before .before .before .loop .inv .1) (c .before .before .before .loop-test .taken) _ _ (c .before .byte-condition .ensures) (c .join .ensures), omega (arith, c .before .before .before .before .loop .inv .1))
 
 loop2-holds : tie.Need-loop2-holds Inv-loop μ-loop Inv-loop2 μ-loop2
 loop2-holds c = c .before .loop .inv .0
 
-element-copy-out-state-in : tie.Need-element-copy-out-state-in Inv-loop μ-loop Inv-loop2 μ-loop2
-element-copy-out-state-in c = search needs
-
-state-in-requires : tie.Need-state-in-requires Inv-loop μ-loop Inv-loop2 μ-loop2
-state-in-requires c κs = search needs
-
-state-condition-requires : tie.Need-state-condition-requires Inv-loop μ-loop Inv-loop2 μ-loop2
-state-condition-requires c κs = search needs
-
-join-requires-2 : tie.Need-join-requires-2 Inv-loop μ-loop Inv-loop2 μ-loop2
-join-requires-2 c κs = search needs
-
-add-e-2 : tie.Need-add-e-2 Inv-loop μ-loop Inv-loop2 μ-loop2
-add-e-2 c = search needs
-
-loop2-less : tie.Need-loop2-less Inv-loop μ-loop Inv-loop2 μ-loop2
-loop2-less c = search needs
-
 loop2-again : tie.Need-loop2-again Inv-loop μ-loop Inv-loop2 μ-loop2
 loop2-again c = joining-next _ _ _ _ (c .before .before .before .before .before .loop2 .inv) (c .before .before .before .before .loop2-test .taken) _ _ _ (c .before .before .state-in .ensures .0) (c .before .state-condition .ensures) (c .join2 .ensures)
-
-join-requires-3 : tie.Need-join-requires-3 Inv-loop μ-loop Inv-loop2 μ-loop2
-join-requires-3 c κs = search needs
 
 returns : tie.Need-returns Inv-loop μ-loop Inv-loop2 μ-loop2
 returns c = joining-all _ _ _ _ (c .before .before .loop2 .inv) (omega arith) _ (c .join3 .ensures)
@@ -85,18 +52,18 @@ condition-of-spec =
     loop-holds
     sub-loop
     element-copy-out-byte-condition
-    byte-condition-requires
-    join-requires
-    add-e
-    loop-less
+    (λ c κs. search needs)
+    (λ c κs. search needs)
+    (λ c. search needs)
+    (λ c. search needs)
     loop-again
     loop2-holds
-    element-copy-out-state-in
-    state-in-requires
-    state-condition-requires
-    join-requires-2
-    add-e-2
-    loop2-less
+    (λ c. search needs)
+    (λ c κs. search needs)
+    (λ c κs. search needs)
+    (λ c κs. search needs)
+    (λ c. search needs)
+    (λ c. search needs)
     loop2-again
-    join-requires-3
+    (λ c κs. search needs)
     returns)

@@ -15,24 +15,6 @@ abbrev μ-loop : tie.MeasureT-loop
 loop-holds : tie.Need-loop-holds Inv-loop μ-loop
 loop-holds c = writing-start (c .args .t1) (c .args .n)
 
-element-copy-out-state-in : tie.Need-element-copy-out-state-in Inv-loop μ-loop
-element-copy-out-state-in c = search needs
-
-state-in-requires : tie.Need-state-in-requires Inv-loop μ-loop
-state-in-requires c κs = search needs
-
-mul-out : tie.Need-mul-out Inv-loop μ-loop
-mul-out c = search needs
-
-array-write-out : tie.Need-array-write-out Inv-loop μ-loop
-array-write-out c = search needs
-
-add-e : tie.Need-add-e Inv-loop μ-loop
-add-e c = search needs
-
-loop-less : tie.Need-loop-less Inv-loop μ-loop
-loop-less c = search needs
-
 loop-again : tie.Need-loop-again Inv-loop μ-loop
 loop-again c = writing-next _ _ _ _ (c .before .before .before .loop .inv) (c .before .before .loop-test .taken) (c .before .before .before .before .pre) _ (c .state-in .ensures .0)
 
@@ -46,11 +28,11 @@ odd-of-spec =
     Inv-loop
     μ-loop
     loop-holds
-    element-copy-out-state-in
-    state-in-requires
-    mul-out
-    array-write-out
-    add-e
-    loop-less
+    (λ c. search needs)
+    (λ c κs. search needs)
+    (λ c. search needs)
+    (λ c. search needs)
+    (λ c. search needs)
+    (λ c. search needs)
     loop-again
     returns)

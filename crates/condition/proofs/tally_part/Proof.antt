@@ -22,17 +22,8 @@ abbrev μ-loop2 : tie.MeasureT-loop2
 loop-holds : tie.Need-loop-holds Inv-loop μ-loop Inv-loop2 μ-loop2
 loop-holds c = inserting-start _ (c .before .args .t) 0 (omega arith)
 
-sub-loop : tie.Need-sub-loop Inv-loop μ-loop Inv-loop2 μ-loop2
-sub-loop c = search needs
-
 insert-four-requires : tie.Need-insert-four-requires Inv-loop μ-loop Inv-loop2 μ-loop2
 insert-four-requires c κs = (omega (arith, c .before .loop .inv .low), c .before .before .before .pre)
-
-add-i : tie.Need-add-i Inv-loop μ-loop Inv-loop2 μ-loop2
-add-i c = search needs
-
-loop-less : tie.Need-loop-less Inv-loop μ-loop Inv-loop2 μ-loop2
-loop-less c = search needs
 
 loop-again : tie.Need-loop-again Inv-loop μ-loop Inv-loop2 μ-loop2
 loop-again c = inserting-four _ _ _ _ _ (c .before .before .loop .inv) (c .before .loop-test .taken) _ (c .insert-four .ensures)
@@ -40,20 +31,8 @@ loop-again c = inserting-four _ _ _ _ _ (c .before .before .loop .inv) (c .befor
 loop2-holds : tie.Need-loop2-holds Inv-loop μ-loop Inv-loop2 μ-loop2
 loop2-holds c = inserting-start _ (c .before .loop .t) (c .before .loop .i) (c .before .loop .inv .low)
 
-mul-insert : tie.Need-mul-insert Inv-loop μ-loop Inv-loop2 μ-loop2
-mul-insert c = search needs
-
-shared-slice-read-insert : tie.Need-shared-slice-read-insert Inv-loop μ-loop Inv-loop2 μ-loop2
-shared-slice-read-insert c = search needs
-
 insert-requires : tie.Need-insert-requires Inv-loop μ-loop Inv-loop2 μ-loop2
 insert-requires c κs = c .before .before .before .before .before .before .pre (c .before .before .loop2 .i) (c .before .loop2-test .taken)
-
-add-i-2 : tie.Need-add-i-2 Inv-loop μ-loop Inv-loop2 μ-loop2
-add-i-2 c = search needs
-
-loop2-less : tie.Need-loop2-less Inv-loop μ-loop Inv-loop2 μ-loop2
-loop2-less c = search needs
 
 loop2-again : tie.Need-loop2-again Inv-loop μ-loop Inv-loop2 μ-loop2
 loop2-again c = inserting-one _ _ _ _ _ (c .before .before .before .loop2 .inv) (c .before .before .loop2-test .taken) _ (c .insert .ensures)
@@ -70,16 +49,16 @@ tally-part-spec =
     Inv-loop2
     μ-loop2
     loop-holds
-    sub-loop
+    (λ c. search needs)
     insert-four-requires
-    add-i
-    loop-less
+    (λ c. search needs)
+    (λ c. search needs)
     loop-again
     loop2-holds
-    mul-insert
-    shared-slice-read-insert
+    (λ c. search needs)
+    (λ c. search needs)
     insert-requires
-    add-i-2
-    loop2-less
+    (λ c. search needs)
+    (λ c. search needs)
     loop2-again
     returns)

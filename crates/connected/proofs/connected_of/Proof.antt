@@ -7,15 +7,6 @@ use Rattle.connected.proofs.connected_of.Tie as tie
 firsts-of-requires : tie.Need-firsts-of-requires
 firsts-of-requires c κs = (c .before .before .before .before .before .pre .cut, wired-fronts (c .before .before .before .before .before .pre))
 
-sub-linked : tie.Need-sub-linked
-sub-linked c = search needs
-
-part-linked-start : tie.Need-part-linked-start
-part-linked-start c = search needs
-
-part-linked-end : tie.Need-part-linked-end
-part-linked-end c = search needs
-
 linked-requires : tie.Need-linked-requires
 linked-requires c κs =
     let w = c .before .before .before .before .before .before .before .before .pre in
@@ -31,8 +22,8 @@ connected-of-spec =
     tie.close
     (tie.spec
     firsts-of-requires
-    sub-linked
-    part-linked-start
-    part-linked-end
+    (λ c. search needs)
+    (λ c. search needs)
+    (λ c. search needs)
     linked-requires
     returns)

@@ -31,29 +31,8 @@ shared-slice-read-point-of c = first-inside _ _ (c .before .before .before .befo
 point-of-requires : tie.Need-point-of-requires Inv-loop μ-loop
 point-of-requires c κs = c .before .before .before .before .before .before .before .pre .1 .each (c .before .before .loop .at) (first-inside _ _ (c .before .before .before .before .before .before .before .pre .0) _ _ (c .before .before .loop .inv .0) (omega arith))
 
-mul-out : tie.Need-mul-out Inv-loop μ-loop
-mul-out c = search needs
-
-array-write-out : tie.Need-array-write-out Inv-loop μ-loop
-array-write-out c = search needs
-
-mul-index : tie.Need-mul-index Inv-loop μ-loop
-mul-index c = search needs
-
-shared-slice-read-index : tie.Need-shared-slice-read-index Inv-loop μ-loop
-shared-slice-read-index c = search needs
-
-index-requires : tie.Need-index-requires Inv-loop μ-loop
-index-requires c κs = search needs
-
 add-at : tie.Need-add-at Inv-loop μ-loop
 add-at c = omega (arith, walk-fits _ _ _ _ (c .before .before .before .before .before .loop .inv .0) (omega arith) (c .index .ensures .0), c .before .before .before .before .before .before .before .before .before .before .pre .0 .summed, c .before .before .before .before .before .before .before .before .before .before .pre .1 .few)
-
-add-k : tie.Need-add-k Inv-loop μ-loop
-add-k c = search needs
-
-loop-less : tie.Need-loop-less Inv-loop μ-loop
-loop-less c = search needs
 
 loop-again : tie.Need-loop-again Inv-loop μ-loop
 loop-again c =
@@ -77,13 +56,13 @@ firsts-of-spec =
     mul-point-of
     shared-slice-read-point-of
     point-of-requires
-    mul-out
-    array-write-out
-    mul-index
-    shared-slice-read-index
-    index-requires
+    (λ c. search needs)
+    (λ c. search needs)
+    (λ c. search needs)
+    (λ c. search needs)
+    (λ c κs. search needs)
     add-at
-    add-k
-    loop-less
+    (λ c. search needs)
+    (λ c. search needs)
     loop-again
     returns)

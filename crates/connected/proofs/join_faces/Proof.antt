@@ -18,26 +18,11 @@ abbrev μ-loop : tie.MeasureT-loop
 loop-holds : tie.Need-loop-holds Inv-loop μ-loop
 loop-holds c = part-joins-start neighbours _ _ _ _ _ (c .before .before .before .before .pre .0) (c .before .before .before .before .pre .1)
 
-mul-index : tie.Need-mul-index Inv-loop μ-loop
-mul-index c = search needs
-
-shared-slice-read-index : tie.Need-shared-slice-read-index Inv-loop μ-loop
-shared-slice-read-index c = search needs
-
-index-requires : tie.Need-index-requires Inv-loop μ-loop
-index-requires c κs = search needs
-
 add-join-next : tie.Need-add-join-next Inv-loop μ-loop
 add-join-next c = omega (arith, part-joins-fits neighbours (c .before .before .before .before .before .loop .inv) (omega arith) (c .before .before .index .ensures .0))
 
 mul-join-next : tie.Need-mul-join-next Inv-loop μ-loop
 mul-join-next c = omega (arith, part-joins-fits neighbours (c .before .before .before .before .before .loop .inv) (omega arith) (c .before .before .index .ensures .0))
-
-sub-join-next : tie.Need-sub-join-next Inv-loop μ-loop
-sub-join-next c = search needs
-
-part-join-next-start : tie.Need-part-join-next-start Inv-loop μ-loop
-part-join-next-start c = search needs
 
 part-join-next-end : tie.Need-part-join-next-end Inv-loop μ-loop
 part-join-next-end c = part-joins-fits neighbours (c .before .before .before .before .before .loop .inv) (omega arith) (c .before .before .index .ensures .0)
@@ -48,20 +33,8 @@ join-next-requires c κs = (c .before .before .before .before .before .before .l
 add-at : tie.Need-add-at Inv-loop μ-loop
 add-at c = omega (arith, part-joins-fits neighbours (c .before .before .before .before .before .before .before .before .before .before .before .loop .inv) (omega arith) (c .before .before .before .before .before .before .before .before .index .ensures .0))
 
-add-k : tie.Need-add-k Inv-loop μ-loop
-add-k c = search needs
-
-loop-less : tie.Need-loop-less Inv-loop μ-loop
-loop-less c = search needs
-
 loop-again : tie.Need-loop-again Inv-loop μ-loop
 loop-again c = part-joins-next neighbours (c .before .before .before .before .before .before .before .before .before .before .before .loop .inv) (omega arith) (c .before .before .before .before .before .before .before .before .index .ensures .0) (inside-part (c .before .before .before .before .before .before .before .before .before .before .before .before .before .before .before .before .args .n) (c .before .before .before .before .before .before .before .before .before .before .before .before .before .before .before .before .args .firsts .now) (c .before .before .before .before .before .before .before .before .before .before .before .loop .at) (c .before .before .before .before .before .before .before .before .before .before .before .loop .at + c .before .before .before .before .before .before .before .before .index .result - c .before .before .before .before .before .before .before .before .before .before .before .loop .at) (c .before .before .before .before .before .before .before .before .before .before .before .before .before .before .before .before .pre .2)) (c .before .before .before .before .join-next .ensures)
-
-same-length : tie.Need-same-length Inv-loop μ-loop
-same-length c = search needs
-
-same-length-2 : tie.Need-same-length-2 Inv-loop μ-loop
-same-length-2 c = search needs
 
 returns : tie.Need-returns Inv-loop μ-loop
 returns c = part-joins-all neighbours (c .before .loop .inv) (omega arith)
@@ -73,19 +46,19 @@ join-faces-spec =
     Inv-loop
     μ-loop
     loop-holds
-    mul-index
-    shared-slice-read-index
-    index-requires
+    (λ c. search needs)
+    (λ c. search needs)
+    (λ c κs. search needs)
     add-join-next
     mul-join-next
-    sub-join-next
-    part-join-next-start
+    (λ c. search needs)
+    (λ c. search needs)
     part-join-next-end
     join-next-requires
     add-at
-    add-k
-    loop-less
+    (λ c. search needs)
+    (λ c. search needs)
     loop-again
-    same-length
-    same-length-2
+    (λ c. search needs)
+    (λ c. search needs)
     returns)

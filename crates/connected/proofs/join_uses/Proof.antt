@@ -20,12 +20,6 @@ abbrev μ-loop : tie.MeasureT-loop
 loop-holds : tie.Need-loop-holds Inv-loop μ-loop
 loop-holds c = joins-start _ _ _ _ _ (c .before .before .before .before .before .pre .0)
 
-mul-u : tie.Need-mul-u Inv-loop μ-loop
-mul-u c = search needs
-
-shared-slice-read-u : tie.Need-shared-slice-read-u Inv-loop μ-loop
-shared-slice-read-u c = search needs
-
 front-of-requires : tie.Need-front-of-requires Inv-loop μ-loop
 front-of-requires c κs = let b = c .before .before .before .before .before .before .before .before .before .before .pre .1 .each (c .before .before .before .before .loop .k) (omega arith) in (b .front, b .back)
 
@@ -39,20 +33,8 @@ join-requires c κs =
     let h : k < length (c .before .before .before .before .before .before .before .before .before .before .before .before .args .uses .now) = omega arith in
     ready _ _ _ (c .before .before .before .before .before .before .loop .inv .forest) _ _ (omega (arith, d .starts k h, d .ends k h, c .before .front-of .ensures)) (omega (arith, d .starts k h, d .ends k h, c .back-of .ensures))
 
-add-k : tie.Need-add-k Inv-loop μ-loop
-add-k c = search needs
-
-loop-less : tie.Need-loop-less Inv-loop μ-loop
-loop-less c = search needs
-
 loop-again : tie.Need-loop-again Inv-loop μ-loop
 loop-again c = uses-next (c .before .before .before .before .before .before .before .before .before .before .before .before .before .before .before .before .before .pre .1) (c .before .before .before .before .before .before .before .before .before .before .before .loop .inv) (omega arith) (c .before .before .before .before .before .before .front-of .ensures) (c .before .before .before .before .before .back-of .ensures) (c .before .before .before .before .join .ensures)
-
-same-length : tie.Need-same-length Inv-loop μ-loop
-same-length c = search needs
-
-same-length-2 : tie.Need-same-length-2 Inv-loop μ-loop
-same-length-2 c = search needs
 
 returns : tie.Need-returns Inv-loop μ-loop
 returns c = uses-end (c .before .before .before .before .before .before .before .pre .1) (c .before .loop .inv) (omega arith)
@@ -64,14 +46,14 @@ join-uses-spec =
     Inv-loop
     μ-loop
     loop-holds
-    mul-u
-    shared-slice-read-u
+    (λ c. search needs)
+    (λ c. search needs)
     front-of-requires
     back-of-requires
     join-requires
-    add-k
-    loop-less
+    (λ c. search needs)
+    (λ c. search needs)
     loop-again
-    same-length
-    same-length-2
+    (λ c. search needs)
+    (λ c. search needs)
     returns)

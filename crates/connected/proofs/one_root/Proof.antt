@@ -17,32 +17,17 @@ abbrev μ-loop : tie.MeasureT-loop
 returns : tie.Need-returns Inv-loop μ-loop
 returns c = roots-none _ _ (c .before .before .before .before .before .args .uses .now) (c .if1 .taken)
 
-shared-slice-read-root-of : tie.Need-shared-slice-read-root-of Inv-loop μ-loop
-shared-slice-read-root-of c = search needs
-
 root-of-requires : tie.Need-root-of-requires Inv-loop μ-loop
 root-of-requires c κs = c .before .before .before .before .before .before .pre 0 (omega arith)
 
 loop-holds : tie.Need-loop-holds Inv-loop μ-loop
 loop-holds c = roots-start _ _ _ (omega arith) (c .root-of .ensures)
 
-mul-root-of : tie.Need-mul-root-of Inv-loop μ-loop
-mul-root-of c = search needs
-
-shared-slice-read-root-of-2 : tie.Need-shared-slice-read-root-of-2 Inv-loop μ-loop
-shared-slice-read-root-of-2 c = search needs
-
 root-of-requires-2 : tie.Need-root-of-requires-2 Inv-loop μ-loop
 root-of-requires-2 c κs = c .before .before .before .before .before .before .before .before .before .before .pre (c .before .before .loop .i) (omega arith)
 
 returns-2 : tie.Need-returns-2 Inv-loop μ-loop
 returns-2 c = roots-stop _ _ _ (c .before .before .before .before .loop .inv) (omega arith) (c .before .root-of2 .ensures) (c .if2 .taken)
-
-add-i : tie.Need-add-i Inv-loop μ-loop
-add-i c = search needs
-
-loop-less : tie.Need-loop-less Inv-loop μ-loop
-loop-less c = search needs
 
 loop-again : tie.Need-loop-again Inv-loop μ-loop
 loop-again c = roots-next _ _ _ (c .before .before .before .before .loop .inv) (omega arith) (c .before .root-of2 .ensures) (c .if2 .left)
@@ -57,14 +42,14 @@ one-root-spec =
     Inv-loop
     μ-loop
     returns
-    shared-slice-read-root-of
+    (λ c. search needs)
     root-of-requires
     loop-holds
-    mul-root-of
-    shared-slice-read-root-of-2
+    (λ c. search needs)
+    (λ c. search needs)
     root-of-requires-2
     returns-2
-    add-i
-    loop-less
+    (λ c. search needs)
+    (λ c. search needs)
     loop-again
     returns-3)

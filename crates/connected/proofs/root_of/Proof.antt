@@ -5,9 +5,6 @@ use Rattle.groups.specs.Forest.{rootOf}
 use Rattle.connected.proofs.root_of.Statement.{statement}
 use Rattle.connected.proofs.root_of.Tie as tie
 
-front-of-requires : tie.Need-front-of-requires
-front-of-requires c κs = search needs
-
 find-requires : tie.Need-find-requires
 find-requires c κs = rw (c .front-of .ensures) (c .before .before .before .before .pre .1)
 
@@ -15,4 +12,4 @@ returns : tie.Need-returns
 returns c = c .find .ensures ∙ ap (rootOf (c .before .before .before .before .before .args .parents .now)) (c .before .front-of .ensures)
 
 pub root-of-spec : {M : Type 1} → statement M
-root-of-spec = tie.close (tie.spec front-of-requires find-requires returns)
+root-of-spec = tie.close (tie.spec (λ c κs. search needs) find-requires returns)

@@ -10,29 +10,11 @@ use borrow.Author.Needs.{needs}
 use Rattle.corners.proofs.corner_in.Statement.{statement}
 use Rattle.corners.proofs.corner_in.Tie as tie
 
-sum-of-requires : tie.Need-sum-of-requires
-sum-of-requires c κs = search needs
-
-mul-index : tie.Need-mul-index
-mul-index c = search needs
-
-shared-slice-read-index : tie.Need-shared-slice-read-index
-shared-slice-read-index c = search needs
-
-index-requires : tie.Need-index-requires
-index-requires c κs = search needs
-
 add-corner-of : tie.Need-add-corner-of
 add-corner-of c = omega (arith, c .before .before .before .before .before .before .before .pre .1 .1, c .before .before .before .before .before .before .before .pre .1 .2, walk-fits (c .before .before .before .before .before .before .before .args .wires .now) (c .before .before .before .before .before .before .before .args .w) (c .before .before .sum-of .result) (c .index .result) (record { low = omega (arith, c .before .before .before .before .before .before .before .pre .1 .4); here = c .before .before .sum-of .ensures }) (c .before .before .before .before .before .before .before .pre .1 .4) (c .index .ensures .0))
 
 mul-corner-of : tie.Need-mul-corner-of
 mul-corner-of c = record { fits = omega (arith, c .before .before .before .before .before .before .before .pre .1 .1, c .before .before .before .before .before .before .before .pre .1 .2, walk-fits (c .before .before .before .before .before .before .before .args .wires .now) (c .before .before .before .before .before .before .before .args .w) (c .before .before .sum-of .result) (c .index .result) (record { low = omega (arith, c .before .before .before .before .before .before .before .pre .1 .4); here = c .before .before .sum-of .ensures }) (c .before .before .before .before .before .before .before .pre .1 .4) (c .index .ensures .0)) }
-
-sub-corner-of : tie.Need-sub-corner-of
-sub-corner-of c = search needs
-
-part-corner-of-start : tie.Need-part-corner-of-start
-part-corner-of-start c = search needs
 
 part-corner-of-end : tie.Need-part-corner-of-end
 part-corner-of-end c = omega (arith, c .before .before .before .before .before .before .before .pre .1 .2, walk-fits (c .before .before .before .before .before .before .before .args .wires .now) (c .before .before .before .before .before .before .before .args .w) (c .before .before .sum-of .result) (c .index .result) (record { low = omega (arith, c .before .before .before .before .before .before .before .pre .1 .4); here = c .before .before .sum-of .ensures }) (c .before .before .before .before .before .before .before .pre .1 .4) (c .index .ensures .0))
@@ -47,14 +29,14 @@ pub corner-in-spec : {M : Type 1} → statement M
 corner-in-spec =
     tie.close
     (tie.spec
-    sum-of-requires
-    mul-index
-    shared-slice-read-index
-    index-requires
+    (λ c κs. search needs)
+    (λ c. search needs)
+    (λ c. search needs)
+    (λ c κs. search needs)
     add-corner-of
     mul-corner-of
-    sub-corner-of
-    part-corner-of-start
+    (λ c. search needs)
+    (λ c. search needs)
     part-corner-of-end
     corner-of-requires
     returns)

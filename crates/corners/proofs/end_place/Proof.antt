@@ -4,15 +4,6 @@ use borrow.Author.Needs.{needs}
 use Rattle.corners.proofs.end_place.Statement.{statement}
 use Rattle.corners.proofs.end_place.Tie as tie
 
-find-end-requires : tie.Need-find-end-requires
-find-end-requires c κs = search needs
-
-enum-known-found : tie.Need-enum-known-found
-enum-known-found c = search needs
-
-enum-told : tie.Need-enum-told
-enum-told c = search needs
-
 returns : tie.Need-returns
 returns c = place-some (c .before .before .before .before .before .before .before .args .fronts .now) (c .before .before .before .before .before .before .before .args .backs .now) (c .before .before .before .before .before .before .before .args .v .0) (c .before .before .before .before .before .before .before .args .uses .now) (sym (c .before .before .before .find-end .ensures) ∙ c .before .found .given .1)
 
@@ -21,4 +12,4 @@ returns-2 c = place-none (c .before .before .before .before .before .before .arg
 
 pub end-place-spec : {M : Type 1} → statement M
 end-place-spec =
-    tie.close (tie.spec find-end-requires enum-known-found enum-told returns returns-2)
+    tie.close (tie.spec (λ c κs. search needs) (λ c. search needs) (λ c. search needs) returns returns-2)

@@ -18,26 +18,11 @@ abbrev μ-loop : tie.MeasureT-loop
 loop-holds : tie.Need-loop-holds Inv-loop μ-loop
 loop-holds c = putting-start (removedWire (c .before .before .before .before .before .before .args .fronts .now) (c .before .before .before .before .before .before .args .backs .now) (c .before .before .before .before .before .before .args .v .0) (c .before .before .before .before .before .before .args .e) (c .before .before .before .before .before .before .args .a)) (c .before .before .before .before .before .before .args .wires .now) (c .before .before .before .before .before .before .args .uses .now) (c .before .before .before .before .before .before .args .out .now) (c .before .before .before .before .before .before .args .lens .now)
 
-mul-index : tie.Need-mul-index Inv-loop μ-loop
-mul-index c = search needs
-
-shared-slice-read-index : tie.Need-shared-slice-read-index Inv-loop μ-loop
-shared-slice-read-index c = search needs
-
-index-requires : tie.Need-index-requires Inv-loop μ-loop
-index-requires c κs = search needs
-
 add-put-wire : tie.Need-add-put-wire Inv-loop μ-loop
 add-put-wire c = omega (arith, c .before .before .before .before .before .before .before .before .before .before .pre .1 .0 .2, putting-fits (removedWire (c .before .before .before .before .before .before .before .before .before .before .args .fronts .now) (c .before .before .before .before .before .before .before .before .before .before .args .backs .now) (c .before .before .before .before .before .before .before .before .before .before .args .v .0) (c .before .before .before .before .before .before .before .before .before .before .args .e) (c .before .before .before .before .before .before .before .before .before .before .args .a)) (c .before .before .before .before .before .before .before .before .before .before .args .wires .now) (c .before .before .before .before .before .before .before .before .before .before .args .uses .now) (c .before .before .before .before .before .before .before .before .before .before .args .out .now) (c .before .before .before .before .before .before .before .before .before .before .args .lens .now) (c .before .before .before .loop .inv) (omega arith) (c .index .ensures .0) (c .before .before .before .before .before .before .before .before .before .before .pre .1 .0 .3))
 
 mul-put-wire : tie.Need-mul-put-wire Inv-loop μ-loop
 mul-put-wire c = record { fits = omega (arith, c .before .before .before .before .before .before .before .before .before .before .pre .1 .0 .2, putting-fits (removedWire (c .before .before .before .before .before .before .before .before .before .before .args .fronts .now) (c .before .before .before .before .before .before .before .before .before .before .args .backs .now) (c .before .before .before .before .before .before .before .before .before .before .args .v .0) (c .before .before .before .before .before .before .before .before .before .before .args .e) (c .before .before .before .before .before .before .before .before .before .before .args .a)) (c .before .before .before .before .before .before .before .before .before .before .args .wires .now) (c .before .before .before .before .before .before .before .before .before .before .args .uses .now) (c .before .before .before .before .before .before .before .before .before .before .args .out .now) (c .before .before .before .before .before .before .before .before .before .before .args .lens .now) (c .before .before .before .loop .inv) (omega arith) (c .index .ensures .0) (c .before .before .before .before .before .before .before .before .before .before .pre .1 .0 .3)) }
-
-sub-put-wire : tie.Need-sub-put-wire Inv-loop μ-loop
-sub-put-wire c = search needs
-
-part-put-wire-start : tie.Need-part-put-wire-start Inv-loop μ-loop
-part-put-wire-start c = search needs
 
 part-put-wire-end : tie.Need-part-put-wire-end Inv-loop μ-loop
 part-put-wire-end c = omega (arith, putting-fits (removedWire (c .before .before .before .before .before .before .before .before .before .before .args .fronts .now) (c .before .before .before .before .before .before .before .before .before .before .args .backs .now) (c .before .before .before .before .before .before .before .before .before .before .args .v .0) (c .before .before .before .before .before .before .before .before .before .before .args .e) (c .before .before .before .before .before .before .before .before .before .before .args .a)) (c .before .before .before .before .before .before .before .before .before .before .args .wires .now) (c .before .before .before .before .before .before .before .before .before .before .args .uses .now) (c .before .before .before .before .before .before .before .before .before .before .args .out .now) (c .before .before .before .before .before .before .before .before .before .before .args .lens .now) (c .before .before .before .loop .inv) (omega arith) (c .index .ensures .0) (c .before .before .before .before .before .before .before .before .before .before .pre .1 .0 .3))
@@ -48,9 +33,6 @@ put-wire-requires c κs = (named-part (c .before .before .before .before .before
 cast-lens : tie.Need-cast-lens Inv-loop μ-loop
 cast-lens c = omega (arith, c .before .before .before .before .before .before .before .before .before .before .before .before .before .before .before .pre .1 .0 .2, putting-fits (removedWire (c .before .before .before .before .before .before .before .before .before .before .before .before .before .before .before .args .fronts .now) (c .before .before .before .before .before .before .before .before .before .before .before .before .before .before .before .args .backs .now) (c .before .before .before .before .before .before .before .before .before .before .before .before .before .before .before .args .v .0) (c .before .before .before .before .before .before .before .before .before .before .before .before .before .before .before .args .e) (c .before .before .before .before .before .before .before .before .before .before .before .before .before .before .before .args .a)) (c .before .before .before .before .before .before .before .before .before .before .before .before .before .before .before .args .wires .now) (c .before .before .before .before .before .before .before .before .before .before .before .before .before .before .before .args .uses .now) (c .before .before .before .before .before .before .before .before .before .before .before .before .before .before .before .args .out .now) (c .before .before .before .before .before .before .before .before .before .before .before .before .before .before .before .args .lens .now) (c .before .before .before .before .before .before .before .before .loop .inv) (omega arith) (c .before .before .before .before .before .index .ensures .0) (c .before .before .before .before .before .before .before .before .before .before .before .before .before .before .before .pre .1 .0 .3), putting-long (removedWire (c .before .before .before .before .before .before .before .before .before .before .before .before .before .before .before .args .fronts .now) (c .before .before .before .before .before .before .before .before .before .before .before .before .before .before .before .args .backs .now) (c .before .before .before .before .before .before .before .before .before .before .before .before .before .before .before .args .v .0) (c .before .before .before .before .before .before .before .before .before .before .before .before .before .before .before .args .e) (c .before .before .before .before .before .before .before .before .before .before .before .before .before .before .before .args .a)) (c .before .before .before .before .before .before .before .before .before .before .before .before .before .before .before .args .wires .now) (c .before .before .before .before .before .before .before .before .before .before .before .before .before .before .before .args .uses .now) (c .before .before .before .before .before .before .before .before .before .before .before .before .before .before .before .args .out .now) (c .before .before .before .before .before .before .before .before .before .before .before .before .before .before .before .args .lens .now) (c .before .before .before .before .before .before .before .before .loop .inv) (omega arith) (c .before .before .before .before .before .index .ensures .0) (c .before .before .before .before .before .before .before .before .before .before .before .before .before .before .before .pre .1 .0 .3), c .before .before .put-wire .ensures .1 .1)
 
-mul-lens : tie.Need-mul-lens Inv-loop μ-loop
-mul-lens c = search needs
-
 slice-write-lens : tie.Need-slice-write-lens Inv-loop μ-loop
 slice-write-lens c = omega (arith, lens-long (removedWire (c .before .before .before .before .before .before .before .before .before .before .before .before .before .before .before .args .fronts .now) (c .before .before .before .before .before .before .before .before .before .before .before .before .before .before .before .args .backs .now) (c .before .before .before .before .before .before .before .before .before .before .before .before .before .before .before .args .v .0) (c .before .before .before .before .before .before .before .before .before .before .before .before .before .before .before .args .e) (c .before .before .before .before .before .before .before .before .before .before .before .before .before .before .before .args .a)) (c .before .before .before .before .before .before .before .before .before .before .before .before .before .before .before .args .wires .now) (c .before .before .before .before .before .before .before .before .before .before .before .before .before .before .before .args .uses .now) (c .before .before .before .before .before .before .before .before .before .before .before .before .before .before .before .args .out .now) (c .before .before .before .before .before .before .before .before .before .before .before .before .before .before .before .args .lens .now) (c .before .before .before .before .before .before .before .before .loop .inv), c .before .before .before .before .before .before .before .before .before .before .before .before .before .before .before .pre .1 .0 .0)
 
@@ -59,12 +41,6 @@ add-from c = omega (arith, c .before .before .before .before .before .before .be
 
 add-at : tie.Need-add-at Inv-loop μ-loop
 add-at c = omega (arith, c .before .before .before .before .before .before .before .before .before .before .before .before .before .before .before .pre .1 .0 .2, putting-fits (removedWire (c .before .before .before .before .before .before .before .before .before .before .before .before .before .before .before .args .fronts .now) (c .before .before .before .before .before .before .before .before .before .before .before .before .before .before .before .args .backs .now) (c .before .before .before .before .before .before .before .before .before .before .before .before .before .before .before .args .v .0) (c .before .before .before .before .before .before .before .before .before .before .before .before .before .before .before .args .e) (c .before .before .before .before .before .before .before .before .before .before .before .before .before .before .before .args .a)) (c .before .before .before .before .before .before .before .before .before .before .before .before .before .before .before .args .wires .now) (c .before .before .before .before .before .before .before .before .before .before .before .before .before .before .before .args .uses .now) (c .before .before .before .before .before .before .before .before .before .before .before .before .before .before .before .args .out .now) (c .before .before .before .before .before .before .before .before .before .before .before .before .before .before .before .args .lens .now) (c .before .before .before .before .before .before .before .before .loop .inv) (omega arith) (c .before .before .before .before .before .index .ensures .0) (c .before .before .before .before .before .before .before .before .before .before .before .before .before .before .before .pre .1 .0 .3), putting-long (removedWire (c .before .before .before .before .before .before .before .before .before .before .before .before .before .before .before .args .fronts .now) (c .before .before .before .before .before .before .before .before .before .before .before .before .before .before .before .args .backs .now) (c .before .before .before .before .before .before .before .before .before .before .before .before .before .before .before .args .v .0) (c .before .before .before .before .before .before .before .before .before .before .before .before .before .before .before .args .e) (c .before .before .before .before .before .before .before .before .before .before .before .before .before .before .before .args .a)) (c .before .before .before .before .before .before .before .before .before .before .before .before .before .before .before .args .wires .now) (c .before .before .before .before .before .before .before .before .before .before .before .before .before .before .before .args .uses .now) (c .before .before .before .before .before .before .before .before .before .before .before .before .before .before .before .args .out .now) (c .before .before .before .before .before .before .before .before .before .before .before .before .before .before .before .args .lens .now) (c .before .before .before .before .before .before .before .before .loop .inv) (omega arith) (c .before .before .before .before .before .index .ensures .0) (c .before .before .before .before .before .before .before .before .before .before .before .before .before .before .before .pre .1 .0 .3), c .before .before .before .before .before .before .before .before .loop .inv .less, c .before .before .put-wire .ensures .1 .1)
-
-add-w : tie.Need-add-w Inv-loop μ-loop
-add-w c = search needs
-
-loop-less : tie.Need-loop-less Inv-loop μ-loop
-loop-less c = search needs
 
 loop-again : tie.Need-loop-again Inv-loop μ-loop
 loop-again c = putting-next (removedWire (c .before .before .before .before .before .before .before .before .before .before .before .before .before .before .before .args .fronts .now) (c .before .before .before .before .before .before .before .before .before .before .before .before .before .before .before .args .backs .now) (c .before .before .before .before .before .before .before .before .before .before .before .before .before .before .before .args .v .0) (c .before .before .before .before .before .before .before .before .before .before .before .before .before .before .before .args .e) (c .before .before .before .before .before .before .before .before .before .before .before .before .before .before .before .args .a)) (c .before .before .before .before .before .before .before .before .before .before .before .before .before .before .before .args .wires .now) (c .before .before .before .before .before .before .before .before .before .before .before .before .before .before .before .args .uses .now) (c .before .before .before .before .before .before .before .before .before .before .before .before .before .before .before .args .out .now) (c .before .before .before .before .before .before .before .before .before .before .before .before .before .before .before .args .lens .now) (c .before .before .before .before .before .before .before .before .loop .inv) (omega arith) (c .before .before .before .before .before .index .ensures .0) (c .before .before .before .before .before .before .before .before .before .before .before .before .before .before .before .pre .1 .0 .3) (c .before .before .put-wire .ensures)
@@ -85,22 +61,22 @@ put-wires-spec =
     Inv-loop
     μ-loop
     loop-holds
-    mul-index
-    shared-slice-read-index
-    index-requires
+    (λ c. search needs)
+    (λ c. search needs)
+    (λ c κs. search needs)
     add-put-wire
     mul-put-wire
-    sub-put-wire
-    part-put-wire-start
+    (λ c. search needs)
+    (λ c. search needs)
     part-put-wire-end
     put-wire-requires
     cast-lens
-    mul-lens
+    (λ c. search needs)
     slice-write-lens
     add-from
     add-at
-    add-w
-    loop-less
+    (λ c. search needs)
+    (λ c. search needs)
     loop-again
     same-length
     same-length-2

@@ -27,15 +27,6 @@ refused k at t e h = rw (e, h) (refl, λ _. refl)
 cut : (k : Curve) (at : Parameter) (t : Float) → fits binary64 (k .t0) ≡ true → fits binary64 (k .t1) ≡ true → fits binary64 t ≡ true → at ≡ At t → refuses k t ≡ false → Cut k at (Both (frontHalf k t) (backHalf k t))
 cut k at t f0 f1 f e h = rw (e, h) (refl, λ s. halves-span k t (passes (fits binary64 (k .t0)) f0) (passes (fits binary64 (k .t1)) f1) (passes (fits binary64 t) f) s h)
 
-enum-told : tie.Need-enum-told
-enum-told c = search needs
-
-enum-known-at : tie.Need-enum-known-at
-enum-known-at c = search needs
-
-curve-refuses-requires : tie.Need-curve-refuses-requires
-curve-refuses-requires c κs = search needs
-
 returns : tie.Need-returns
 returns c =
     let a = c .before .before .before .before .before .args in
@@ -52,4 +43,4 @@ returns-3 c =
 
 pub cut-curve-spec : {M : Type 1} → statement M
 cut-curve-spec =
-    tie.close (tie.spec enum-told enum-known-at curve-refuses-requires returns returns-2 returns-3)
+    tie.close (tie.spec (λ c. search needs) (λ c. search needs) (λ c κs. search needs) returns returns-2 returns-3)

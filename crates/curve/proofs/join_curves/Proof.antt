@@ -3,9 +3,6 @@ use borrow.Author.Needs.{needs}
 use Rattle.curve.proofs.join_curves.Statement.{statement}
 use Rattle.curve.proofs.join_curves.Tie as tie
 
-is-span-requires : tie.Need-is-span-requires
-is-span-requires c κs = search needs
-
 returns : tie.Need-returns
 returns c = rw (sym (c .before .is-span .ensures) ∙ c .if1 .taken) refl
 
@@ -13,4 +10,4 @@ returns-2 : tie.Need-returns-2
 returns-2 c = rw (sym (c .before .is-span .ensures) ∙ c .if1 .left) refl
 
 pub join-curves-spec : {M : Type 1} → statement M
-join-curves-spec = tie.close (tie.spec is-span-requires returns returns-2)
+join-curves-spec = tie.close (tie.spec (λ c κs. search needs) returns returns-2)

@@ -14,27 +14,6 @@ marks-long c = search needs
 ends-long : (s : tie.Start) → (length (s .args .t2) ≡ 1024) × (length (s .args .t3) ≡ 1024)
 ends-long s = (search needs, search needs)
 
-mark-wires-requires : tie.Need-mark-wires-requires
-mark-wires-requires c κs = search needs
-
-array-read-judge-cut : tie.Need-array-read-judge-cut
-array-read-judge-cut c = search needs
-
-array-read-judge-cut-2 : tie.Need-array-read-judge-cut-2
-array-read-judge-cut-2 c = search needs
-
-slice-aggregate-judge-cut : tie.Need-slice-aggregate-judge-cut
-slice-aggregate-judge-cut c = search needs
-
-slice-aggregate-judge-cut-2 : tie.Need-slice-aggregate-judge-cut-2
-slice-aggregate-judge-cut-2 c = search needs
-
-array-read-judge-cut-3 : tie.Need-array-read-judge-cut-3
-array-read-judge-cut-3 c = search needs
-
-cut-curve-requires : tie.Need-cut-curve-requires
-cut-curve-requires c κs = search needs
-
 judge-cut-requires : tie.Need-judge-cut-requires
 judge-cut-requires c κs = let s = c .before .before .before .before .before .before .before .before .before .before .before .before .before .before in
     let p = s .pre .0 .0 in
@@ -45,12 +24,6 @@ judge-cut-requires c κs = let s = c .before .before .before .before .before .be
       (u .1, u .0, w .1, omega (arith, w .0, marks-long (c .before .before .before .before .before .before)), w .0, omega (arith, e .1, ends-long s .0), omega (arith, e .1, ends-long s .1), e .1),
       (ends-named p _ _ _ _ _ _ _ _ l, w .2),
     )
-
-enum-known-judged : tie.Need-enum-known-judged
-enum-known-judged c = search needs
-
-enum-known-judged-2 : tie.Need-enum-known-judged-2
-enum-known-judged-2 c = search needs
 
 put-halves-requires : tie.Need-put-halves-requires
 put-halves-requires c κs = let s = c .before .before .before .before .before .before .before .before .before .before .before .before .before .before .before .before .before .before .before .before .before .before .before in
@@ -73,12 +46,6 @@ returns c = λ p l its. let s = c .before .before .before .before .before .befor
     let q = s .pre .1 in
     cut-refused p _ _ _ _ _ _ _ _ l (s .args .n) (s .args .e .0) (s .args .v .0) (s .args .at) (q .0, q .1, q .2) (c .before .before .before .before .before .before .before .before .before .before .mark-wires .result) (c .before .before .before .before .before .before .before .before .before .before .mark-wires .ensures p (l .listed)) (s .args .curve) its (c .before .before .before .before .cut-curve .result) (c .before .before .before .before .cut-curve .ensures .0) (c .before .before .before .judge-cut .result) (c .before .before .before .judge-cut .ensures) (c .before .before .before .before .cut-curve .ensures .1) _ _ _ _ _ (c .before .judged .given .1)
 
-same-length : tie.Need-same-length
-same-length c = search needs
-
-same-length-2 : tie.Need-same-length-2
-same-length-2 c = search needs
-
 returns-2 : tie.Need-returns-2
 returns-2 c = λ p l its. let s = c .before .before .before .before .before .before .before .before .before .before .before .before .before .before .before .before .before .before .before .before .before .before .before .before .before .before .before .before in
     let q = s .pre .1 in
@@ -89,18 +56,18 @@ pub cut-columns-spec : {M : Type 1} → statement M
 cut-columns-spec =
     tie.close
     (tie.spec
-    mark-wires-requires
-    array-read-judge-cut
-    array-read-judge-cut-2
-    slice-aggregate-judge-cut
-    slice-aggregate-judge-cut-2
-    array-read-judge-cut-3
-    cut-curve-requires
+    (λ c κs. search needs)
+    (λ c. search needs)
+    (λ c. search needs)
+    (λ c. search needs)
+    (λ c. search needs)
+    (λ c. search needs)
+    (λ c κs. search needs)
     judge-cut-requires
-    enum-known-judged
-    enum-known-judged-2
+    (λ c. search needs)
+    (λ c. search needs)
     put-halves-requires
     returns
-    same-length
-    same-length-2
+    (λ c. search needs)
+    (λ c. search needs)
     returns-2)

@@ -37,12 +37,6 @@ seven s = search needs
 good : (c : tie.After-enum-told) → Fine (c .before .before .before .args .t1)
 good c = fine (c .before .before .before .args .t1) (accepted-none (patternFaults (c .before .before .before .args .t1)) (sym (c .before .before .check .ensures) ∙ c .enum-told .given .1)) (seven (c .before .before .before)) (full (c .before .before .before))
 
-check-requires : tie.Need-check-requires
-check-requires c κs = search needs
-
-enum-known-checked : tie.Need-enum-known-checked
-enum-known-checked c = search needs
-
 returns : tie.Need-returns
 returns c = let a = c .before .before .before .before .args in
     let h = sym (c .before .before .before .check .ensures) ∙ c .before .checked .given .1 in
@@ -53,21 +47,6 @@ returns c = let a = c .before .before .before .before .args in
         λ ok. ok,
       ),
     )
-
-enum-told : tie.Need-enum-told
-enum-told c = search needs
-
-element-copy-out-all-named : tie.Need-element-copy-out-all-named
-element-copy-out-all-named c = search needs
-
-element-copy-out-all-named-2 : tie.Need-element-copy-out-all-named-2
-element-copy-out-all-named-2 c = search needs
-
-element-copy-out-all-named-3 : tie.Need-element-copy-out-all-named-3
-element-copy-out-all-named-3 c = search needs
-
-all-named-requires : tie.Need-all-named-requires
-all-named-requires c κs = search needs
 
 returns-2 : tie.Need-returns-2
 returns-2 c = let a = c .before .before .before .before .before .before .before .before .args in
@@ -83,21 +62,18 @@ cut-named-requires : tie.Need-cut-named-requires
 cut-named-requires c κs = let a = c .before .before .before .before .before .before .before .before .args in
     (good (c .before .before .before .before .before) .ok, names (a .t1) (good (c .before .before .before .before .before)) (a .n) (a .e .0) (a .v .0) (a .at) (sym (c .before .all-named .ensures) ∙ not-false _ (c .if1 .left)))
 
-returns-3 : tie.Need-returns-3
-returns-3 c = search needs
-
 pub cut-edge-spec : {M : Type 1} → statement M
 cut-edge-spec =
     tie.close
     (tie.spec
-    check-requires
-    enum-known-checked
+    (λ c κs. search needs)
+    (λ c. search needs)
     returns
-    enum-told
-    element-copy-out-all-named
-    element-copy-out-all-named-2
-    element-copy-out-all-named-3
-    all-named-requires
+    (λ c. search needs)
+    (λ c. search needs)
+    (λ c. search needs)
+    (λ c. search needs)
+    (λ c κs. search needs)
     returns-2
     cut-named-requires
-    returns-3)
+    (λ c. search needs))

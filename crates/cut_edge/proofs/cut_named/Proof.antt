@@ -68,42 +68,12 @@ lent c = record {
 here : (c : tie.After-backs-of) → (ltb (c .before .before .before .before .before .before .before .before .before .before .before .args .n) (getD (c .before .before .before .before .before .before .before .before .before .before .before .args .t1 .counts) 5 0) && ltb (c .before .before .before .before .before .before .before .before .before .before .before .args .e .0) (getD (c .before .before .before .before .before .before .before .before .before .before .before .args .t1 .counts) 1 0) && ltb (c .before .before .before .before .before .before .before .before .before .before .before .args .v .0) (getD (c .before .before .before .before .before .before .before .before .before .before .before .args .t1 .counts) 0 0)) ≡ true
 here c = all-here (c .before .before .before .before .before .before .before .before .before .before .before .args .t1) _ _ _ _ _ _ _ _ (lent c) (c .before .before .before .before .before .before .before .before .before .before .before .args .n) (c .before .before .before .before .before .before .before .before .before .before .before .args .e .0) (c .before .before .before .before .before .before .before .before .before .before .before .args .v .0) (c .before .before .before .before .before .before .before .before .before .before .before .args .at) (c .before .before .before .before .before .before .before .before .before .before .before .pre .1)
 
-wire-counts-requires : tie.Need-wire-counts-requires
-wire-counts-requires c κs = search needs
-
-index-requires : tie.Need-index-requires
-index-requires c κs = search needs
-
-mul-d : tie.Need-mul-d
-mul-d c = search needs
-
 element-copy-out-d : tie.Need-element-copy-out-d
 element-copy-out-d c = omega (arith, c .index .ensures .0, c .before .before .before .before .before .pre .1 .1, good (c .before .before .before .before .before) .limits .edges)
-
-fronts-of-requires : tie.Need-fronts-of-requires
-fronts-of-requires c κs = search needs
-
-backs-of-requires : tie.Need-backs-of-requires
-backs-of-requires c κs = search needs
-
-slice-aggregate-cut-columns : tie.Need-slice-aggregate-cut-columns
-slice-aggregate-cut-columns c = search needs
-
-slice-aggregate-cut-columns-2 : tie.Need-slice-aggregate-cut-columns-2
-slice-aggregate-cut-columns-2 c = search needs
-
-slice-aggregate-cut-columns-3 : tie.Need-slice-aggregate-cut-columns-3
-slice-aggregate-cut-columns-3 c = search needs
 
 cut-columns-requires : tie.Need-cut-columns-requires
 cut-columns-requires c κs = let s = c .before .before .before .before .before .before .before .before .before .before .before .before .before .before .before .before .before .before .before .before .before .before .before in
     ((s .args .t1, lent (c .before .before .before .before .before .before .before .before .before .before .before .before), curve-is (c .before .before .before .before .before .before .before .before .before .before .before .before .before .before .before .before .before .before)), (s .pre .1 .0, s .pre .1 .1, s .pre .1 .2, full s .uses, full s .wires))
-
-enum-known-done : tie.Need-enum-known-done
-enum-known-done c = search needs
-
-enum-known-done-2 : tie.Need-enum-known-done-2
-enum-known-done-2 c = search needs
 
 store-cut-requires : tie.Need-store-cut-requires
 store-cut-requires c κs = let s = c .before .before .before .before .before .before .before .before .before .before .before .before .before .before .before .before .before .before .before .before .before .before .before .before .before .before .before .before .before in
@@ -111,9 +81,6 @@ store-cut-requires c κs = let s = c .before .before .before .before .before .be
     let done = c .before .before .before .before .before .cut-columns .ensures (a .t1) (lent (c .before .before .before .before .before .before .before .before .before .before .before .before .before .before .before .before .before .before)) (curve-is (c .before .before .before .before .before .before .before .before .before .before .before .before .before .before .before .before .before .before .before .before .before .before .before .before)) in
     let parts = parted-are _ _ _ _ _ _ (sym (c .before .done2 .given .1) ∙ done .answer) in
     rooms (a .t1) (good s) (a .n) (a .e .0) (a .v .0) (a .at) (here (c .before .before .before .before .before .before .before .before .before .before .before .before .before .before .before .before .before .before)) (parts .0) .0
-
-array-read-a : tie.Need-array-read-a
-array-read-a c = search needs
 
 cast-a : tie.Need-cast-a
 cast-a c = omega (arith, good (c .before .before .before .before .before .before .before .before .before .before .before .before .before .before .before .before .before .before .before .before .before .before .before .before .before .before .before .before .before .before) .limits .edges)
@@ -147,20 +114,20 @@ pub cut-named-spec : {M : Type 1} → statement M
 cut-named-spec =
     tie.close
     (tie.spec
-    wire-counts-requires
-    index-requires
-    mul-d
+    (λ c κs. search needs)
+    (λ c κs. search needs)
+    (λ c. search needs)
     element-copy-out-d
-    fronts-of-requires
-    backs-of-requires
-    slice-aggregate-cut-columns
-    slice-aggregate-cut-columns-2
-    slice-aggregate-cut-columns-3
+    (λ c κs. search needs)
+    (λ c κs. search needs)
+    (λ c. search needs)
+    (λ c. search needs)
+    (λ c. search needs)
     cut-columns-requires
-    enum-known-done
-    enum-known-done-2
+    (λ c. search needs)
+    (λ c. search needs)
     store-cut-requires
-    array-read-a
+    (λ c. search needs)
     cast-a
     add-t57
     returns

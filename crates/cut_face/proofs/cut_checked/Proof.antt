@@ -46,30 +46,15 @@ named c = sym (c .before .are-uses .ensures) ∙ not-false _ (c .if2 .left)
 part : (c : tie.After-face-part) → let s = c .before .before .before .before .before .before .before .before .before .before .before .before .before .before .before .before .before in c .face-part .result ≡ partIn (s .args .t1) (s .args .f)
 part c = let s = c .before .before .before .before .before .before .before .before .before .before .before .before .before .before .before .before .before in part-is (s .args .t1) (good s) (s .args .f) (here (c .before .before .before .before .before .before .before .before .before .before)) _ (c .before .before .before .before .before .before .before .face-columns .ensures) _ (c .before .before .before .before .before .before .before .before .before .before .before .index .ensures .0) _ (c .face-part .ensures)
 
-element-copy-out-edges : tie.Need-element-copy-out-edges
-element-copy-out-edges c = search needs
-
-element-copy-out-faces : tie.Need-element-copy-out-faces
-element-copy-out-faces c = search needs
-
-index-requires : tie.Need-index-requires
-index-requires c κs = search needs
-
 returns : tie.Need-returns
 returns c =
     let s = c .before .before .before .before .before .before .before in
     unnamed (s .args .t1) (s .args .f) (s .args .wire .now) (s .args .uses .now) (s .args .lens .now) (s .pre) (no-face (s .args .t1) (good s) (s .args .f) (s .args .wire .now) (omega (arith, c .before .index .ensures .0)))
 
-are-uses-requires : tie.Need-are-uses-requires
-are-uses-requires c κs = search needs
-
 returns-2 : tie.Need-returns-2
 returns-2 c =
     let s = c .before .before .before .before .before .before .before .before .before in
     unnamed (s .args .t1) (s .args .f) (s .args .wire .now) (s .args .uses .now) (s .args .lens .now) (s .pre) (no-uses (s .args .t1) (good s) (s .args .f) (s .args .wire .now) (here (c .before .before)) (sym (c .before .are-uses .ensures) ∙ not-true _ (c .if2 .taken)))
-
-face-columns-requires : tie.Need-face-columns-requires
-face-columns-requires c κs = search needs
 
 face-part-requires : tie.Need-face-part-requires
 face-part-requires c κs =
@@ -86,12 +71,6 @@ cut-part-requires c κs =
     let s = c .before .before .before .before .before .before .before .before .before .before .before .before .before .before .before .before .before .before .before .before .before .before .before .before .before .before .before .before .before in
     cut-asks (s .args .t1) (good s) (s .args .f) (here (c .before .before .before .before .before .before .before .before .before .before .before .before .before .before .before .before .before .before .before .before .before .before)) _ (c .before .before .before .before .before .before .before .before .before .before .before .before .before .before .before .before .before .before .before .face-columns .ensures) _ (part (c .before .before .before .before .before .before .before .before .before .before .before .before)) (s .args .wire .now) (named (c .before .before .before .before .before .before .before .before .before .before .before .before .before .before .before .before .before .before .before .before))
 
-same-length : tie.Need-same-length
-same-length c = search needs
-
-same-length-2 : tie.Need-same-length-2
-same-length-2 c = search needs
-
 returns-4 : tie.Need-returns-4
 returns-4 c =
     let s = c .before .before .before .before .before .before .before .before .before .before .before .before .before .before .before .before .before .before .before .before .before .before .before .before .before .before .before .before .before .before .before .before .before .before in
@@ -101,16 +80,16 @@ pub cut-checked-spec : {M : Type 1} → statement M
 cut-checked-spec =
     tie.close
     (tie.spec
-    element-copy-out-edges
-    element-copy-out-faces
-    index-requires
+    (λ c. search needs)
+    (λ c. search needs)
+    (λ c κs. search needs)
     returns
-    are-uses-requires
+    (λ c κs. search needs)
     returns-2
-    face-columns-requires
+    (λ c κs. search needs)
     face-part-requires
     returns-3
     cut-part-requires
-    same-length
-    same-length-2
+    (λ c. search needs)
+    (λ c. search needs)
     returns-4)

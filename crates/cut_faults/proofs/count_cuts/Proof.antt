@@ -22,47 +22,17 @@ fits c =
 loop-holds : tie.Need-loop-holds Inv-loop μ-loop
 loop-holds c = counting-start _ _ _ _
 
-mul-index : tie.Need-mul-index Inv-loop μ-loop
-mul-index c = search needs
-
-shared-slice-read-index : tie.Need-shared-slice-read-index Inv-loop μ-loop
-shared-slice-read-index c = search needs
-
-index-requires : tie.Need-index-requires Inv-loop μ-loop
-index-requires c κs = search needs
-
 add-wire-cuts : tie.Need-add-wire-cuts Inv-loop μ-loop
 add-wire-cuts c = omega (arith, fits c)
 
 mul-wire-cuts : tie.Need-mul-wire-cuts Inv-loop μ-loop
 mul-wire-cuts c = omega (arith, fits c)
 
-sub-wire-cuts : tie.Need-sub-wire-cuts Inv-loop μ-loop
-sub-wire-cuts c = search needs
-
-part-wire-cuts-start : tie.Need-part-wire-cuts-start Inv-loop μ-loop
-part-wire-cuts-start c = search needs
-
 part-wire-cuts-end : tie.Need-part-wire-cuts-end Inv-loop μ-loop
 part-wire-cuts-end c = omega (arith, fits c)
 
-shared-slice-read-wire-cuts : tie.Need-shared-slice-read-wire-cuts Inv-loop μ-loop
-shared-slice-read-wire-cuts c = search needs
-
-wire-cuts-requires : tie.Need-wire-cuts-requires Inv-loop μ-loop
-wire-cuts-requires c κs = search needs
-
-add-count : tie.Need-add-count Inv-loop μ-loop
-add-count c = search needs
-
 add-at : tie.Need-add-at Inv-loop μ-loop
 add-at c = omega (arith, fits (c .before .before .before))
-
-add-k : tie.Need-add-k Inv-loop μ-loop
-add-k c = search needs
-
-loop-less : tie.Need-loop-less Inv-loop μ-loop
-loop-less c = search needs
 
 loop-again : tie.Need-loop-again Inv-loop μ-loop
 loop-again c = counting-next _ _ _ _ _ _ _ (c .before .before .before .before .before .before .loop .inv) (c .before .before .before .index .result) (c .wire-cuts .result) (c .before .before .before .before .before .loop-test .taken) (c .before .before .before .index .ensures .0) (c .wire-cuts .ensures .0)
@@ -77,19 +47,19 @@ count-cuts-spec =
     Inv-loop
     μ-loop
     loop-holds
-    mul-index
-    shared-slice-read-index
-    index-requires
+    (λ c. search needs)
+    (λ c. search needs)
+    (λ c κs. search needs)
     add-wire-cuts
     mul-wire-cuts
-    sub-wire-cuts
-    part-wire-cuts-start
+    (λ c. search needs)
+    (λ c. search needs)
     part-wire-cuts-end
-    shared-slice-read-wire-cuts
-    wire-cuts-requires
-    add-count
+    (λ c. search needs)
+    (λ c κs. search needs)
+    (λ c. search needs)
     add-at
-    add-k
-    loop-less
+    (λ c. search needs)
+    (λ c. search needs)
     loop-again
     returns)

@@ -19,22 +19,10 @@ returns-3 c =
     let a = c .before .before .before .args in
     judge-edge (a .shared) (a .met) (a .cuts) (a .halves) (a .ecount) (a .ucount) (c .before .before .if1 .left) (c .before .if2 .left) (c .if3 .taken)
 
-enum-told : tie.Need-enum-told
-enum-told c = search needs
-
-enum-known-halves : tie.Need-enum-known-halves
-enum-known-halves c = search needs
-
-add-if4 : tie.Need-add-if4
-add-if4 c = search needs
-
 returns-4 : tie.Need-returns-4
 returns-4 c =
     let a = c .before .before .before .before .before .before .before .args in
     judge-edges (a .shared) (a .met) (a .cuts) (a .halves) (a .ecount) (a .ucount) (c .before .before .before .before .before .before .if1 .left) (c .before .before .before .before .before .if2 .left) (c .before .before .before .before .if3 .left) (c .before .before .halves .given .1) (c .if4 .taken)
-
-add-if5 : tie.Need-add-if5
-add-if5 c = search needs
 
 returns-5 : tie.Need-returns-5
 returns-5 c =
@@ -58,11 +46,11 @@ judge-spec =
     returns
     returns-2
     returns-3
-    enum-told
-    enum-known-halves
-    add-if4
+    (λ c. search needs)
+    (λ c. search needs)
+    (λ c. search needs)
     returns-4
-    add-if5
+    (λ c. search needs)
     returns-5
     returns-6
     returns-7)

@@ -24,32 +24,14 @@ fits c =
 loop-holds : tie.Need-loop-holds Inv-loop μ-loop
 loop-holds c = seeking-start _ _ _ _ _
 
-mul-index : tie.Need-mul-index Inv-loop μ-loop
-mul-index c = search needs
-
-shared-slice-read-index : tie.Need-shared-slice-read-index Inv-loop μ-loop
-shared-slice-read-index c = search needs
-
-index-requires : tie.Need-index-requires Inv-loop μ-loop
-index-requires c κs = search needs
-
 add-wire-meets : tie.Need-add-wire-meets Inv-loop μ-loop
 add-wire-meets c = omega (arith, fits c)
 
 mul-wire-meets : tie.Need-mul-wire-meets Inv-loop μ-loop
 mul-wire-meets c = omega (arith, fits c)
 
-sub-wire-meets : tie.Need-sub-wire-meets Inv-loop μ-loop
-sub-wire-meets c = search needs
-
-part-wire-meets-start : tie.Need-part-wire-meets-start Inv-loop μ-loop
-part-wire-meets-start c = search needs
-
 part-wire-meets-end : tie.Need-part-wire-meets-end Inv-loop μ-loop
 part-wire-meets-end c = omega (arith, fits c)
-
-shared-slice-read-wire-meets : tie.Need-shared-slice-read-wire-meets Inv-loop μ-loop
-shared-slice-read-wire-meets c = search needs
 
 wire-meets-requires : tie.Need-wire-meets-requires Inv-loop μ-loop
 wire-meets-requires c κs = let a = c .before .before .before .before .before .before .before .before .before .before .before .args in
@@ -61,12 +43,6 @@ returns c = seeking-here _ _ _ _ _ _ _ (c .before .before .before .before .befor
 
 add-at : tie.Need-add-at Inv-loop μ-loop
 add-at c = omega (arith, fits (c .before .before .before .before))
-
-add-k : tie.Need-add-k Inv-loop μ-loop
-add-k c = search needs
-
-loop-less : tie.Need-loop-less Inv-loop μ-loop
-loop-less c = search needs
 
 loop-again : tie.Need-loop-again Inv-loop μ-loop
 loop-again c = seeking-next _ _ _ _ _ _ _ (c .before .before .before .before .before .before .before .loop .inv) (c .before .before .before .before .index .result) (c .before .before .before .before .before .before .loop-test .taken) (c .before .before .before .before .index .ensures .0) (c .before .wire-meets .ensures) (c .if1 .left)
@@ -81,19 +57,19 @@ meets-vertex-spec =
     Inv-loop
     μ-loop
     loop-holds
-    mul-index
-    shared-slice-read-index
-    index-requires
+    (λ c. search needs)
+    (λ c. search needs)
+    (λ c κs. search needs)
     add-wire-meets
     mul-wire-meets
-    sub-wire-meets
-    part-wire-meets-start
+    (λ c. search needs)
+    (λ c. search needs)
     part-wire-meets-end
-    shared-slice-read-wire-meets
+    (λ c. search needs)
     wire-meets-requires
     returns
     add-at
-    add-k
-    loop-less
+    (λ c. search needs)
+    (λ c. search needs)
     loop-again
     returns-2)

@@ -10,15 +10,6 @@ use Rattle.cut_faults.proofs.wire_cuts.Tie as tie
 returns : tie.Need-returns
 returns c = let a = c .before .before .args in cuts-off (a .flag) (has (a .e .0) (map edgeNumber (a .uses .now))) (c .if1 .taken)
 
-find-use-requires : tie.Need-find-use-requires
-find-use-requires c κs = search needs
-
-enum-told : tie.Need-enum-told
-enum-told c = search needs
-
-enum-told-2 : tie.Need-enum-told-2
-enum-told-2 c = search needs
-
 returns-2 : tie.Need-returns-2
 returns-2 c = let a = c .before .before .before .before .before .args in cuts-at (a .flag) (a .e .0) (a .uses .now) (c .before .before .before .if1 .left) (c .before .before .find-use .ensures) (c .enum-told .given .1)
 
@@ -27,4 +18,4 @@ returns-3 c = let a = c .before .before .before .before .before .args in cuts-no
 
 pub wire-cuts-spec : {M : Type 1} → statement M
 wire-cuts-spec =
-    tie.close (tie.spec returns find-use-requires enum-told enum-told-2 returns-2 returns-3)
+    tie.close (tie.spec returns (λ c κs. search needs) (λ c. search needs) (λ c. search needs) returns-2 returns-3)

@@ -22,18 +22,6 @@ abbrev μ-loop : tie.MeasureT-loop
 returns : tie.Need-returns Inv-loop μ-loop
 returns c = let a = c .before .before .before .before .args in meets-off (a .flag) (has (a .v .0) (map (frontOf (a .fronts .now) (a .backs .now)) (a .uses .now))) (c .if1 .taken)
 
-index-requires : tie.Need-index-requires Inv-loop μ-loop
-index-requires c κs = search needs
-
-loop-holds : tie.Need-loop-holds Inv-loop μ-loop
-loop-holds c = search needs
-
-mul-front-of : tie.Need-mul-front-of Inv-loop μ-loop
-mul-front-of c = search needs
-
-shared-slice-read-front-of : tie.Need-shared-slice-read-front-of Inv-loop μ-loop
-shared-slice-read-front-of c = search needs
-
 front-of-requires : tie.Need-front-of-requires Inv-loop μ-loop
 front-of-requires c κs = named-edge _ _ _ (c .before .before .before .before .before .before .before .before .pre) _ (c .before .loop-test .taken)
 
@@ -41,12 +29,6 @@ returns-2 : tie.Need-returns-2 Inv-loop μ-loop
 returns-2 c = let a = c .before .before .before .before .before .before .before .before .before .before .args in
     meets-on (a .flag) (frontOf (a .fronts .now) (a .backs .now)) (a .uses .now) (c .before .before .before .before .before .before .if1 .left) (c .before .before .before .before .before .index .ensures .0)
     (c .before .before .before .before .loop .inv .1 ∙ scan-here (frontOf (a .fronts .now) (a .backs .now)) _ _ _ (c .before .before .before .loop-test .taken) (c .if2 .taken ∙ c .before .front-of .ensures))
-
-add-i : tie.Need-add-i Inv-loop μ-loop
-add-i c = search needs
-
-loop-less : tie.Need-loop-less Inv-loop μ-loop
-loop-less c = search needs
 
 loop-again : tie.Need-loop-again Inv-loop μ-loop
 loop-again c = let a = c .before .before .before .before .before .before .before .before .before .before .args in
@@ -64,13 +46,13 @@ wire-meets-spec =
     Inv-loop
     μ-loop
     returns
-    index-requires
-    loop-holds
-    mul-front-of
-    shared-slice-read-front-of
+    (λ c κs. search needs)
+    (λ c. search needs)
+    (λ c. search needs)
+    (λ c. search needs)
     front-of-requires
     returns-2
-    add-i
-    loop-less
+    (λ c. search needs)
+    (λ c. search needs)
     loop-again
     returns-3)

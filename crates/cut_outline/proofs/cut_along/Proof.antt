@@ -29,15 +29,6 @@ inside c =
     let s = c .before .before .before .before .before .before .before .before .before .before .before in
     omega (arith, end-some (s .args .fronts .now) (s .args .backs .now) 0 (begins (s .args .fronts .now) (s .args .backs .now) (s .args .wire .now)) (take (s .args .n - 0) (s .args .along .now)) (c .found .given .0 .0) (place c) .1, part-long s)
 
-sub-part : tie.Need-sub-part
-sub-part c = search needs
-
-part-part-start : tie.Need-part-part-start
-part-part-start c = search needs
-
-part-part-end : tie.Need-part-part-end
-part-part-end c = search needs
-
 first-point-requires : tie.Need-first-point-requires
 first-point-requires c κs =
     let s = c .before .before .before .before .before .before .before in
@@ -47,12 +38,6 @@ find-end-requires : tie.Need-find-end-requires
 find-end-requires c κs =
     let s = c .before .before .before .before .before .before .before .before in
     part-named (s .args .fronts .now) (s .args .backs .now) (s .args .along .now) (s .args .wire .now) (s .args .n) (s .pre .1 .0) (s .pre .1 .1 .0)
-
-enum-told : tie.Need-enum-told
-enum-told c = search needs
-
-enum-known-found : tie.Need-enum-known-found
-enum-known-found c = search needs
 
 add-cut-after : tie.Need-add-cut-after
 add-cut-after c = omega (arith, inside (c .before), c .before .before .before .before .before .before .before .before .before .before .before .before .pre .0 .1)
@@ -67,12 +52,6 @@ returns c =
     let s = c .before .before .before .before .before .before .before .before .before .before .before in
     part-none (s .args .fronts .now) (s .args .backs .now) (s .args .along .now) (s .args .wire .now) (s .args .n) (s .args .uses .now) (s .args .lens .now) (ap (λ (v : ℕ). endFrom (s .args .fronts .now) (s .args .backs .now) 0 v (take (s .args .n - 0) (s .args .along .now))) (sym (c .before .before .before .first-point .ensures)) ∙ sym (c .before .before .find-end .ensures) ∙ c .enum-told .given .1)
 
-same-length : tie.Need-same-length
-same-length c = search needs
-
-same-length-2 : tie.Need-same-length-2
-same-length-2 c = search needs
-
 returns-2 : tie.Need-returns-2
 returns-2 c =
     let s = c .before .before .before .before .before .before .before .before .before .before .before .before .before .before .before .before .before .before .before in
@@ -82,16 +61,16 @@ pub cut-along-spec : {M : Type 1} → statement M
 cut-along-spec =
     tie.close
     (tie.spec
-    sub-part
-    part-part-start
-    part-part-end
+    (λ c. search needs)
+    (λ c. search needs)
+    (λ c. search needs)
     first-point-requires
     find-end-requires
-    enum-told
-    enum-known-found
+    (λ c. search needs)
+    (λ c. search needs)
     add-cut-after
     cut-after-requires
     returns
-    same-length
-    same-length-2
+    (λ c. search needs)
+    (λ c. search needs)
     returns-2)

@@ -38,20 +38,8 @@ find-begin-requires c κs =
     let s = c .before .before .before .before .before .before .before .before in
     named-flipped (s .args .fronts .now) (s .args .backs .now) (s .args .outline .now) (s .pre .1 .0) (s .pre .1 .1 .0)
 
-enum-told : tie.Need-enum-told
-enum-told c = search needs
-
-enum-known-found : tie.Need-enum-known-found
-enum-known-found c = search needs
-
-slice-aggregate-rotate-to : tie.Need-slice-aggregate-rotate-to
-slice-aggregate-rotate-to c = search needs
-
 rotate-to-requires : tie.Need-rotate-to-requires
 rotate-to-requires c κs = (omega (arith, inside (c .before .before)), omega (arith, c .before .before .before .before .before .before .before .before .before .before .before .before .before .pre .0))
-
-slice-aggregate-cut-along : tie.Need-slice-aggregate-cut-along
-slice-aggregate-cut-along c = search needs
 
 cut-along-requires : tie.Need-cut-along-requires
 cut-along-requires c κs =
@@ -62,12 +50,6 @@ returns-2 : tie.Need-returns-2
 returns-2 c =
     let s = c .before .before .before .before .before .before .before .before .before .before .before in
     outline-none (s .args .fronts .now) (s .args .backs .now) (s .args .outline .now) (s .args .wire .now) (omega arith) (s .args .uses .now) (s .args .lens .now) (ap (λ (v : ℕ). endFrom (s .args .backs .now) (s .args .fronts .now) 0 v (s .args .outline .now)) (sym (c .before .before .before .last-point .ensures)) ∙ sym (c .before .before .find-begin .ensures) ∙ c .enum-told .given .1)
-
-same-length : tie.Need-same-length
-same-length c = search needs
-
-same-length-2 : tie.Need-same-length-2
-same-length-2 c = search needs
 
 returns-3 : tie.Need-returns-3
 returns-3 c =
@@ -81,13 +63,13 @@ cut-outline-spec =
     returns
     last-point-requires
     find-begin-requires
-    enum-told
-    enum-known-found
-    slice-aggregate-rotate-to
+    (λ c. search needs)
+    (λ c. search needs)
+    (λ c. search needs)
     rotate-to-requires
-    slice-aggregate-cut-along
+    (λ c. search needs)
     cut-along-requires
     returns-2
-    same-length
-    same-length-2
+    (λ c. search needs)
+    (λ c. search needs)
     returns-3)

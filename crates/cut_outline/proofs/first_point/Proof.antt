@@ -5,12 +5,6 @@ use Rattle.cut_outline.proofs.Laws.{first-is}
 use Rattle.cut_outline.proofs.first_point.Statement.{statement}
 use Rattle.cut_outline.proofs.first_point.Tie as tie
 
-shared-slice-read-from-number : tie.Need-shared-slice-read-from-number
-shared-slice-read-from-number c = search needs
-
-from-number-requires : tie.Need-from-number-requires
-from-number-requires c κs = search needs
-
 front-requires : tie.Need-front-requires
 front-requires c κs = rw (c .from-number .ensures) (named-edge _ _ _ (c .before .before .before .before .before .pre .1) 0 (c .before .before .before .before .before .pre .0))
 
@@ -21,4 +15,4 @@ returns c =
 
 pub first-point-spec : {M : Type 1} → statement M
 first-point-spec =
-    tie.close (tie.spec shared-slice-read-from-number from-number-requires front-requires returns)
+    tie.close (tie.spec (λ c. search needs) (λ c κs. search needs) front-requires returns)

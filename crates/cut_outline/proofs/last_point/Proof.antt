@@ -8,18 +8,6 @@ use Rattle.cut_outline.proofs.Laws.{last-is}
 use Rattle.cut_outline.proofs.last_point.Statement.{statement}
 use Rattle.cut_outline.proofs.last_point.Tie as tie
 
-sub-from-number : tie.Need-sub-from-number
-sub-from-number c = search needs
-
-mul-from-number : tie.Need-mul-from-number
-mul-from-number c = search needs
-
-shared-slice-read-from-number : tie.Need-shared-slice-read-from-number
-shared-slice-read-from-number c = search needs
-
-from-number-requires : tie.Need-from-number-requires
-from-number-requires c κs = search needs
-
 back-requires : tie.Need-back-requires
 back-requires c κs =
     let s = c .before .before .before .before .before in
@@ -34,9 +22,9 @@ pub last-point-spec : {M : Type 1} → statement M
 last-point-spec =
     tie.close
     (tie.spec
-    sub-from-number
-    mul-from-number
-    shared-slice-read-from-number
-    from-number-requires
+    (λ c. search needs)
+    (λ c. search needs)
+    (λ c. search needs)
+    (λ c κs. search needs)
     back-requires
     returns)

@@ -13,34 +13,10 @@ returns c =
     let s = c .before .before .before .before .before .before .before in
     after-long (s .args .fronts .now) (s .args .backs .now) (s .args .along .now) (s .args .wire .now) (s .args .uses .now) (s .args .lens .now) (s .args .k) (long-breaks (s .args .fronts .now) (s .args .backs .now) (s .args .along .now) (s .args .wire .now) (s .args .k) (s .pre .1 .0) (s .pre .1 .1 .0) (s .pre .1 .1 .1) (omega arith))
 
-slice-aggregate-put-two : tie.Need-slice-aggregate-put-two
-slice-aggregate-put-two c = search needs
-
-put-two-requires : tie.Need-put-two-requires
-put-two-requires c κs = search needs
-
-slice-aggregate-write-two : tie.Need-slice-aggregate-write-two
-slice-aggregate-write-two c = search needs
-
-add-write-two : tie.Need-add-write-two
-add-write-two c = search needs
-
-mul-write-two : tie.Need-mul-write-two
-mul-write-two c = search needs
-
-add-write-two-2 : tie.Need-add-write-two-2
-add-write-two-2 c = search needs
-
 write-two-requires : tie.Need-write-two-requires
 write-two-requires c κs =
     let s = c .before .before .before .before .before .before .before .before .before .before .before .before .before in
     ((omega arith, omega arith, omega arith), made-named (s .args .fronts .now) (s .args .backs .now) (s .args .along .now) (s .args .wire .now) (replicate {A = ℕ} 8192 0) (s .args .k) (s .pre .1 .0) (s .pre .1 .1 .0) (s .pre .1 .1 .1) (s .pre .0 .0) (omega arith) _ (c .before .before .before .before .put-two .ensures))
-
-same-length : tie.Need-same-length
-same-length c = search needs
-
-same-length-2 : tie.Need-same-length-2
-same-length-2 c = search needs
 
 returns-2 : tie.Need-returns-2
 returns-2 c =
@@ -52,13 +28,13 @@ cut-after-spec =
     tie.close
     (tie.spec
     returns
-    slice-aggregate-put-two
-    put-two-requires
-    slice-aggregate-write-two
-    add-write-two
-    mul-write-two
-    add-write-two-2
+    (λ c. search needs)
+    (λ c κs. search needs)
+    (λ c. search needs)
+    (λ c. search needs)
+    (λ c. search needs)
+    (λ c. search needs)
     write-two-requires
-    same-length
-    same-length-2
+    (λ c. search needs)
+    (λ c. search needs)
     returns-2)

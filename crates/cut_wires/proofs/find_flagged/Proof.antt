@@ -5,14 +5,8 @@ use Rattle.cut_wires.proofs.find_flagged.Statement.{statement}
 use Rattle.wire.specs.Wires.{findFrom}
 use Rattle.cut_wires.proofs.find_flagged.Tie as tie
 
-find-use-requires : tie.Need-find-use-requires
-find-use-requires c κs = search needs
-
 returns : tie.Need-returns
 returns c = let a = c .before .before .before .args in found-flagged (a .flag) (findFrom 0 (a .e .0) (a .uses .now)) (c .before .if1 .taken) (c .find-use .ensures)
 
-returns-2 : tie.Need-returns-2
-returns-2 c = search needs
-
 pub find-flagged-spec : {M : Type 1} → statement M
-find-flagged-spec = tie.close (tie.spec find-use-requires returns returns-2)
+find-flagged-spec = tie.close (tie.spec (λ c κs. search needs) returns (λ c. search needs))

@@ -4,15 +4,6 @@ use Rattle.cut_wires.proofs.Halves.{halves-along, halves-reversed}
 use Rattle.cut_wires.proofs.halves_of.Statement.{statement}
 use Rattle.cut_wires.proofs.halves_of.Tie as tie
 
-add-t5 : tie.Need-add-t5
-add-t5 c = search needs
-
-add-t6 : tie.Need-add-t6
-add-t6 c = search needs
-
-add-t7 : tie.Need-add-t7
-add-t7 c = search needs
-
 returns : tie.Need-returns
 returns c = halves-reversed (c .before .args .a) (c .before .args .u) (c .before .pre) (c .if1 .taken)
 
@@ -20,4 +11,4 @@ returns-2 : tie.Need-returns-2
 returns-2 c = halves-along (c .before .args .a) (c .before .args .u) (c .before .pre) (c .if1 .left)
 
 pub halves-of-spec : {M : Type 1} → statement M
-halves-of-spec = tie.close (tie.spec add-t5 add-t6 add-t7 returns returns-2)
+halves-of-spec = tie.close (tie.spec (λ c. search needs) (λ c. search needs) (λ c. search needs) returns returns-2)

@@ -29,32 +29,14 @@ room c = putting-room _ _ _ (c .before .before .before .loop .inv) (c .index .re
 loop-holds : tie.Need-loop-holds Inv-loop μ-loop
 loop-holds c = putting-start _ _ _ _ _
 
-mul-index : tie.Need-mul-index Inv-loop μ-loop
-mul-index c = search needs
-
-shared-slice-read-index : tie.Need-shared-slice-read-index Inv-loop μ-loop
-shared-slice-read-index c = search needs
-
-index-requires : tie.Need-index-requires Inv-loop μ-loop
-index-requires c κs = search needs
-
 add-put-wire : tie.Need-add-put-wire Inv-loop μ-loop
 add-put-wire c = omega (arith, fits c)
 
 mul-put-wire : tie.Need-mul-put-wire Inv-loop μ-loop
 mul-put-wire c = omega (arith, fits c)
 
-sub-put-wire : tie.Need-sub-put-wire Inv-loop μ-loop
-sub-put-wire c = search needs
-
-part-put-wire-start : tie.Need-part-put-wire-start Inv-loop μ-loop
-part-put-wire-start c = search needs
-
 part-put-wire-end : tie.Need-part-put-wire-end Inv-loop μ-loop
 part-put-wire-end c = omega (arith, fits c)
-
-shared-slice-read-put-wire : tie.Need-shared-slice-read-put-wire Inv-loop μ-loop
-shared-slice-read-put-wire c = search needs
 
 put-wire-requires : tie.Need-put-wire-requires Inv-loop μ-loop
 put-wire-requires c κs = let a = c .before .before .before .before .before .before .before .before .before .before .before .before .before .before .args in
@@ -64,32 +46,14 @@ put-wire-requires c κs = let a = c .before .before .before .before .before .bef
 cast-sizes : tie.Need-cast-sizes Inv-loop μ-loop
 cast-sizes c = omega (arith, room (c .before .before .before .before .before .before), c .before .before .put-wire .ensures .0, c .before .before .before .before .before .before .before .before .before .loop .inv .out-long, c .before .before .before .before .before .before .before .before .before .before .before .before .before .before .before .before .before .pre .1 .1 .1 .2)
 
-mul-sizes : tie.Need-mul-sizes Inv-loop μ-loop
-mul-sizes c = search needs
-
-slice-write-sizes : tie.Need-slice-write-sizes Inv-loop μ-loop
-slice-write-sizes c = search needs
-
 add-from : tie.Need-add-from Inv-loop μ-loop
 add-from c = omega (arith, fits (c .before .before .before .before .before .before), c .before .before .before .before .before .before .before .before .before .before .before .before .before .before .before .before .before .pre .1 .1 .1 .1)
 
 add-at : tie.Need-add-at Inv-loop μ-loop
 add-at c = omega (arith, room (c .before .before .before .before .before .before), c .before .before .put-wire .ensures .0, c .before .before .before .before .before .before .before .before .before .loop .inv .out-long, c .before .before .before .before .before .before .before .before .before .before .before .before .before .before .before .before .before .pre .1 .1 .1 .2)
 
-add-k : tie.Need-add-k Inv-loop μ-loop
-add-k c = search needs
-
-loop-less : tie.Need-loop-less Inv-loop μ-loop
-loop-less c = search needs
-
 loop-again : tie.Need-loop-again Inv-loop μ-loop
 loop-again c = putting-next _ _ _ (c .before .before .before .before .before .before .before .before .before .loop .inv) (c .before .before .before .before .before .before .index .result) (c .before .before .before .before .before .before .before .before .loop-test .taken) (c .before .before .before .before .before .before .index .ensures .0) (c .before .before .put-wire .result) _ (c .before .before .put-wire .ensures .0) (c .before .before .put-wire .ensures .1)
-
-same-length : tie.Need-same-length Inv-loop μ-loop
-same-length c = search needs
-
-same-length-2 : tie.Need-same-length-2 Inv-loop μ-loop
-same-length-2 c = search needs
 
 returns : tie.Need-returns Inv-loop μ-loop
 returns c = (putting-size _ _ _ (c .before .loop .inv) (c .loop-test .left), (putting-out _ _ _ (c .before .loop .inv) (c .loop-test .left), putting-lens _ _ _ (c .before .loop .inv) (c .loop-test .left)))
@@ -101,24 +65,24 @@ put-cut-spec =
     Inv-loop
     μ-loop
     loop-holds
-    mul-index
-    shared-slice-read-index
-    index-requires
+    (λ c. search needs)
+    (λ c. search needs)
+    (λ c κs. search needs)
     add-put-wire
     mul-put-wire
-    sub-put-wire
-    part-put-wire-start
+    (λ c. search needs)
+    (λ c. search needs)
     part-put-wire-end
-    shared-slice-read-put-wire
+    (λ c. search needs)
     put-wire-requires
     cast-sizes
-    mul-sizes
-    slice-write-sizes
+    (λ c. search needs)
+    (λ c. search needs)
     add-from
     add-at
-    add-k
-    loop-less
+    (λ c. search needs)
+    (λ c. search needs)
     loop-again
-    same-length
-    same-length-2
+    (λ c. search needs)
+    (λ c. search needs)
     returns)

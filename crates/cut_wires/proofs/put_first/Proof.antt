@@ -6,24 +6,6 @@ use borrow.Author.Needs.{needs}
 use Rattle.cut_wires.proofs.put_first.Statement.{statement}
 use Rattle.cut_wires.proofs.put_first.Tie as tie
 
-sub-put-cut : tie.Need-sub-put-cut
-sub-put-cut c = search needs
-
-part-put-cut-start : tie.Need-part-put-cut-start
-part-put-cut-start c = search needs
-
-part-put-cut-end : tie.Need-part-put-cut-end
-part-put-cut-end c = search needs
-
-sub-put-cut-2 : tie.Need-sub-put-cut-2
-sub-put-cut-2 c = search needs
-
-part-put-cut-start-2 : tie.Need-part-put-cut-start-2
-part-put-cut-start-2 c = search needs
-
-part-put-cut-end-2 : tie.Need-part-put-cut-end-2
-part-put-cut-end-2 c = search needs
-
 put-cut-requires : tie.Need-put-cut-requires
 put-cut-requires c κs = let a = c .before .before .before .before .before .before .before .before .before .before .before .args in
     let p = c .before .before .before .before .before .before .before .before .before .before .before .pre in
@@ -32,12 +14,6 @@ put-cut-requires c κs = let a = c .before .before .before .before .before .befo
     rw (sub-zero (a .wcount), sub-zero (a .ucount))
     (p .1 .0, (p .1 .1 .0, ((omega (arith, p .1 .1 .1 .0, lu), omega (arith, lw, p .0 .3), omega (arith, lw, p .0 .4)), (p .1 .1 .1 .1, omega (arith, lu, p .0 .1), p .0 .5))))
 
-same-length : tie.Need-same-length
-same-length c = search needs
-
-same-length-2 : tie.Need-same-length-2
-same-length-2 c = search needs
-
 returns : tie.Need-returns
 returns c = let a = c .before .before .before .before .before .before .before .before .before .before .before .before .before .before .before .before .args in rw (sub-zero (a .wcount), sub-zero (a .ucount)) at (c .before .before .before .before .put-cut .ensures)
 
@@ -45,13 +21,13 @@ pub put-first-spec : {M : Type 1} → statement M
 put-first-spec =
     tie.close
     (tie.spec
-    sub-put-cut
-    part-put-cut-start
-    part-put-cut-end
-    sub-put-cut-2
-    part-put-cut-start-2
-    part-put-cut-end-2
+    (λ c. search needs)
+    (λ c. search needs)
+    (λ c. search needs)
+    (λ c. search needs)
+    (λ c. search needs)
+    (λ c. search needs)
     put-cut-requires
-    same-length
-    same-length-2
+    (λ c. search needs)
+    (λ c. search needs)
     returns)

@@ -17,9 +17,6 @@ abbrev μ-loop : tie.MeasureT-loop
 loop-holds : tie.Need-loop-holds Inv-loop μ-loop
 loop-holds c = record { low = omega arith; same = refl; room = c .before .pre }
 
-shared-slice-read-b : tie.Need-shared-slice-read-b Inv-loop μ-loop
-shared-slice-read-b c = search needs
-
 returns : tie.Need-returns Inv-loop μ-loop
 returns c =
     let l = c .before .before .before .loop in
@@ -33,20 +30,8 @@ returns-2 c =
 mul-m : tie.Need-mul-m Inv-loop μ-loop
 mul-m c = omega (arith, parsing-room tens _ _ _ _ _ (c .before .before .before .before .loop .inv) (c .before .before .before .loop-test .taken))
 
-wide-requires : tie.Need-wide-requires Inv-loop μ-loop
-wide-requires c κs = search needs
-
-sub-m : tie.Need-sub-m Inv-loop μ-loop
-sub-m c = search needs
-
 add-m : tie.Need-add-m Inv-loop μ-loop
 add-m c = omega (arith, parsing-room tens _ _ _ _ _ (c .before .before .before .before .before .loop .inv) (c .before .before .before .before .loop-test .taken))
-
-add-i : tie.Need-add-i Inv-loop μ-loop
-add-i c = search needs
-
-loop-less : tie.Need-loop-less Inv-loop μ-loop
-loop-less c = search needs
 
 loop-again : tie.Need-loop-again Inv-loop μ-loop
 loop-again c =
@@ -63,14 +48,14 @@ digits-after-spec =
     Inv-loop
     μ-loop
     loop-holds
-    shared-slice-read-b
+    (λ c. search needs)
     returns
     returns-2
     mul-m
-    wide-requires
-    sub-m
+    (λ c κs. search needs)
+    (λ c. search needs)
     add-m
-    add-i
-    loop-less
+    (λ c. search needs)
+    (λ c. search needs)
     loop-again
     returns-3)

@@ -6,9 +6,6 @@ use Rattle.decimals.proofs.Hex.{is-lower, is-none, is-tenth, is-upper}
 use Rattle.decimals.proofs.hex_digit.Statement.{statement}
 use Rattle.decimals.proofs.hex_digit.Tie as tie
 
-wide-requires : tie.Need-wide-requires
-wide-requires c κs = search needs
-
 returns : tie.Need-returns
 returns c = (is-none (c .before .before .args .b) (inl (omega arith)), omega arith)
 
@@ -18,17 +15,11 @@ returns-2 c = (is-tenth _ _ (c .before .before .wide .ensures .0) (omega arith) 
 returns-3 : tie.Need-returns-3
 returns-3 c = (is-none (c .before .before .before .before .args .b) (inr (inl (omega arith, omega arith))), omega arith)
 
-sub-result : tie.Need-sub-result
-sub-result c = search needs
-
 returns-4 : tie.Need-returns-4
 returns-4 c = (is-upper _ _ (c .before .before .before .before .wide .ensures .0) (omega arith) (omega arith), omega arith)
 
 returns-5 : tie.Need-returns-5
 returns-5 c = (is-none (c .before .before .before .before .before .before .args .b) (inr (inr (inl (omega arith, omega arith)))), omega arith)
-
-sub-result-2 : tie.Need-sub-result-2
-sub-result-2 c = search needs
 
 returns-6 : tie.Need-returns-6
 returns-6 c = (is-lower _ _ (c .before .before .before .before .before .before .wide .ensures .0) (omega arith) (omega arith), omega arith)
@@ -40,13 +31,13 @@ pub hex-digit-spec : {M : Type 1} → statement M
 hex-digit-spec =
     tie.close
     (tie.spec
-    wide-requires
+    (λ c κs. search needs)
     returns
     returns-2
     returns-3
-    sub-result
+    (λ c. search needs)
     returns-4
     returns-5
-    sub-result-2
+    (λ c. search needs)
     returns-6
     returns-7)

@@ -25,12 +25,6 @@ loop-holds c =
     let l : length (drop 2 w) ≡ 16 = omega (arith, length-drop 2 w) in
     record { low = omega arith; same = rw (eq-eqb (length w) 18 (c .if1 .left)); room = rw l (omega arith) }
 
-shared-slice-read-hex-digit : tie.Need-shared-slice-read-hex-digit Inv-loop μ-loop
-shared-slice-read-hex-digit c = search needs
-
-hex-digit-requires : tie.Need-hex-digit-requires Inv-loop μ-loop
-hex-digit-requires c κs = search needs
-
 returns-2 : tie.Need-returns-2 Inv-loop μ-loop
 returns-2 c = parsing-stop sixteens _ _ _ _ _ (c .before .before .before .before .loop .inv) (omega arith) (le-ltb (hexDigit (getD (c .before .before .before .before .before .before .before .args .word .now) (c .before .before .before .before .loop .i) 0)) 16 (omega arith))
 
@@ -39,12 +33,6 @@ mul-n c = omega (arith, parsing-room sixteens _ _ _ _ _ (c .before .before .befo
 
 add-n : tie.Need-add-n Inv-loop μ-loop
 add-n c = omega (arith, parsing-room sixteens _ _ _ _ _ (c .before .before .before .before .loop .inv) (omega arith))
-
-add-i : tie.Need-add-i Inv-loop μ-loop
-add-i c = search needs
-
-loop-less : tie.Need-loop-less Inv-loop μ-loop
-loop-less c = search needs
 
 loop-again : tie.Need-loop-again Inv-loop μ-loop
 loop-again c = rw (c .before .hex-digit .ensures .0) (parsing-next sixteens _ _ _ _ _ (c .before .before .before .before .loop .inv) (omega arith) (lt-ltb (hexDigit (getD (c .before .before .before .before .before .before .before .args .word .now) (c .before .before .before .before .loop .i) 0)) 16 (omega arith)))
@@ -60,12 +48,12 @@ hex-of-spec =
     μ-loop
     returns
     loop-holds
-    shared-slice-read-hex-digit
-    hex-digit-requires
+    (λ c. search needs)
+    (λ c κs. search needs)
     returns-2
     mul-n
     add-n
-    add-i
-    loop-less
+    (λ c. search needs)
+    (λ c. search needs)
     loop-again
     returns-3)

@@ -10,12 +10,6 @@ quotient : (c : tie.After-power)
     → Quotient (c .before .nearest-u64-to-f64 .result) (c .power .result) (c .before .before .args .m) (c .before .before .args .k)
 quotient c = quotient-of _ _ _ _ (c .before .before .pre .0) (c .before .before .pre .1) (c .before .nearest-u64-to-f64 .ensures) (c .power .ensures)
 
-nearest-u64-to-f64-requires : tie.Need-nearest-u64-to-f64-requires
-nearest-u64-to-f64-requires c κs = search needs
-
-power-requires : tie.Need-power-requires
-power-requires c κs = search needs
-
 float-to-bits-bits : tie.Need-float-to-bits-bits
 float-to-bits-bits c = quotient c .no-nan
 
@@ -34,8 +28,8 @@ pub nearest-bits-spec : {M : Type 1} → statement M
 nearest-bits-spec =
     tie.close
     (tie.spec
-    nearest-u64-to-f64-requires
-    power-requires
+    (λ c κs. search needs)
+    (λ c κs. search needs)
     float-to-bits-bits
     add-result
     returns

@@ -8,15 +8,6 @@ use Rattle.decimals.proofs.places_after.Statement.{statement}
 use Rattle.text.specs.declared.Token.the-variants.{Value}
 use Rattle.decimals.proofs.places_after.Tie as tie
 
-digits-after-requires : tie.Need-digits-after-requires
-digits-after-requires c κs = search needs
-
-enum-told : tie.Need-enum-told
-enum-told c = search needs
-
-enum-known-all : tie.Need-enum-known-all
-enum-known-all c = search needs
-
 nearest-bits-requires : tie.Need-nearest-bits-requires
 nearest-bits-requires c κs =
     let a = c .before .before .before .before .before .args in
@@ -35,9 +26,9 @@ pub places-after-spec : {M : Type 1} → statement M
 places-after-spec =
     tie.close
     (tie.spec
-    digits-after-requires
-    enum-told
-    enum-known-all
+    (λ c κs. search needs)
+    (λ c. search needs)
+    (λ c. search needs)
     nearest-bits-requires
     returns
     returns-2)

@@ -7,15 +7,9 @@ use borrow.Author.Needs.{needs}
 use Rattle.decimals.proofs.power.Statement.{statement}
 use Rattle.decimals.proofs.power.Tie as tie
 
-ten-to-requires : tie.Need-ten-to-requires
-ten-to-requires c κs = search needs
-
-nearest-u64-to-f64-requires : tie.Need-nearest-u64-to-f64-requires
-nearest-u64-to-f64-requires c κs = search needs
-
 returns : tie.Need-returns
 unfolding ofInt
 returns c = c .nearest-u64-to-f64 .ensures ∙ ap (λ (n : ℕ). round binary64 false n 1) (c .before .ten-to .ensures .0)
 
 pub power-spec : {M : Type 1} → statement M
-power-spec = tie.close (tie.spec ten-to-requires nearest-u64-to-f64-requires returns)
+power-spec = tie.close (tie.spec (λ c κs. search needs) (λ c κs. search needs) returns)

@@ -6,12 +6,6 @@ use Rattle.decimals.proofs.Texts.{put-fraction, sign-short, whole-short
 use Rattle.decimals.proofs.put_fraction.Statement.{statement}
 use Rattle.decimals.proofs.put_fraction.Tie as tie
 
-put-sign-requires : tie.Need-put-sign-requires
-put-sign-requires c κs = search needs
-
-ten-to-requires : tie.Need-ten-to-requires
-ten-to-requires c κs = search needs
-
 div-put-decimal : tie.Need-div-put-decimal
 div-put-decimal c = omega (arith, ten-pos (c .before .before .before .before .before .before .before .args .k))
 
@@ -25,9 +19,6 @@ put-places-requires c κs =
     let a = c .before .before .before .before .before .before .before .before .before .before .before .args in
     omega (arith, c .before .before .before .put-decimal .kept .0, c .before .before .before .before .before .before .before .before .put-sign .kept .0, sign-short (a .negative), whole-short (a .m) (a .k) _ (c .before .before .before .before .ten-to .ensures .0) (omega arith) (omega arith))
 
-same-length : tie.Need-same-length
-same-length c = search needs
-
 returns : tie.Need-returns
 returns c =
     let a = c .before .before .before .before .before .before .before .before .before .before .before .before .before .before .args in
@@ -37,10 +28,10 @@ pub put-fraction-spec : {M : Type 1} → statement M
 put-fraction-spec =
     tie.close
     (tie.spec
-    put-sign-requires
-    ten-to-requires
+    (λ c κs. search needs)
+    (λ c κs. search needs)
     div-put-decimal
     put-decimal-requires
     put-places-requires
-    same-length
+    (λ c. search needs)
     returns)

@@ -10,20 +10,8 @@ use Rattle.decimals.proofs.put_places.Tie as tie
 returns : tie.Need-returns
 returns c = no-places (c .before .before .args .out .now) (c .before .before .args .at) (c .before .before .args .k) (c .before .before .args .m) (c .if1 .taken)
 
-slice-write-out : tie.Need-slice-write-out
-slice-write-out c = search needs
-
-add-put-last : tie.Need-add-put-last
-add-put-last c = search needs
-
 put-last-requires : tie.Need-put-last-requires
 put-last-requires c κs = simp length-set (omega arith)
-
-add-result : tie.Need-add-result
-add-result c = search needs
-
-add-result-2 : tie.Need-add-result-2
-add-result-2 c = search needs
 
 same-length : tie.Need-same-length
 same-length c = c .before .before .put-last .kept .0 ∙ length-set (c .before .before .before .before .before .before .args .out .now) (c .before .before .before .before .before .before .args .at) 46
@@ -36,10 +24,10 @@ put-places-spec =
     tie.close
     (tie.spec
     returns
-    slice-write-out
-    add-put-last
+    (λ c. search needs)
+    (λ c. search needs)
     put-last-requires
-    add-result
-    add-result-2
+    (λ c. search needs)
+    (λ c. search needs)
     same-length
     returns-2)

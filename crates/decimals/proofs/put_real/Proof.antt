@@ -6,15 +6,6 @@ use Rattle.decimals.proofs.Texts.{decimal-real, hex-real}
 use Rattle.decimals.proofs.put_real.Statement.{statement}
 use Rattle.decimals.proofs.put_real.Tie as tie
 
-places-of-requires : tie.Need-places-of-requires
-places-of-requires c κs = search needs
-
-put-hex-requires : tie.Need-put-hex-requires
-put-hex-requires c κs = search needs
-
-same-length : tie.Need-same-length
-same-length c = search needs
-
 returns : tie.Need-returns
 returns c = rw (hex-real (c .before .before .before .before .before .before .before .args .bits) _ (c .before .before .before .before .before .places-of .ensures .0) (omega arith)) at (c .before .before .put-hex .ensures)
 
@@ -26,9 +17,6 @@ put-fraction-requires c κs =
     let b = found (c .before .before .before .before .before .args .bits) (c .before .before .before .places-of .result) (c .before .before .before .places-of .ensures .0) (omega arith) in
     (rw (c .scaled-of .ensures) (b .short), omega arith, omega arith)
 
-same-length-2 : tie.Need-same-length-2
-same-length-2 c = search needs
-
 returns-2 : tie.Need-returns-2
 returns-2 c =
     rw (c .before .before .before .scaled-of .ensures, decimal-real (c .before .before .before .before .before .before .before .before .args .bits) _ (c .before .before .before .before .before .before .places-of .ensures .0) (omega arith)) at (c .before .before .put-fraction .ensures)
@@ -37,11 +25,11 @@ pub put-real-spec : {M : Type 1} → statement M
 put-real-spec =
     tie.close
     (tie.spec
-    places-of-requires
-    put-hex-requires
-    same-length
+    (λ c κs. search needs)
+    (λ c κs. search needs)
+    (λ c. search needs)
     returns
     scaled-of-requires
     put-fraction-requires
-    same-length-2
+    (λ c. search needs)
     returns-2)

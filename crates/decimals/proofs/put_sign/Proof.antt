@@ -5,15 +5,6 @@ use borrow.Author.Needs.{needs}
 use Rattle.decimals.proofs.put_sign.Statement.{statement}
 use Rattle.decimals.proofs.put_sign.Tie as tie
 
-slice-write-out : tie.Need-slice-write-out
-slice-write-out c = search needs
-
-add-result : tie.Need-add-result
-add-result c = search needs
-
-same-length : tie.Need-same-length
-same-length c = search needs
-
 returns : tie.Need-returns
 returns c = rw (c .if1 .taken) (refl, refl)
 
@@ -21,4 +12,4 @@ returns-2 : tie.Need-returns-2
 returns-2 c = rw (c .if1 .left) (refl, omega arith)
 
 pub put-sign-spec : {M : Type 1} → statement M
-put-sign-spec = tie.close (tie.spec slice-write-out add-result same-length returns returns-2)
+put-sign-spec = tie.close (tie.spec (λ c. search needs) (λ c. search needs) (λ c. search needs) returns returns-2)

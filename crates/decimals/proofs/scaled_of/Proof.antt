@@ -8,15 +8,9 @@ use Rattle.decimals.proofs.scaled_of.Tie as tie
 float-from-bits-whole-of : tie.Need-float-from-bits-whole-of
 float-from-bits-whole-of c = rw (no-nan (c .args .bits) (c .pre .0)) tt
 
-power-requires : tie.Need-power-requires
-power-requires c κs = search needs
-
-whole-of-requires : tie.Need-whole-of-requires
-whole-of-requires c κs = search needs
-
 returns : tie.Need-returns
 returns c = c .whole-of .ensures ∙ scaled-is (c .before .before .args .bits) (c .before .before .args .k) _ (c .before .power .ensures)
 
 pub scaled-of-spec : {M : Type 1} → statement M
 scaled-of-spec =
-    tie.close (tie.spec float-from-bits-whole-of power-requires whole-of-requires returns)
+    tie.close (tie.spec float-from-bits-whole-of (λ c κs. search needs) (λ c κs. search needs) returns)

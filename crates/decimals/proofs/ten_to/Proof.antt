@@ -15,17 +15,8 @@ Inv-loop k n₀ i₀ n i = (i ≤ k) × (n ≡ 10 ^ i)
 abbrev μ-loop : tie.MeasureT-loop
 μ-loop k n₀ i₀ n i = k - i
 
-loop-holds : tie.Need-loop-holds Inv-loop μ-loop
-loop-holds c = search needs
-
 mul-n : tie.Need-mul-n Inv-loop μ-loop
 mul-n c = omega (arith, ten-most (c .before .loop .i) (omega arith))
-
-add-i : tie.Need-add-i Inv-loop μ-loop
-add-i c = search needs
-
-loop-less : tie.Need-loop-less Inv-loop μ-loop
-loop-less c = search needs
 
 loop-again : tie.Need-loop-again Inv-loop μ-loop
 loop-again c = (omega arith, rw (add-one (c .before .loop .i), pow-suc 10 (c .before .loop .i), c .before .loop .inv .1))
@@ -37,4 +28,4 @@ returns c =
 
 pub ten-to-spec : {M : Type 1} → statement M
 ten-to-spec =
-    tie.close (tie.spec Inv-loop μ-loop loop-holds mul-n add-i loop-less loop-again returns)
+    tie.close (tie.spec Inv-loop μ-loop (λ c. search needs) mul-n (λ c. search needs) (λ c. search needs) loop-again returns)

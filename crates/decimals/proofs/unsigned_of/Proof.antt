@@ -10,9 +10,6 @@ use Rattle.decimals.proofs.Unsigned.{no-point-is, no-point-long, none-b
 use Rattle.decimals.proofs.unsigned_of.Statement.{statement}
 use Rattle.decimals.proofs.unsigned_of.Tie as tie
 
-point-of-requires : tie.Need-point-of-requires
-point-of-requires c κs = search needs
-
 returns : tie.Need-returns
 returns c = none-before (c .before .before .before .args .negative) (c .before .before .before .args .word .now) _ (c .before .point-of .ensures .0) (c .if1 .taken)
 
@@ -28,43 +25,13 @@ places-after-requires c κs = (omega (arith, ten-most (length (c .before .before
 returns-4 : tie.Need-returns-4
 returns-4 c = c .places-after .ensures ∙ no-point-is (c .before .before .before .before .before .before .before .args .negative) (c .before .before .before .before .before .before .before .args .word .now) _ (c .before .before .before .before .before .point-of .ensures .0) (c .before .before .if3 .taken) (c .before .before .before .before .if1 .left) (c .before .if4 .left)
 
-add-first : tie.Need-add-first
-add-first c = search needs
-
 returns-5 : tie.Need-returns-5
 returns-5 c = none-behind (c .before .before .before .before .before .before .args .negative) (c .before .before .before .before .before .before .args .word .now) _ (c .before .before .before .before .point-of .ensures .0) (omega arith) (c .before .before .before .if1 .left) (c .if5 .taken)
-
-sub-digits-after : tie.Need-sub-digits-after
-sub-digits-after c = search needs
-
-part-digits-after-start : tie.Need-part-digits-after-start
-part-digits-after-start c = search needs
-
-part-digits-after-end : tie.Need-part-digits-after-end
-part-digits-after-end c = search needs
 
 digits-after-requires : tie.Need-digits-after-requires
 digits-after-requires c κs =
     let first = take (c .before .before .before .before .before .point-of .result - 0) (c .before .before .before .before .before .before .before .args .word .now) in
     omega (arith, ten-most (length first) (omega (arith, length-take (c .before .before .before .before .before .point-of .result - 0) (c .before .before .before .before .before .before .before .args .word .now))))
-
-enum-told : tie.Need-enum-told
-enum-told c = search needs
-
-enum-known-whole : tie.Need-enum-known-whole
-enum-known-whole c = search needs
-
-sub-places-after : tie.Need-sub-places-after
-sub-places-after c = search needs
-
-part-places-after-start : tie.Need-part-places-after-start
-part-places-after-start c = search needs
-
-part-places-after-end : tie.Need-part-places-after-end
-part-places-after-end c = search needs
-
-sub-places-after-2 : tie.Need-sub-places-after-2
-sub-places-after-2 c = search needs
 
 places-after-requires-2 : tie.Need-places-after-requires-2
 places-after-requires-2 c κs =
@@ -85,24 +52,24 @@ pub unsigned-of-spec : {M : Type 1} → statement M
 unsigned-of-spec =
     tie.close
     (tie.spec
-    point-of-requires
+    (λ c κs. search needs)
     returns
     returns-2
     returns-3
     places-after-requires
     returns-4
-    add-first
+    (λ c. search needs)
     returns-5
-    sub-digits-after
-    part-digits-after-start
-    part-digits-after-end
+    (λ c. search needs)
+    (λ c. search needs)
+    (λ c. search needs)
     digits-after-requires
-    enum-told
-    enum-known-whole
-    sub-places-after
-    part-places-after-start
-    part-places-after-end
-    sub-places-after-2
+    (λ c. search needs)
+    (λ c. search needs)
+    (λ c. search needs)
+    (λ c. search needs)
+    (λ c. search needs)
+    (λ c. search needs)
     places-after-requires-2
     returns-6
     returns-7)

@@ -49,28 +49,13 @@ end c = end-is (after (start (c .before))) (newCounts (c .before)) _ (counted (c
 counts-of-requires : tie.Need-counts-of-requires
 counts-of-requires c κs = let s = c .before .before .before .before in table-long (s .args .s .now) (table-right (s .args .s .now) (s .pre .0))
 
-array-read-counts : tie.Need-array-read-counts
-array-read-counts c = search needs
-
 add-counts : tie.Need-add-counts
 add-counts c =
     let s = start c in
     omega (arith, s .pre .1 .0 .4, ap (λ (ns : List ℕ). getD ns 1 0) (c .counts-of .ensures), getD-tabulate 7 (countAt (s .args .s .now)) 1 0 (omega arith))
 
-array-write-counts : tie.Need-array-write-counts
-array-write-counts c = search needs
-
-array-write-counts-2 : tie.Need-array-write-counts-2
-array-write-counts-2 c = search needs
-
-array-write-counts-3 : tie.Need-array-write-counts-3
-array-write-counts-3 c = search needs
-
 starts-of-requires : tie.Need-starts-of-requires
 starts-of-requires c κs = few c
-
-array-read-end : tie.Need-array-read-end
-array-read-end c = search needs
 
 returns : tie.Need-returns
 returns c = let s = start (c .before .before) in write-short (fileBytes (after s)) (s .args .out .now) [] refl (omega (arith, end (c .before), c .if1 .taken))
@@ -91,9 +76,6 @@ put-parts-requires c κs =
       ((more .0, more .1, more .2, more .3), ((first .1, first .3), ((few k, counted k), (c .before .before .before .starts-of .ensures, c .before .before .if1 .left)))),
     )
 
-same-length : tie.Need-same-length
-same-length c = search needs
-
 returns-2 : tie.Need-returns-2
 returns-2 c =
     let t = c .before .before .before .before .before .before in
@@ -107,15 +89,15 @@ put-edited-spec =
     tie.close
     (tie.spec
     counts-of-requires
-    array-read-counts
+    (λ c. search needs)
     add-counts
-    array-write-counts
-    array-write-counts-2
-    array-write-counts-3
+    (λ c. search needs)
+    (λ c. search needs)
+    (λ c. search needs)
     starts-of-requires
-    array-read-end
+    (λ c. search needs)
     returns
     starts-of-requires-2
     put-parts-requires
-    same-length
+    (λ c. search needs)
     returns-2)

@@ -9,29 +9,9 @@ use Rattle.edited_file.proofs.put_new.Reads as reads
 use Rattle.edited_file.proofs.put_new.Lts as lts
 use Rattle.writer.proofs.put_edge.Reads as put-edge-reads
 
--- src/lib.rt:42:5
-put-edge-requires : tie.Need-put-edge-requires
-put-edge-requires c κs = search needs
-
--- src/lib.rt:44:9
-same-length : tie.Need-same-length
-same-length c = search needs
-
 -- src/lib.rt:44:9
 returns : tie.Need-returns
 returns c = let s = c .before .before .before .before .before .before .args in edge-put (s .out .now) (s .at) (s .a) (s .b) (s .more) (c .before .before .before .put-edge .ensures) (c .if1 .taken)
-
--- src/lib.rt:46:19
-add-put-edge : tie.Need-add-put-edge
-add-put-edge c = search needs
-
--- src/lib.rt:46:5
-put-edge-requires-2 : tie.Need-put-edge-requires-2
-put-edge-requires-2 c κs = search needs
-
--- src/lib.rt:37:1
-same-length-2 : tie.Need-same-length-2
-same-length-2 c = search needs
 
 -- src/lib.rt:37:1
 returns-2 : tie.Need-returns-2
@@ -41,10 +21,10 @@ pub put-new-spec : {M : Type 1} → statement M
 put-new-spec =
     tie.close
     (tie.spec
-    put-edge-requires
-    same-length
+    (λ c κs. search needs)
+    (λ c. search needs)
     returns
-    add-put-edge
-    put-edge-requires-2
-    same-length-2
+    (λ c. search needs)
+    (λ c κs. search needs)
+    (λ c. search needs)
     returns-2)

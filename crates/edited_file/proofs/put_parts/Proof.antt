@@ -79,12 +79,6 @@ known6 c = known5 (c .before .before .before .before .before)
 stage6 : (c : tie.After-put-bytes2) → Stage (ready (known6 c)) 6 (c .put-bytes2 .last .0)
 stage6 c = let r = ready (known6 c) in stage-next r 5 _ (at-rest r) (stage5 (c .before .before .before .before .before)) (c .put-bytes2 .ensures)
 
-array-read-old : tie.Need-array-read-old
-array-read-old c = search needs
-
-array-read-kept : tie.Need-array-read-kept
-array-read-kept c = search needs
-
 put-table-requires : tie.Need-put-table-requires
 put-table-requires c κs = let r = ready (c .before) in (table-room r, start (c .before) .pre .1 .1 .1 .0 .0, r .placed)
 
@@ -107,17 +101,11 @@ put-new-requires c κs =
     let given = start (known2 t) .pre .1 .0 in
     ((given .0, given .1, omega (arith, stage-room r 2 _ (at-edges r) (stage2 t) (omega arith), edges-long (start (known2 t)))), (given .2, given .3))
 
-array-read-put-u16s : tie.Need-array-read-put-u16s
-array-read-put-u16s c = search needs
-
 put-u16s-requires : tie.Need-put-u16s-requires
 put-u16s-requires c κs =
     let t = c .before .before .before in
     let r = ready (known3 t) in
     numbers-fit (start (known3 t) .args .uses .now) _ _ _ (start (known3 t) .pre .1 .1 .0 .0) (stage-room r 3 _ (at-uses r) (stage3 t) (omega arith))
-
-array-read-put-u16s-2 : tie.Need-array-read-put-u16s-2
-array-read-put-u16s-2 c = search needs
 
 put-u16s-requires-2 : tie.Need-put-u16s-requires-2
 put-u16s-requires-2 c κs =
@@ -125,23 +113,14 @@ put-u16s-requires-2 c κs =
     let r = ready (known4 t) in
     numbers-fit (start (known4 t) .args .wires .now) _ _ _ (start (known4 t) .pre .1 .1 .0 .1) (stage-room r 4 _ (at-wires r) (stage4 t) (omega arith))
 
-array-read-put-bytes : tie.Need-array-read-put-bytes
-array-read-put-bytes c = search needs
-
 sub-put-bytes-2 : tie.Need-sub-put-bytes-2
 sub-put-bytes-2 c = omega (arith, kept-inside (ready (known5 (c .before .before .before))) .2)
 
 part-put-bytes-start-2 : tie.Need-part-put-bytes-start-2
 part-put-bytes-start-2 c = kept-inside (ready (known5 (c .before .before .before))) .2
 
-part-put-bytes-end-2 : tie.Need-part-put-bytes-end-2
-part-put-bytes-end-2 c = search needs
-
 put-bytes-requires-2 : tie.Need-put-bytes-requires-2
 put-bytes-requires-2 c κs = let t = c .before .before .before .before in let r = ready (known5 t) in stage-room r 5 _ (at-rest r) (stage5 t) (omega arith)
-
-same-length : tie.Need-same-length
-same-length c = search needs
 
 returns : tie.Need-returns
 returns c = let t = c .before .before in stage-all (ready (known6 t)) (stage6 t)
@@ -150,22 +129,22 @@ pub put-parts-spec : {M : Type 1} → statement M
 put-parts-spec =
     tie.close
     (tie.spec
-    array-read-old
-    array-read-kept
+    (λ c. search needs)
+    (λ c. search needs)
     put-table-requires
     sub-put-bytes
     part-put-bytes-start
     part-put-bytes-end
     put-bytes-requires
     put-new-requires
-    array-read-put-u16s
+    (λ c. search needs)
     put-u16s-requires
-    array-read-put-u16s-2
+    (λ c. search needs)
     put-u16s-requires-2
-    array-read-put-bytes
+    (λ c. search needs)
     sub-put-bytes-2
     part-put-bytes-start-2
-    part-put-bytes-end-2
+    (λ c. search needs)
     put-bytes-requires-2
-    same-length
+    (λ c. search needs)
     returns)

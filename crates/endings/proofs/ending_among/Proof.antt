@@ -25,17 +25,8 @@ shared-slice-read-one-wire c = omega (arith, c .before .before .before .before .
 add-one-wire-2 : tie.Need-add-one-wire-2 Inv-loop μ-loop
 add-one-wire-2 c = omega (arith, c .before .before .before .before .pre .0)
 
-one-wire-requires : tie.Need-one-wire-requires Inv-loop μ-loop
-one-wire-requires c κs = search needs
-
 then-requires : tie.Need-then-requires Inv-loop μ-loop
 then-requires c κs = omega (arith, among-few (c .before .before .before .before .before .args .flags .now) (c .before .before .before .before .before .args .start) (c .before .before .before .before .before .args .n) (c .before .before .before .loop .inv), c .before .before .before .before .before .pre .1, one-few (getD (c .before .before .before .before .before .args .flags .now) (c .before .before .before .before .before .args .start + c .before .before .before .loop .k) false) (c .before .before .before .before .before .args .start + c .before .before .before .loop .k) (c .one-wire .ensures))
-
-add-k : tie.Need-add-k Inv-loop μ-loop
-add-k c = search needs
-
-loop-less : tie.Need-loop-less Inv-loop μ-loop
-loop-less c = search needs
 
 loop-again : tie.Need-loop-again Inv-loop μ-loop
 loop-again c = among-next (c .before .before .before .before .before .before .args .flags .now) (c .before .before .before .before .before .before .args .start) (c .before .before .before .before .before .before .args .n) (c .before .before .before .before .loop .inv) (omega arith) (c .before .one-wire .ensures) (c .then .ensures)
@@ -53,9 +44,9 @@ ending-among-spec =
     add-one-wire
     shared-slice-read-one-wire
     add-one-wire-2
-    one-wire-requires
+    (λ c κs. search needs)
     then-requires
-    add-k
-    loop-less
+    (λ c. search needs)
+    (λ c. search needs)
     loop-again
     returns)

@@ -14,68 +14,8 @@ use Rattle.endings.proofs.ending_in.Tie as tie
 flags-long : (s : tie.After-wire-ends) → length (s .wire-ends .result) ≡ 1024
 flags-long s = search needs
 
-sub-wire-ends : tie.Need-sub-wire-ends
-sub-wire-ends c = search needs
-
-part-wire-ends-start : tie.Need-part-wire-ends-start
-part-wire-ends-start c = search needs
-
-part-wire-ends-end : tie.Need-part-wire-ends-end
-part-wire-ends-end c = search needs
-
-sub-wire-ends-2 : tie.Need-sub-wire-ends-2
-sub-wire-ends-2 c = search needs
-
-part-wire-ends-start-2 : tie.Need-part-wire-ends-start-2
-part-wire-ends-start-2 c = search needs
-
-part-wire-ends-end-2 : tie.Need-part-wire-ends-end-2
-part-wire-ends-end-2 c = search needs
-
-sub-wire-ends-3 : tie.Need-sub-wire-ends-3
-sub-wire-ends-3 c = search needs
-
-part-wire-ends-start-3 : tie.Need-part-wire-ends-start-3
-part-wire-ends-start-3 c = search needs
-
-part-wire-ends-end-3 : tie.Need-part-wire-ends-end-3
-part-wire-ends-end-3 c = search needs
-
-sub-wire-ends-4 : tie.Need-sub-wire-ends-4
-sub-wire-ends-4 c = search needs
-
-part-wire-ends-start-4 : tie.Need-part-wire-ends-start-4
-part-wire-ends-start-4 c = search needs
-
-part-wire-ends-end-4 : tie.Need-part-wire-ends-end-4
-part-wire-ends-end-4 c = search needs
-
 wire-ends-requires : tie.Need-wire-ends-requires
 wire-ends-requires c κs = rw (sub-zero (c .before .before .before .before .before .before .before .before .before .before .args .ucount), sub-zero (c .before .before .before .before .before .before .before .before .before .before .args .wcount), sub-zero (c .before .before .before .before .before .before .before .before .before .before .args .ecount)) (c .before .before .before .before .before .before .before .before .before .before .pre .0 .named, (omega (arith, length-take-le (c .before .before .before .before .before .before .before .before .before .before .args .wcount) (c .before .before .before .before .before .before .before .before .before .before .args .wires .now) (c .before .before .before .before .before .before .before .before .before .before .pre .0 .wires-in), c .before .before .before .before .before .before .before .before .before .before .pre .0 .few-wires), omega (arith, length-take-le (c .before .before .before .before .before .before .before .before .before .before .args .ucount) (c .before .before .before .before .before .before .before .before .before .before .args .uses .now) (c .before .before .before .before .before .before .before .before .before .before .pre .0 .uses-in), c .before .before .before .before .before .before .before .before .before .before .pre .0 .few-uses), c .before .before .before .before .before .before .before .before .before .before .pre .0 .summed ∙ sym (length-take-le (c .before .before .before .before .before .before .before .before .before .before .args .ucount) (c .before .before .before .before .before .before .before .before .before .before .args .uses .now) (c .before .before .before .before .before .before .before .before .before .before .pre .0 .uses-in))))
-
-slice-aggregate-ending-wires : tie.Need-slice-aggregate-ending-wires
-slice-aggregate-ending-wires c = search needs
-
-sub-ending-wires : tie.Need-sub-ending-wires
-sub-ending-wires c = search needs
-
-part-ending-wires-start : tie.Need-part-ending-wires-start
-part-ending-wires-start c = search needs
-
-part-ending-wires-end : tie.Need-part-ending-wires-end
-part-ending-wires-end c = search needs
-
-mul-ending-wires : tie.Need-mul-ending-wires
-mul-ending-wires c = search needs
-
-sub-ending-wires-2 : tie.Need-sub-ending-wires-2
-sub-ending-wires-2 c = search needs
-
-part-ending-wires-start-2 : tie.Need-part-ending-wires-start-2
-part-ending-wires-start-2 c = search needs
-
-part-ending-wires-end-2 : tie.Need-part-ending-wires-end-2
-part-ending-wires-end-2 c = search needs
 
 ending-wires-requires : tie.Need-ending-wires-requires
 ending-wires-requires c κs =
@@ -94,26 +34,26 @@ pub ending-in-spec : {M : Type 1} → statement M
 ending-in-spec =
     tie.close
     (tie.spec
-    sub-wire-ends
-    part-wire-ends-start
-    part-wire-ends-end
-    sub-wire-ends-2
-    part-wire-ends-start-2
-    part-wire-ends-end-2
-    sub-wire-ends-3
-    part-wire-ends-start-3
-    part-wire-ends-end-3
-    sub-wire-ends-4
-    part-wire-ends-start-4
-    part-wire-ends-end-4
+    (λ c. search needs)
+    (λ c. search needs)
+    (λ c. search needs)
+    (λ c. search needs)
+    (λ c. search needs)
+    (λ c. search needs)
+    (λ c. search needs)
+    (λ c. search needs)
+    (λ c. search needs)
+    (λ c. search needs)
+    (λ c. search needs)
+    (λ c. search needs)
     wire-ends-requires
-    slice-aggregate-ending-wires
-    sub-ending-wires
-    part-ending-wires-start
-    part-ending-wires-end
-    mul-ending-wires
-    sub-ending-wires-2
-    part-ending-wires-start-2
-    part-ending-wires-end-2
+    (λ c. search needs)
+    (λ c. search needs)
+    (λ c. search needs)
+    (λ c. search needs)
+    (λ c. search needs)
+    (λ c. search needs)
+    (λ c. search needs)
+    (λ c. search needs)
     ending-wires-requires
     returns)

@@ -12,35 +12,14 @@ Inv-loop flags counts listings ends e₀ k₀ e k = FacesMade flags counts ends 
 abbrev μ-loop : tie.MeasureT-loop
 μ-loop flags counts listings ends e₀ k₀ e k = length listings - k
 
-face-endings-requires : tie.Need-face-endings-requires Inv-loop μ-loop
-face-endings-requires c κs = search needs
-
 loop-holds : tie.Need-loop-holds Inv-loop μ-loop
 loop-holds c = (c .face-endings .ensures, listed-start (c .before .before .before .before .args .flags .now) (c .before .before .before .before .args .counts .now) (c .before .before .before .before .args .listings .now))
-
-mul-index : tie.Need-mul-index Inv-loop μ-loop
-mul-index c = search needs
-
-shared-slice-read-index : tie.Need-shared-slice-read-index Inv-loop μ-loop
-shared-slice-read-index c = search needs
-
-index-requires : tie.Need-index-requires Inv-loop μ-loop
-index-requires c κs = search needs
-
-mul-d : tie.Need-mul-d Inv-loop μ-loop
-mul-d c = search needs
 
 array-copy-out-d : tie.Need-array-copy-out-d Inv-loop μ-loop
 array-copy-out-d c = omega (arith, c .before .before .before .before .before .before .before .before .pre .1 .1 (c .before .before .before .loop .k) (omega arith), c .index .ensures .0)
 
 then-requires : tie.Need-then-requires Inv-loop μ-loop
 then-requires c κs = omega (arith, c .before .before .before .before .loop .inv .1 .few, c .before .before .before .before .before .before .before .before .before .pre .1 .0, c .before .before .before .before .before .before .before .before .before .pre .0 .2, end-few (c .before .before .before .before .before .before .before .before .before .args .flags .now) (c .before .before .before .before .before .before .before .before .before .args .counts .now) (c .before .before .before .before .before .face-endings .result) (c .before .before .before .before .loop .inv .0) (c .before .index .result))
-
-add-k : tie.Need-add-k Inv-loop μ-loop
-add-k c = search needs
-
-loop-less : tie.Need-loop-less Inv-loop μ-loop
-loop-less c = search needs
 
 loop-again : tie.Need-loop-again Inv-loop μ-loop
 loop-again c = (c .before .before .before .before .before .loop .inv .0, listed-next (c .before .before .before .before .before .before .before .before .before .before .args .flags .now) (c .before .before .before .before .before .before .before .before .before .before .args .counts .now) (c .before .before .before .before .before .before .before .before .before .before .args .listings .now) (c .before .before .before .before .before .loop .inv .1) (omega arith) (c .before .before .before .before .before .before .before .before .before .before .pre .0 .2) (c .before .before .before .before .before .before .face-endings .result) (c .before .before .before .before .before .loop .inv .0) (c .before .before .index .ensures .0) (c .then .ensures))
@@ -54,15 +33,15 @@ ending-wires-spec =
     (tie.spec
     Inv-loop
     μ-loop
-    face-endings-requires
+    (λ c κs. search needs)
     loop-holds
-    mul-index
-    shared-slice-read-index
-    index-requires
-    mul-d
+    (λ c. search needs)
+    (λ c. search needs)
+    (λ c κs. search needs)
+    (λ c. search needs)
     array-copy-out-d
     then-requires
-    add-k
-    loop-less
+    (λ c. search needs)
+    (λ c. search needs)
     loop-again
     returns)

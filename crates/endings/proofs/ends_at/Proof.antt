@@ -4,15 +4,6 @@ use borrow.Author.Needs.{needs}
 use Rattle.endings.proofs.ends_at.Statement.{statement}
 use Rattle.endings.proofs.ends_at.Tie as tie
 
-find-end-requires : tie.Need-find-end-requires
-find-end-requires c κs = search needs
-
-enum-told : tie.Need-enum-told
-enum-told c = search needs
-
-enum-told-2 : tie.Need-enum-told-2
-enum-told-2 c = search needs
-
 returns : tie.Need-returns
 returns c = ends-some (c .before .before .before .before .before .before .args .fronts .now) (c .before .before .before .before .before .before .args .backs .now) (c .before .before .before .before .before .before .args .v .0) (c .before .before .before .before .before .before .args .uses .now) (sym (c .before .before .find-end .ensures) ∙ c .enum-told .given .1)
 
@@ -20,4 +11,4 @@ returns-2 : tie.Need-returns-2
 returns-2 c = ends-none (c .before .before .before .before .before .before .args .fronts .now) (c .before .before .before .before .before .before .args .backs .now) (c .before .before .before .before .before .before .args .v .0) (c .before .before .before .before .before .before .args .uses .now) (sym (c .before .before .find-end .ensures) ∙ c .enum-told2 .given .1)
 
 pub ends-at-spec : {M : Type 1} → statement M
-ends-at-spec = tie.close (tie.spec find-end-requires enum-told enum-told-2 returns returns-2)
+ends-at-spec = tie.close (tie.spec (λ c κs. search needs) (λ c. search needs) (λ c. search needs) returns returns-2)

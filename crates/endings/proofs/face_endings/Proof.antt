@@ -16,32 +16,14 @@ abbrev μ-loop : tie.MeasureT-loop
 loop-holds : tie.Need-loop-holds Inv-loop μ-loop
 loop-holds c = faces-start (c .before .before .args .flags .now) (c .before .before .args .counts .now)
 
-mul-index : tie.Need-mul-index Inv-loop μ-loop
-mul-index c = search needs
-
-shared-slice-read-index : tie.Need-shared-slice-read-index Inv-loop μ-loop
-shared-slice-read-index c = search needs
-
-index-requires : tie.Need-index-requires Inv-loop μ-loop
-index-requires c κs = search needs
-
 ending-among-requires : tie.Need-ending-among-requires Inv-loop μ-loop
 ending-among-requires c κs = (omega (arith, walk-fits (c .before .before .before .before .before .before .args .counts .now) (c .before .before .before .loop .f) (c .before .before .before .loop .at) (c .index .result) (c .before .before .before .loop .inv .walk) (omega arith) (c .index .ensures .0), c .before .before .before .before .before .before .pre .1), omega (arith, walk-fits (c .before .before .before .before .before .before .args .counts .now) (c .before .before .before .loop .f) (c .before .before .before .loop .at) (c .index .result) (c .before .before .before .loop .inv .walk) (omega arith) (c .index .ensures .0), c .before .before .before .before .before .before .pre .2))
-
-mul-out : tie.Need-mul-out Inv-loop μ-loop
-mul-out c = search needs
 
 array-set-from-out : tie.Need-array-set-from-out Inv-loop μ-loop
 array-set-from-out c = omega (arith, c .before .before .before .before .before .before .before .pre .0)
 
 add-at : tie.Need-add-at Inv-loop μ-loop
 add-at c = omega (arith, walk-fits (c .before .before .before .before .before .before .before .args .counts .now) (c .before .before .before .before .loop .f) (c .before .before .before .before .loop .at) (c .before .index .result) (c .before .before .before .before .loop .inv .walk) (omega arith) (c .before .index .ensures .0), c .before .before .before .before .before .before .before .pre .2)
-
-add-f : tie.Need-add-f Inv-loop μ-loop
-add-f c = search needs
-
-loop-less : tie.Need-loop-less Inv-loop μ-loop
-loop-less c = search needs
 
 loop-again : tie.Need-loop-again Inv-loop μ-loop
 loop-again c = faces-next (c .before .before .before .before .before .before .before .args .flags .now) (c .before .before .before .before .before .before .before .args .counts .now) (c .before .before .before .before .loop .inv) (omega arith) (c .before .before .before .before .before .before .before .pre .0) (c .before .index .ensures .0) (c .ending-among .ensures)
@@ -56,14 +38,14 @@ face-endings-spec =
     Inv-loop
     μ-loop
     loop-holds
-    mul-index
-    shared-slice-read-index
-    index-requires
+    (λ c. search needs)
+    (λ c. search needs)
+    (λ c κs. search needs)
     ending-among-requires
-    mul-out
+    (λ c. search needs)
     array-set-from-out
     add-at
-    add-f
-    loop-less
+    (λ c. search needs)
+    (λ c. search needs)
     loop-again
     returns)

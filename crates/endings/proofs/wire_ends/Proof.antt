@@ -19,26 +19,11 @@ abbrev μ-loop : tie.MeasureT-loop
 loop-holds : tie.Need-loop-holds Inv-loop μ-loop
 loop-holds c = flagging-start (endsAt (c .before .before .before .before .args .fronts .now) (c .before .before .before .before .args .backs .now) (c .before .before .before .before .args .v .0)) (c .before .before .before .before .args .wires .now) (c .before .before .before .before .args .uses .now)
 
-mul-index : tie.Need-mul-index Inv-loop μ-loop
-mul-index c = search needs
-
-shared-slice-read-index : tie.Need-shared-slice-read-index Inv-loop μ-loop
-shared-slice-read-index c = search needs
-
-index-requires : tie.Need-index-requires Inv-loop μ-loop
-index-requires c κs = search needs
-
 add-ends-at : tie.Need-add-ends-at Inv-loop μ-loop
 add-ends-at c = omega (arith, c .before .before .before .before .before .before .before .before .pre .1 .1, c .before .before .before .before .before .before .before .before .pre .1 .2, walk-fits (c .before .before .before .before .before .before .before .before .args .wires .now) (c .before .before .before .loop .w) (c .before .before .before .loop .at) (c .index .result) (c .before .before .before .loop .inv .walk) (omega arith) (c .index .ensures .0))
 
 mul-ends-at : tie.Need-mul-ends-at Inv-loop μ-loop
 mul-ends-at c = record { fits = omega (arith, c .before .before .before .before .before .before .before .before .pre .1 .1, c .before .before .before .before .before .before .before .before .pre .1 .2, walk-fits (c .before .before .before .before .before .before .before .before .args .wires .now) (c .before .before .before .loop .w) (c .before .before .before .loop .at) (c .index .result) (c .before .before .before .loop .inv .walk) (omega arith) (c .index .ensures .0)) }
-
-sub-ends-at : tie.Need-sub-ends-at Inv-loop μ-loop
-sub-ends-at c = search needs
-
-part-ends-at-start : tie.Need-part-ends-at-start Inv-loop μ-loop
-part-ends-at-start c = search needs
 
 part-ends-at-end : tie.Need-part-ends-at-end Inv-loop μ-loop
 part-ends-at-end c = omega (arith, c .before .before .before .before .before .before .before .before .pre .1 .2, walk-fits (c .before .before .before .before .before .before .before .before .args .wires .now) (c .before .before .before .loop .w) (c .before .before .before .loop .at) (c .index .result) (c .before .before .before .loop .inv .walk) (omega arith) (c .index .ensures .0))
@@ -46,17 +31,8 @@ part-ends-at-end c = omega (arith, c .before .before .before .before .before .be
 ends-at-requires : tie.Need-ends-at-requires Inv-loop μ-loop
 ends-at-requires c κs = named-part (c .before .before .before .before .before .before .before .before .before .args .fronts .now) (c .before .before .before .before .before .before .before .before .before .args .backs .now) (c .before .before .before .before .before .before .before .before .before .args .uses .now) (c .before .before .before .before .before .before .before .before .before .pre .0) (c .before .before .before .before .loop .at) (c .before .before .before .before .loop .at + c .before .index .result - c .before .before .before .before .loop .at)
 
-array-write-out : tie.Need-array-write-out Inv-loop μ-loop
-array-write-out c = search needs
-
 add-at : tie.Need-add-at Inv-loop μ-loop
 add-at c = omega (arith, c .before .before .before .before .before .before .before .before .before .before .pre .1 .1, c .before .before .before .before .before .before .before .before .before .before .pre .1 .2, walk-fits (c .before .before .before .before .before .before .before .before .before .before .args .wires .now) (c .before .before .before .before .before .loop .w) (c .before .before .before .before .before .loop .at) (c .before .before .index .result) (c .before .before .before .before .before .loop .inv .walk) (omega arith) (c .before .before .index .ensures .0))
-
-add-w : tie.Need-add-w Inv-loop μ-loop
-add-w c = search needs
-
-loop-less : tie.Need-loop-less Inv-loop μ-loop
-loop-less c = search needs
 
 loop-again : tie.Need-loop-again Inv-loop μ-loop
 loop-again c = flagging-next (endsAt (c .before .before .before .before .before .before .before .before .before .before .args .fronts .now) (c .before .before .before .before .before .before .before .before .before .before .args .backs .now) (c .before .before .before .before .before .before .before .before .before .before .args .v .0)) (c .before .before .before .before .before .before .before .before .before .before .args .wires .now) (c .before .before .before .before .before .before .before .before .before .before .args .uses .now) (c .before .before .before .before .before .loop .inv) (omega arith) (c .before .before .before .before .before .before .before .before .before .before .pre .1 .0) (c .before .before .index .ensures .0) (c .ends-at .ensures)
@@ -71,18 +47,18 @@ wire-ends-spec =
     Inv-loop
     μ-loop
     loop-holds
-    mul-index
-    shared-slice-read-index
-    index-requires
+    (λ c. search needs)
+    (λ c. search needs)
+    (λ c κs. search needs)
     add-ends-at
     mul-ends-at
-    sub-ends-at
-    part-ends-at-start
+    (λ c. search needs)
+    (λ c. search needs)
     part-ends-at-end
     ends-at-requires
-    array-write-out
+    (λ c. search needs)
     add-at
-    add-w
-    loop-less
+    (λ c. search needs)
+    (λ c. search needs)
     loop-again
     returns)

@@ -16,23 +16,11 @@ abbrev μ-loop : tie.MeasureT-loop
 loop-holds : tie.Need-loop-holds Inv-loop μ-loop
 loop-holds c = keeping-start _ _ _ _ _ _ (c .before .before .before .before .before .before .before .before .args .odd .now) _ (c .before .before .before .before .before .before .before .before .pre .1 .3)
 
-mul-part-of : tie.Need-mul-part-of Inv-loop μ-loop
-mul-part-of c = search needs
-
-shared-slice-read-part-of : tie.Need-shared-slice-read-part-of Inv-loop μ-loop
-shared-slice-read-part-of c = search needs
-
 part-of-requires : tie.Need-part-of-requires Inv-loop μ-loop
 part-of-requires c κs = c .before .before .before .before .before .before .before .before .before .before .before .before .pre .0 (c .before .before .before .loop .i) (c .before .before .loop-test .taken) .shows
 
 keep-part-requires : tie.Need-keep-part-requires Inv-loop μ-loop
 keep-part-requires c κs = let pre = c .before .before .before .before .before .before .before .before .before .before .before .before .before .pre in keeping-here _ _ _ _ _ _ _ _ _ _ (c .before .before .before .before .loop .inv) (pre .0 (c .before .before .before .before .loop .i) (c .before .before .before .loop-test .taken)) (pre .1 .0) (pre .1 .1) (pre .1 .2) _ (c .part-of .ensures)
-
-add-i : tie.Need-add-i Inv-loop μ-loop
-add-i c = search needs
-
-loop-less : tie.Need-loop-less Inv-loop μ-loop
-loop-less c = search needs
 
 loop-again : tie.Need-loop-again Inv-loop μ-loop
 loop-again c = keeping-next _ _ _ _ _ _ _ _ _ _ (c .before .before .before .before .before .before .before .loop .inv) (c .before .before .before .before .before .before .loop-test .taken) _ _ (c .before .before .before .part-of .ensures) (c .before .before .keep-part .ensures .0) (c .before .before .keep-part .kept .0) (c .before .before .keep-part .ensures .1)
@@ -50,12 +38,12 @@ keep-listings-spec =
     Inv-loop
     μ-loop
     loop-holds
-    mul-part-of
-    shared-slice-read-part-of
+    (λ c. search needs)
+    (λ c. search needs)
     part-of-requires
     keep-part-requires
-    add-i
-    loop-less
+    (λ c. search needs)
+    (λ c. search needs)
     loop-again
     same-length
     returns)

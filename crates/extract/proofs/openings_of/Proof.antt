@@ -8,23 +8,11 @@ use Rattle.extract.proofs.Laws.{written}
 use Rattle.extract.proofs.openings_of.Statement.{statement}
 use Rattle.extract.proofs.openings_of.Tie as tie
 
-slice-aggregate-keep-listings : tie.Need-slice-aggregate-keep-listings
-slice-aggregate-keep-listings c = search needs
-
 keep-listings-requires : tie.Need-keep-listings-requires
 keep-listings-requires c κs = let pre = c .before .before .before .before .before .before .before .before .before .before .pre in (pre .0, (pre .1 .edges, pre .1 .tallied, length-replicate {A = ℕ} 2048 65535, holding-bare _ _ 2048 (pre .1 .alike)))
 
-slice-aggregate-walk-listings : tie.Need-slice-aggregate-walk-listings
-slice-aggregate-walk-listings c = search needs
-
 walk-listings-requires : tie.Need-walk-listings-requires
 walk-listings-requires c κs = let pre = c .before .before .before .before .before .before .before .before .before .before .before .before .before .before .before .pre in (pre .0, ready-first _ _ _ _ _ (c .before .before .before .before .keep-listings .ensures .1) (c .before .before .before .before .keep-listings .kept .0) (pre .1 .uses) (pre .1 .lengths))
-
-same-length : tie.Need-same-length
-same-length c = search needs
-
-same-length-2 : tie.Need-same-length-2
-same-length-2 c = search needs
 
 returns : tie.Need-returns
 returns c = written _ _ _ _ _ _ _ _ _ _ _ _ (c .before .before .before .before .before .before .before .before .before .before .before .before .before .before .before .before .before .before .before .before .before .pre .1) (c .before .before .before .before .before .before .before .before .before .before .keep-listings .ensures .0) (c .before .before .before .before .before .before .before .before .before .before .keep-listings .kept .0) (c .before .before .before .before .before .walk-listings .ensures .0) (c .before .before .before .before .before .walk-listings .ensures .1)
@@ -33,10 +21,10 @@ pub openings-of-spec : {M : Type 1} → statement M
 openings-of-spec =
     tie.close
     (tie.spec
-    slice-aggregate-keep-listings
+    (λ c. search needs)
     keep-listings-requires
-    slice-aggregate-walk-listings
+    (λ c. search needs)
     walk-listings-requires
-    same-length
-    same-length-2
+    (λ c. search needs)
+    (λ c. search needs)
     returns)

@@ -13,29 +13,14 @@ Inv-loop listings uses turned starts t₀ k₀ t k = Tallying uses turned starts
 abbrev μ-loop : tie.MeasureT-loop
 μ-loop listings uses turned starts t₀ k₀ t k = length listings - k
 
-new-requires : tie.Need-new-requires Inv-loop μ-loop
-new-requires c κs = search needs
-
 loop-holds : tie.Need-loop-holds Inv-loop μ-loop
 loop-holds c = tallying-start _ _ _ _ (c .new .result) (c .new .ensures .0) (c .new .ensures .1)
-
-mul-part-of : tie.Need-mul-part-of Inv-loop μ-loop
-mul-part-of c = search needs
-
-shared-slice-read-part-of : tie.Need-shared-slice-read-part-of Inv-loop μ-loop
-shared-slice-read-part-of c = search needs
 
 part-of-requires : tie.Need-part-of-requires Inv-loop μ-loop
 part-of-requires c κs = c .before .before .before .before .before .before .before .before .pre (c .before .before .loop .k) (c .before .loop-test .taken) .shows
 
 tally-part-requires : tie.Need-tally-part-requires Inv-loop μ-loop
 tally-part-requires c κs = rw (c .part-of .ensures) (c .before .before .before .before .before .before .before .before .before .pre (c .before .before .before .loop .k) (c .before .before .loop-test .taken) .edges)
-
-add-k : tie.Need-add-k Inv-loop μ-loop
-add-k c = search needs
-
-loop-less : tie.Need-loop-less Inv-loop μ-loop
-loop-less c = search needs
 
 loop-again : tie.Need-loop-again Inv-loop μ-loop
 loop-again c = tallying-next _ _ _ _ _ _ (c .before .before .before .before .loop .inv) (c .before .before .before .loop-test .taken) _ _ (c .before .part-of .ensures) (c .tally-part .ensures)
@@ -49,13 +34,13 @@ tally-listings-spec =
     (tie.spec
     Inv-loop
     μ-loop
-    new-requires
+    (λ c κs. search needs)
     loop-holds
-    mul-part-of
-    shared-slice-read-part-of
+    (λ c. search needs)
+    (λ c. search needs)
     part-of-requires
     tally-part-requires
-    add-k
-    loop-less
+    (λ c. search needs)
+    (λ c. search needs)
     loop-again
     returns)

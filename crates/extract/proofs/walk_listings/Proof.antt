@@ -17,12 +17,6 @@ abbrev μ-loop : tie.MeasureT-loop
 loop-holds : tie.Need-loop-holds Inv-loop μ-loop
 loop-holds c = passing-start _ _ _ _ _ _ _ _ _ (c .before .before .before .before .before .before .before .before .before .pre .1)
 
-mul-part-of : tie.Need-mul-part-of Inv-loop μ-loop
-mul-part-of c = search needs
-
-shared-slice-read-part-of : tie.Need-shared-slice-read-part-of Inv-loop μ-loop
-shared-slice-read-part-of c = search needs
-
 part-of-requires : tie.Need-part-of-requires Inv-loop μ-loop
 part-of-requires c κs = c .before .before .before .before .before .before .before .before .before .before .before .before .before .pre .0 (c .before .before .before .loop .j) (c .before .before .loop-test .taken) .shows
 
@@ -31,9 +25,6 @@ walk-part-requires c κs = (rw (c .before .before .part-of .ensures) (c .before 
 
 add-j : tie.Need-add-j Inv-loop μ-loop
 add-j c = omega (arith, c .before .before .before .before .before .before .before .before .before .before .before .before .loop-test .taken, c .before .before .before .before .before .before .before .before .before .before .before .before .before .before .before .before .before .before .before .before .before .before .before .good .1 .0 .0)
-
-loop-less : tie.Need-loop-less Inv-loop μ-loop
-loop-less c = search needs
 
 loop-again : tie.Need-loop-again Inv-loop μ-loop
 loop-again c = passing-next _ _ _ _ _ _ _ _ _ _ _ _ _ _ (c .before .before .before .before .before .before .before .before .before .before .before .before .before .loop .inv) (c .before .before .before .before .before .before .before .before .before .before .before .before .loop-test .taken) _ _ _ _ _ (c .before .before .before .before .before .before .before .before .before .part-of .ensures) (c .before .before .before .before .before .before .walk-part .ensures .0) (c .before .before .before .before .before .before .walk-part .ensures .1)
@@ -57,12 +48,12 @@ walk-listings-spec =
     Inv-loop
     μ-loop
     loop-holds
-    mul-part-of
-    shared-slice-read-part-of
+    (λ c. search needs)
+    (λ c. search needs)
     part-of-requires
     walk-part-requires
     add-j
-    loop-less
+    (λ c. search needs)
     loop-again
     same-length
     same-length-2

@@ -21,24 +21,9 @@ alone s = each (outlineFaults (s .args .fronts .now) (s .args .backs .now)) (s .
 abbrev shared : tie.Start → List Refusal
 shared s = sharedFaults (s .args .fronts .now) (s .args .backs .now) [] (s .args .first) (split (s .args .lengths .now) (s .args .uses .now))
 
-check-wires-requires : tie.Need-check-wires-requires
-check-wires-requires c κs = search needs
-
-enum-known-alone : tie.Need-enum-known-alone
-enum-known-alone c = search needs
-
-enum-told : tie.Need-enum-told
-enum-told c = search needs
-
-add-next : tie.Need-add-next
-add-next c = search needs
-
 disjoint-wires-requires : tie.Need-disjoint-wires-requires
 disjoint-wires-requires c κs =
     (c .before .before .before .before .before .before .before .before .before .before .before .before .pre .0, (search needs, (search needs, (c .before .before .before .before .before .check-wires .ensures .1, accepted-none (alone (c .before .before .before .before .before .before .before .before .before .before .before .before)) (sym (c .before .before .before .before .before .check-wires .ensures .0) ∙ c .before .enum-told .given .1)))))
-
-same-length : tie.Need-same-length
-same-length c = search needs
 
 returns : tie.Need-returns
 returns c =
@@ -46,9 +31,6 @@ returns c =
       sym (refused-first (alone (c .before .before .before .before .before .before .before .before .before .before .before .before)) (shared (c .before .before .before .before .before .before .before .before .before .before .before .before)) _ (sym (c .before .before .before .before .before .check-wires .ensures .0) ∙ c .before .alone .given .1)),
       below-later (a .stamp + length (a .lengths .now)) (a .stamp + length (a .lengths .now) + 1) (c .before .before .before .before .before .check-wires .last .1 .1 .1 .1 .0) (c .before .before .before .before .before .check-wires .ensures .1) (omega arith),
     )
-
-same-length-2 : tie.Need-same-length-2
-same-length-2 c = search needs
 
 returns-2 : tie.Need-returns-2
 returns-2 c =
@@ -58,12 +40,12 @@ pub check-face-spec : {M : Type 1} → statement M
 check-face-spec =
     tie.close
     (tie.spec
-    check-wires-requires
-    enum-known-alone
-    enum-told
-    add-next
+    (λ c κs. search needs)
+    (λ c. search needs)
+    (λ c. search needs)
+    (λ c. search needs)
     disjoint-wires-requires
-    same-length
+    (λ c. search needs)
     returns
-    same-length-2
+    (λ c. search needs)
     returns-2)

@@ -51,26 +51,11 @@ loop-holds c =
     let a = c .before .before .before .before .before .args in
     (walk-start (take (a .n) (a .counts .now)), refl, ruled-start (a .fronts .now) (a .backs .now) _, refl, below-zeros 2048)
 
-mul-index : tie.Need-mul-index Inv-loop μ-loop
-mul-index c = search needs
-
-shared-slice-read-index : tie.Need-shared-slice-read-index Inv-loop μ-loop
-shared-slice-read-index c = search needs
-
-index-requires : tie.Need-index-requires Inv-loop μ-loop
-index-requires c κs = search needs
-
 add-part : tie.Need-add-part Inv-loop μ-loop
 add-part c = omega (arith, fits c)
 
 mul-part : tie.Need-mul-part Inv-loop μ-loop
 mul-part c = omega (arith, fits c)
-
-sub-part : tie.Need-sub-part Inv-loop μ-loop
-sub-part c = search needs
-
-part-part-start : tie.Need-part-part-start Inv-loop μ-loop
-part-part-start c = search needs
 
 part-part-end : tie.Need-part-part-end Inv-loop μ-loop
 part-part-end c = omega (arith, fits c)
@@ -87,17 +72,8 @@ add-check-face c = omega (arith, uses-fit (face c))
 mul-check-face : tie.Need-mul-check-face Inv-loop μ-loop
 mul-check-face c = omega (arith, uses-fit (face c))
 
-sub-check-face : tie.Need-sub-check-face Inv-loop μ-loop
-sub-check-face c = search needs
-
-part-check-face-start : tie.Need-part-check-face-start Inv-loop μ-loop
-part-check-face-start c = search needs
-
 part-check-face-end : tie.Need-part-check-face-end Inv-loop μ-loop
 part-check-face-end c = omega (arith, uses-fit (face c))
-
-slice-aggregate-check-face : tie.Need-slice-aggregate-check-face Inv-loop μ-loop
-slice-aggregate-check-face c = search needs
 
 add-check-face-2 : tie.Need-add-check-face-2 Inv-loop μ-loop
 add-check-face-2 c = omega (arith, wires-fit (face (c .before .before)))
@@ -114,28 +90,16 @@ check-face-requires c κs =
       ((omega (arith, part-sum f, uses-long f), omega (arith, part-long f, wires-fit f), omega (arith, part-long f, wires-fit f)), (l .inv .3, l .inv .4)),
     )
 
-enum-known-answer : tie.Need-enum-known-answer Inv-loop μ-loop
-enum-known-answer c = search needs
-
 returns : tie.Need-returns Inv-loop μ-loop
 returns c =
     let a = c .before .before .before .before .before .before .before .before .before .before .before .before .before .before .before .before .before .before .args in
     sym (ruled-stop (a .fronts .now) (a .backs .now) (face (c .before .before .before .before .before .before .before)) (c .before .before .before .before .before .before .before .before .before .before .before .before .loop .inv .2) _ (sym (c .before .before .before .before .check-face .ensures .0) ∙ c .before .answer .given .1))
-
-enum-told : tie.Need-enum-told Inv-loop μ-loop
-enum-told c = search needs
 
 add-at : tie.Need-add-at Inv-loop μ-loop
 add-at c = omega (arith, uses-fit (face (c .before .before .before .before .before .before)))
 
 add-first : tie.Need-add-first Inv-loop μ-loop
 add-first c = omega (arith, wires-fit (face (c .before .before .before .before .before .before)))
-
-add-k : tie.Need-add-k Inv-loop μ-loop
-add-k c = search needs
-
-loop-less : tie.Need-loop-less Inv-loop μ-loop
-loop-less c = search needs
 
 loop-again : tie.Need-loop-again Inv-loop μ-loop
 loop-again c =
@@ -163,30 +127,30 @@ check-faces-spec =
     Inv-loop
     μ-loop
     loop-holds
-    mul-index
-    shared-slice-read-index
-    index-requires
+    (λ c. search needs)
+    (λ c. search needs)
+    (λ c κs. search needs)
     add-part
     mul-part
-    sub-part
-    part-part-start
+    (λ c. search needs)
+    (λ c. search needs)
     part-part-end
     sum-of-requires
     add-check-face
     mul-check-face
-    sub-check-face
-    part-check-face-start
+    (λ c. search needs)
+    (λ c. search needs)
     part-check-face-end
-    slice-aggregate-check-face
+    (λ c. search needs)
     add-check-face-2
     add-check-face-3
     check-face-requires
-    enum-known-answer
+    (λ c. search needs)
     returns
-    enum-told
+    (λ c. search needs)
     add-at
     add-first
-    add-k
-    loop-less
+    (λ c. search needs)
+    (λ c. search needs)
     loop-again
     returns-2)

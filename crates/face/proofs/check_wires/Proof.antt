@@ -36,50 +36,20 @@ loop-holds c =
     let z : a .stamp + 0 ≡ a .stamp = omega arith in
     (walk-start (a .lengths .now), passed-start (outlineFaults (a .fronts .now) (a .backs .now)) [] _ (a .first), c .before .before .before .before .before .pre .1 .1 .0, rw z (c .before .before .before .before .before .pre .1 .1 .1))
 
-mul-index : tie.Need-mul-index Inv-loop μ-loop
-mul-index c = search needs
-
-shared-slice-read-index : tie.Need-shared-slice-read-index Inv-loop μ-loop
-shared-slice-read-index c = search needs
-
-index-requires : tie.Need-index-requires Inv-loop μ-loop
-index-requires c κs = search needs
-
 add-check-wire : tie.Need-add-check-wire Inv-loop μ-loop
 add-check-wire c = omega (arith, fits c)
 
 mul-check-wire : tie.Need-mul-check-wire Inv-loop μ-loop
 mul-check-wire c = omega (arith, fits c)
 
-sub-check-wire : tie.Need-sub-check-wire Inv-loop μ-loop
-sub-check-wire c = search needs
-
-part-check-wire-start : tie.Need-part-check-wire-start Inv-loop μ-loop
-part-check-wire-start c = search needs
-
 part-check-wire-end : tie.Need-part-check-wire-end Inv-loop μ-loop
 part-check-wire-end c = omega (arith, fits c)
-
-add-check-wire-2 : tie.Need-add-check-wire-2 Inv-loop μ-loop
-add-check-wire-2 c = search needs
-
-cast-check-wire : tie.Need-cast-check-wire Inv-loop μ-loop
-cast-check-wire c = search needs
 
 check-wire-requires : tie.Need-check-wire-requires Inv-loop μ-loop
 check-wire-requires c κs =
     let a = c .before .before .before .before .before .before .before .before .before .before .before .args in
     let v = c .before .before .before .before .before .loop .inv in
     (named-part (a .fronts .now) (a .backs .now) (a .uses .now) (c .before .before .before .before .before .before .before .before .before .before .before .pre .0) (c .before .before .before .before .before .loop .at) (c .before .before .before .before .before .loop .at + c .before .before .index .result - c .before .before .before .before .before .loop .at), (v .2, v .3))
-
-enum-known-answer : tie.Need-enum-known-answer Inv-loop μ-loop
-enum-known-answer c = search needs
-
-add-t25 : tie.Need-add-t25 Inv-loop μ-loop
-add-t25 c = search needs
-
-same-length : tie.Need-same-length Inv-loop μ-loop
-same-length c = search needs
 
 returns : tie.Need-returns Inv-loop μ-loop
 returns c =
@@ -90,17 +60,8 @@ returns c =
       below-later (a .stamp + l .k + 1) _ (c .before .before .before .before .before .check-wire .last .1 .1 .1 .0) (c .before .before .before .before .before .check-wire .ensures .1) (omega arith),
     )
 
-enum-told : tie.Need-enum-told Inv-loop μ-loop
-enum-told c = search needs
-
 add-at : tie.Need-add-at Inv-loop μ-loop
 add-at c = omega (arith, fits (c .before .before .before .before .before .before .before))
-
-add-k : tie.Need-add-k Inv-loop μ-loop
-add-k c = search needs
-
-loop-less : tie.Need-loop-less Inv-loop μ-loop
-loop-less c = search needs
 
 loop-again : tie.Need-loop-again Inv-loop μ-loop
 loop-again c =
@@ -112,9 +73,6 @@ loop-again c =
       search needs,
       below-later (a .stamp + l .k + 1) _ (c .before .before .before .before .check-wire .last .1 .1 .1 .0) (c .before .before .before .before .check-wire .ensures .1) (omega arith),
     )
-
-same-length-2 : tie.Need-same-length-2 Inv-loop μ-loop
-same-length-2 c = search needs
 
 returns-2 : tie.Need-returns-2 Inv-loop μ-loop
 returns-2 c =
@@ -131,25 +89,25 @@ check-wires-spec =
     Inv-loop
     μ-loop
     loop-holds
-    mul-index
-    shared-slice-read-index
-    index-requires
+    (λ c. search needs)
+    (λ c. search needs)
+    (λ c κs. search needs)
     add-check-wire
     mul-check-wire
-    sub-check-wire
-    part-check-wire-start
+    (λ c. search needs)
+    (λ c. search needs)
     part-check-wire-end
-    add-check-wire-2
-    cast-check-wire
+    (λ c. search needs)
+    (λ c. search needs)
     check-wire-requires
-    enum-known-answer
-    add-t25
-    same-length
+    (λ c. search needs)
+    (λ c. search needs)
+    (λ c. search needs)
     returns
-    enum-told
+    (λ c. search needs)
     add-at
-    add-k
-    loop-less
+    (λ c. search needs)
+    (λ c. search needs)
     loop-again
-    same-length-2
+    (λ c. search needs)
     returns-2)

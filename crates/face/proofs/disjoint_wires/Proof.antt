@@ -36,43 +36,19 @@ loop-holds c =
       below-later (a .stamp) (a .stamp + 1) (a .marks .now) (pre .1 .1 .1 .0) (omega arith),
     )
 
-mul-index : tie.Need-mul-index Inv-loop μ-loop
-mul-index c = search needs
-
-shared-slice-read-index : tie.Need-shared-slice-read-index Inv-loop μ-loop
-shared-slice-read-index c = search needs
-
-index-requires : tie.Need-index-requires Inv-loop μ-loop
-index-requires c κs = search needs
-
 add-stamp-points : tie.Need-add-stamp-points Inv-loop μ-loop
 add-stamp-points c = omega (arith, fits c)
 
 mul-stamp-points : tie.Need-mul-stamp-points Inv-loop μ-loop
 mul-stamp-points c = omega (arith, fits c)
 
-sub-stamp-points : tie.Need-sub-stamp-points Inv-loop μ-loop
-sub-stamp-points c = search needs
-
-part-stamp-points-start : tie.Need-part-stamp-points-start Inv-loop μ-loop
-part-stamp-points-start c = search needs
-
 part-stamp-points-end : tie.Need-part-stamp-points-end Inv-loop μ-loop
 part-stamp-points-end c = omega (arith, fits c)
-
-cast-stamp-points : tie.Need-cast-stamp-points Inv-loop μ-loop
-cast-stamp-points c = search needs
 
 stamp-points-requires : tie.Need-stamp-points-requires Inv-loop μ-loop
 stamp-points-requires c κs =
     let a = c .before .before .before .before .before .before .before .before .before .before .before .args in
     (named-part (a .fronts .now) (a .backs .now) (a .uses .now) (c .before .before .before .before .before .before .before .before .before .before .before .pre .0) (c .before .before .before .before .before .loop .start) (c .before .before .before .before .before .loop .start + c .before .before .index .result - c .before .before .before .before .before .loop .start), c .before .before .before .before .before .loop .inv .1 .marked .long)
-
-add-t23 : tie.Need-add-t23 Inv-loop μ-loop
-add-t23 c = search needs
-
-same-length : tie.Need-same-length Inv-loop μ-loop
-same-length c = search needs
 
 returns : tie.Need-returns Inv-loop μ-loop
 returns c =
@@ -87,12 +63,6 @@ returns c =
 add-start : tie.Need-add-start Inv-loop μ-loop
 add-start c = omega (arith, fits (c .before .before .before .before .before .before))
 
-add-k : tie.Need-add-k Inv-loop μ-loop
-add-k c = search needs
-
-loop-less : tie.Need-loop-less Inv-loop μ-loop
-loop-less c = search needs
-
 loop-again : tie.Need-loop-again Inv-loop μ-loop
 loop-again c =
     let a = c .before .before .before .before .before .before .before .before .before .before .before .before .before .before .before .args in
@@ -103,9 +73,6 @@ loop-again c =
           (c .before .before .before .before .before .before .before .before .loop-test .taken) (c .before .before .before .before .before .before .index .ensures .0) (c .before .before .before .before .before .before .before .before .before .before .before .before .before .before .before .pre .0) (c .before .before .before .before .before .before .before .before .before .before .before .before .before .before .before .pre .1 .1 .1 .1) (sym (said .0) ∙ c .if1 .left)),
       rw (said .1) (below-stamped (a .stamp) (a .stamp + 1) _ (l .marks) (l .inv .2) (omega arith)),
     )
-
-same-length-2 : tie.Need-same-length-2 Inv-loop μ-loop
-same-length-2 c = search needs
 
 returns-2 : tie.Need-returns-2 Inv-loop μ-loop
 returns-2 c =
@@ -120,22 +87,22 @@ disjoint-wires-spec =
     Inv-loop
     μ-loop
     loop-holds
-    mul-index
-    shared-slice-read-index
-    index-requires
+    (λ c. search needs)
+    (λ c. search needs)
+    (λ c κs. search needs)
     add-stamp-points
     mul-stamp-points
-    sub-stamp-points
-    part-stamp-points-start
+    (λ c. search needs)
+    (λ c. search needs)
     part-stamp-points-end
-    cast-stamp-points
+    (λ c. search needs)
     stamp-points-requires
-    add-t23
-    same-length
+    (λ c. search needs)
+    (λ c. search needs)
     returns
     add-start
-    add-k
-    loop-less
+    (λ c. search needs)
+    (λ c. search needs)
     loop-again
-    same-length-2
+    (λ c. search needs)
     returns-2)

@@ -18,32 +18,14 @@ use Rattle.fault_lines.proofs.put_fault.Tie as tie
 short : (c : tie.Else1) → length (decimal (c .before .before .f .given .0 .1 .0)) ≤ 20
 short c = decimal-20 (c .before .before .f .given .0 .1 .0) (omega arith)
 
-enum-known-f : tie.Need-enum-known-f
-enum-known-f c = search needs
-
-slice-aggregate-put-text : tie.Need-slice-aggregate-put-text
-slice-aggregate-put-text c = search needs
-
-put-text-requires : tie.Need-put-text-requires
-put-text-requires c κs = search needs
-
-same-length : tie.Need-same-length
-same-length c = search needs
-
 returns : tie.Need-returns
 returns c =
     let a = c .before .before .before .before .before .before .before .before .before .before .args in
     let f = c .before .before .before .before .before .before .before .f .given in
     put-short (a .out .now) (a .at) 160 _ _ (ap faultText (f .1 ∙ ap (λ k. Word k (f .0 .1 .0)) (c .before .before .before .before .before .if1 .taken))) (c .before .before .put-text .ensures) (omega arith)
 
-slice-aggregate-put-field : tie.Need-slice-aggregate-put-field
-slice-aggregate-put-field c = search needs
-
 put-field-requires : tie.Need-put-field-requires
 put-field-requires c κs = omega (arith, short (c .before .before))
-
-slice-aggregate-put-text-2 : tie.Need-slice-aggregate-put-text-2
-slice-aggregate-put-text-2 c = search needs
 
 put-text-requires-2 : tie.Need-put-text-requires-2
 put-text-requires-2 c κs = omega (arith, short (c .before .before .before .before .before .before .before))
@@ -51,23 +33,11 @@ put-text-requires-2 c κs = omega (arith, short (c .before .before .before .befo
 put-form-requires : tie.Need-put-form-requires
 put-form-requires c κs = omega (arith, short (c .before .before .before .before .before .before .before .before .before .before .before))
 
-enum-known-f-2 : tie.Need-enum-known-f-2
-enum-known-f-2 c = search needs
-
-number-of-requires : tie.Need-number-of-requires
-number-of-requires c κs = search needs
-
-slice-aggregate-put-field-2 : tie.Need-slice-aggregate-put-field-2
-slice-aggregate-put-field-2 c = search needs
-
 put-field-requires-2 : tie.Need-put-field-requires-2
 put-field-requires-2 c κs = omega (arith, decimal-20 (c .before .before .number-of .result) (omega arith))
 
 put-meaning-requires : tie.Need-put-meaning-requires
 put-meaning-requires c κs = omega (arith, decimal-20 (c .before .before .before .before .before .before .number-of .result) (omega arith))
-
-same-length-2 : tie.Need-same-length-2
-same-length-2 c = search needs
 
 returns-2 : tie.Need-returns-2
 unfolding field
@@ -79,9 +49,6 @@ returns-2 c =
     let e = c .before .before .put-form .ensures in
     let q = put-then (a .out .now) (a .at) (x ++ ascii " of ") (lineForm (f .0 .0)) _ _ _ _ p (e .0, e .1) in
     put-short (a .out .now) (a .at) 160 _ _ (word-is (f .0 .0) (f .0 .1 .0) (f .1) (c .before .before .before .before .before .before .before .before .before .before .before .before .before .before .if1 .left)) q (omega (arith, q .1, short (c .before .before .before .before .before .before .before .before .before .before .before .before .before .before), e .2))
-
-same-length-3 : tie.Need-same-length-3
-same-length-3 c = search needs
 
 returns-3 : tie.Need-returns-3
 unfolding field
@@ -97,22 +64,22 @@ pub put-fault-spec : {M : Type 1} → statement M
 put-fault-spec =
     tie.close
     (tie.spec
-    enum-known-f
-    slice-aggregate-put-text
-    put-text-requires
-    same-length
+    (λ c. search needs)
+    (λ c. search needs)
+    (λ c κs. search needs)
+    (λ c. search needs)
     returns
-    slice-aggregate-put-field
+    (λ c. search needs)
     put-field-requires
-    slice-aggregate-put-text-2
+    (λ c. search needs)
     put-text-requires-2
     put-form-requires
-    enum-known-f-2
-    number-of-requires
-    slice-aggregate-put-field-2
+    (λ c. search needs)
+    (λ c κs. search needs)
+    (λ c. search needs)
     put-field-requires-2
     put-meaning-requires
-    same-length-2
+    (λ c. search needs)
     returns-2
-    same-length-3
+    (λ c. search needs)
     returns-3)

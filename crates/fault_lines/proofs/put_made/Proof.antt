@@ -11,24 +11,6 @@ use borrow.Author.Needs.{needs}
 use Rattle.fault_lines.proofs.put_made.Statement.{statement}
 use Rattle.fault_lines.proofs.put_made.Tie as tie
 
-enum-known-m : tie.Need-enum-known-m
-enum-known-m c = search needs
-
-enum-told : tie.Need-enum-told
-enum-told c = search needs
-
-slice-aggregate-put-text : tie.Need-slice-aggregate-put-text
-slice-aggregate-put-text c = search needs
-
-put-text-requires : tie.Need-put-text-requires
-put-text-requires c κs = search needs
-
-enum-known-m-2 : tie.Need-enum-known-m-2
-enum-known-m-2 c = search needs
-
-slice-aggregate-put-field : tie.Need-slice-aggregate-put-field
-slice-aggregate-put-field c = search needs
-
 put-field-requires : tie.Need-put-field-requires
 put-field-requires c κs = omega (arith, decimal-20 (c .before .before .before .m2 .given .0 .0) (omega arith))
 
@@ -61,12 +43,12 @@ pub put-made-spec : {M : Type 1} → statement M
 put-made-spec =
     tie.close
     (tie.spec
-    enum-known-m
-    enum-told
-    slice-aggregate-put-text
-    put-text-requires
-    enum-known-m-2
-    slice-aggregate-put-field
+    (λ c. search needs)
+    (λ c. search needs)
+    (λ c. search needs)
+    (λ c κs. search needs)
+    (λ c. search needs)
+    (λ c. search needs)
     put-field-requires
     put-fault-requires
     returns

@@ -21,32 +21,8 @@ abbrev μ-loop : tie.MeasureT-loop
 loop-holds : tie.Need-loop-holds Inv-loop μ-loop
 loop-holds c = passed-start _ _ _ _
 
-mul-edge-at : tie.Need-mul-edge-at Inv-loop μ-loop
-mul-edge-at c = search needs
-
-add-edge-at : tie.Need-add-edge-at Inv-loop μ-loop
-add-edge-at c = search needs
-
-edge-at-requires : tie.Need-edge-at-requires Inv-loop μ-loop
-edge-at-requires c κs = search needs
-
-check-edge-requires : tie.Need-check-edge-requires Inv-loop μ-loop
-check-edge-requires c κs = search needs
-
-enum-known-answer : tie.Need-enum-known-answer Inv-loop μ-loop
-enum-known-answer c = search needs
-
 returns : tie.Need-returns Inv-loop μ-loop
 returns c = edges-stop (c .before .before .before .before .before .before .before .before .args .s .now) (c .before .before .before .before .before .before .before .before .args .at) _ _ _ (c .before .before .before .before .before .before .loop .inv) (c .before .before .before .before .before .loop-test .taken) _ (c .before .before .before .before .edge-at .ensures) _ (sym (c .before .before .before .check-edge .ensures) ∙ c .before .answer .given .1)
-
-enum-told : tie.Need-enum-told Inv-loop μ-loop
-enum-told c = search needs
-
-add-k : tie.Need-add-k Inv-loop μ-loop
-add-k c = search needs
-
-loop-less : tie.Need-loop-less Inv-loop μ-loop
-loop-less c = search needs
 
 loop-again : tie.Need-loop-again Inv-loop μ-loop
 loop-again c = edges-next (c .before .before .before .before .before .before .before .args .s .now) (c .before .before .before .before .before .before .before .args .at) _ _ _ (c .before .before .before .before .before .loop .inv) (c .before .before .before .before .loop-test .taken) _ (c .before .before .before .edge-at .ensures) (sym (c .before .before .check-edge .ensures) ∙ c .enum-told .given .1)
@@ -61,14 +37,14 @@ check-edges-spec =
     Inv-loop
     μ-loop
     loop-holds
-    mul-edge-at
-    add-edge-at
-    edge-at-requires
-    check-edge-requires
-    enum-known-answer
+    (λ c. search needs)
+    (λ c. search needs)
+    (λ c κs. search needs)
+    (λ c κs. search needs)
+    (λ c. search needs)
     returns
-    enum-told
-    add-k
-    loop-less
+    (λ c. search needs)
+    (λ c. search needs)
+    (λ c. search needs)
     loop-again
     returns-2)

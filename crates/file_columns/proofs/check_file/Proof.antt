@@ -13,23 +13,8 @@ counts-of-requires c κs = table-long (c .before .before .before .before .before
 starts-of-requires : tie.Need-starts-of-requires
 starts-of-requires c κs = rw (c .counts-of .ensures) (table-counts (c .before .before .before .before .before .before .before .before .before .args .s .now) (c .before .before .before .before .before .before .before .before .before .pre .0))
 
-array-read-check-edges : tie.Need-array-read-check-edges
-array-read-check-edges c = search needs
-
-array-read-check-edges-2 : tie.Need-array-read-check-edges-2
-array-read-check-edges-2 c = search needs
-
-array-read-check-edges-3 : tie.Need-array-read-check-edges-3
-array-read-check-edges-3 c = search needs
-
 check-edges-requires : tie.Need-check-edges-requires
 check-edges-requires c κs = body-inside (c .before .before .before .before .before .before .before .before .before .before .args .s .now) (c .before .before .before .before .before .before .before .before .before .before .pre .0) (c .before .counts-of .result) (c .starts-of .result) (c .before .counts-of .ensures) (c .starts-of .ensures) 1 (omega arith)
-
-enum-known-edges : tie.Need-enum-known-edges
-enum-known-edges c = search needs
-
-enum-told : tie.Need-enum-told
-enum-told c = search needs
 
 check-columns-requires : tie.Need-check-columns-requires
 check-columns-requires c κs = file-checkable (c .before .before .before .before .before .before .before .before .before .before .before .before .before .args .s .now) (c .before .before .before .before .before .before .before .before .before .before .before .before .before .pre .0) (c .before .before .before .before .counts-of .result) (c .before .before .before .starts-of .result) (c .before .before .before .before .counts-of .ensures) (c .before .before .before .starts-of .ensures) (sym (c .before .before .check-edges .ensures) ∙ c .enum-told .given .1) (c .before .before .before .before .before .before .before .before .before .before .before .before .before .pre .1)
@@ -46,12 +31,12 @@ check-file-spec =
     (tie.spec
     counts-of-requires
     starts-of-requires
-    array-read-check-edges
-    array-read-check-edges-2
-    array-read-check-edges-3
+    (λ c. search needs)
+    (λ c. search needs)
+    (λ c. search needs)
     check-edges-requires
-    enum-known-edges
-    enum-told
+    (λ c. search needs)
+    (λ c. search needs)
     check-columns-requires
     returns
     returns-2)

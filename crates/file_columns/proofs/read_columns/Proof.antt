@@ -21,92 +21,29 @@ counts-of-requires c κs = table-long (c .before .before .before .before .before
 starts-of-requires : tie.Need-starts-of-requires
 starts-of-requires c κs = rw (c .counts-of .ensures) (table-counts (c .before .before .before .before .before .before .before .before .before .args .s .now) (c .before .before .before .before .before .before .before .before .before .pre .0))
 
-array-read-read-u16s : tie.Need-array-read-read-u16s
-array-read-read-u16s c = search needs
-
-array-read-read-u16s-2 : tie.Need-array-read-read-u16s-2
-array-read-read-u16s-2 c = search needs
-
 read-u16s-requires : tie.Need-read-u16s-requires
 read-u16s-requires c κs = let r = room (c .before) 1 (omega arith) in (omega (arith, r .0), omega (arith, r .1, ap length (c .before .before .before .before .before .before .before .before .before .before .before .pre .1 .0), length-replicate {A = ℕ} 1024 0))
-
-array-read-read-u16s-3 : tie.Need-array-read-read-u16s-3
-array-read-read-u16s-3 c = search needs
 
 add-read-u16s : tie.Need-add-read-u16s
 add-read-u16s c = omega (arith, room (c .before .before .before .before) 1 (omega arith) .0)
 
-array-read-read-u16s-4 : tie.Need-array-read-read-u16s-4
-array-read-read-u16s-4 c = search needs
-
 read-u16s-requires-2 : tie.Need-read-u16s-requires-2
 read-u16s-requires-2 c κs = let r = room (c .before .before .before .before .before) 1 (omega arith) in (omega (arith, r .0), omega (arith, r .1, ap length (c .before .before .before .before .before .before .before .before .before .before .before .before .before .before .before .pre .1 .1), length-replicate {A = ℕ} 1024 0))
-
-array-read-read-u16s-5 : tie.Need-array-read-read-u16s-5
-array-read-read-u16s-5 c = search needs
-
-array-read-read-u16s-6 : tie.Need-array-read-read-u16s-6
-array-read-read-u16s-6 c = search needs
 
 read-u16s-requires-3 : tie.Need-read-u16s-requires-3
 read-u16s-requires-3 c κs = let r = room (c .before .before .before .before .before .before .before .before .before) 2 (omega arith) in (omega (arith, r .0), omega (arith, r .1, ap length (c .before .before .before .before .before .before .before .before .before .before .before .before .before .before .before .before .before .before .before .pre .1 .2), length-replicate {A = ℕ} 4096 0))
 
-array-read-read-u16s-7 : tie.Need-array-read-read-u16s-7
-array-read-read-u16s-7 c = search needs
-
-array-read-read-u16s-8 : tie.Need-array-read-read-u16s-8
-array-read-read-u16s-8 c = search needs
-
 read-u16s-requires-4 : tie.Need-read-u16s-requires-4
 read-u16s-requires-4 c κs = let r = room (c .before .before .before .before .before .before .before .before .before .before .before .before .before) 3 (omega arith) in (omega (arith, r .0), omega (arith, r .1, ap length (c .before .before .before .before .before .before .before .before .before .before .before .before .before .before .before .before .before .before .before .before .before .before .before .pre .1 .3), length-replicate {A = ℕ} 1024 0))
-
-array-read-read-u16s-9 : tie.Need-array-read-read-u16s-9
-array-read-read-u16s-9 c = search needs
-
-array-read-read-u16s-10 : tie.Need-array-read-read-u16s-10
-array-read-read-u16s-10 c = search needs
 
 read-u16s-requires-5 : tie.Need-read-u16s-requires-5
 read-u16s-requires-5 c κs = let r = room (c .before .before .before .before .before .before .before .before .before .before .before .before .before .before .before .before .before) 4 (omega arith) in (omega (arith, r .0), omega (arith, r .1, ap length (c .before .before .before .before .before .before .before .before .before .before .before .before .before .before .before .before .before .before .before .before .before .before .before .before .before .before .before .pre .1 .4), length-replicate {A = ℕ} 256 0))
 
-array-read-read-u16s-11 : tie.Need-array-read-read-u16s-11
-array-read-read-u16s-11 c = search needs
-
-array-read-read-u16s-12 : tie.Need-array-read-read-u16s-12
-array-read-read-u16s-12 c = search needs
-
 read-u16s-requires-6 : tie.Need-read-u16s-requires-6
 read-u16s-requires-6 c κs = let r = room (c .before .before .before .before .before .before .before .before .before .before .before .before .before .before .before .before .before .before .before .before .before) 5 (omega arith) in (omega (arith, r .0), omega (arith, r .1, ap length (c .before .before .before .before .before .before .before .before .before .before .before .before .before .before .before .before .before .before .before .before .before .before .before .before .before .before .before .before .before .before .before .pre .1 .5), length-replicate {A = ℕ} 16 0))
 
-array-read-read-u16s-13 : tie.Need-array-read-read-u16s-13
-array-read-read-u16s-13 c = search needs
-
-array-read-read-u16s-14 : tie.Need-array-read-read-u16s-14
-array-read-read-u16s-14 c = search needs
-
 read-u16s-requires-7 : tie.Need-read-u16s-requires-7
 read-u16s-requires-7 c κs = let r = room (c .before .before .before .before .before .before .before .before .before .before .before .before .before .before .before .before .before .before .before .before .before .before .before .before .before) 6 (omega arith) in (omega (arith, r .0), omega (arith, r .1, ap length (c .before .before .before .before .before .before .before .before .before .before .before .before .before .before .before .before .before .before .before .before .before .before .before .before .before .before .before .before .before .before .before .before .before .before .before .pre .1 .6), length-replicate {A = ℕ} 512 0))
-
-same-length : tie.Need-same-length
-same-length c = search needs
-
-same-length-2 : tie.Need-same-length-2
-same-length-2 c = search needs
-
-same-length-3 : tie.Need-same-length-3
-same-length-3 c = search needs
-
-same-length-4 : tie.Need-same-length-4
-same-length-4 c = search needs
-
-same-length-5 : tie.Need-same-length-5
-same-length-5 c = search needs
-
-same-length-6 : tie.Need-same-length-6
-same-length-6 c = search needs
-
-same-length-7 : tie.Need-same-length-7
-same-length-7 c = search needs
 
 returns : tie.Need-returns
 returns c =
@@ -125,33 +62,33 @@ read-columns-spec =
     (tie.spec
     counts-of-requires
     starts-of-requires
-    array-read-read-u16s
-    array-read-read-u16s-2
+    (λ c. search needs)
+    (λ c. search needs)
     read-u16s-requires
-    array-read-read-u16s-3
+    (λ c. search needs)
     add-read-u16s
-    array-read-read-u16s-4
+    (λ c. search needs)
     read-u16s-requires-2
-    array-read-read-u16s-5
-    array-read-read-u16s-6
+    (λ c. search needs)
+    (λ c. search needs)
     read-u16s-requires-3
-    array-read-read-u16s-7
-    array-read-read-u16s-8
+    (λ c. search needs)
+    (λ c. search needs)
     read-u16s-requires-4
-    array-read-read-u16s-9
-    array-read-read-u16s-10
+    (λ c. search needs)
+    (λ c. search needs)
     read-u16s-requires-5
-    array-read-read-u16s-11
-    array-read-read-u16s-12
+    (λ c. search needs)
+    (λ c. search needs)
     read-u16s-requires-6
-    array-read-read-u16s-13
-    array-read-read-u16s-14
+    (λ c. search needs)
+    (λ c. search needs)
     read-u16s-requires-7
-    same-length
-    same-length-2
-    same-length-3
-    same-length-4
-    same-length-5
-    same-length-6
-    same-length-7
+    (λ c. search needs)
+    (λ c. search needs)
+    (λ c. search needs)
+    (λ c. search needs)
+    (λ c. search needs)
+    (λ c. search needs)
+    (λ c. search needs)
     returns)

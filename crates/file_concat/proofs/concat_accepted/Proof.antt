@@ -15,29 +15,8 @@ use borrow.Author.Needs.{needs}
 use Rattle.file_concat.proofs.concat_accepted.Statement.{statement}
 use Rattle.file_concat.proofs.concat_accepted.Tie as tie
 
-join-uses-requires : tie.Need-join-uses-requires
-join-uses-requires c κs = search needs
-
-enum-known-made : tie.Need-enum-known-made
-enum-known-made c = search needs
-
-edit-number-requires : tie.Need-edit-number-requires
-edit-number-requires c κs = search needs
-
-refused-requires : tie.Need-refused-requires
-refused-requires c κs = search needs
-
-enum-known-made-2 : tie.Need-enum-known-made-2
-enum-known-made-2 c = search needs
-
 counts-of-requires : tie.Need-counts-of-requires
 counts-of-requires c κs = let s = c .before .before .before .before .before .before .before .before in table-long (s .args .file .now) (table-right (s .args .file .now) (s .pre .0))
-
-array-read-put-edited : tie.Need-array-read-put-edited
-array-read-put-edited c = search needs
-
-array-read-put-edited-2 : tie.Need-array-read-put-edited-2
-array-read-put-edited-2 c = search needs
 
 put-edited-requires : tie.Need-put-edited-requires
 put-edited-requires c κs =
@@ -58,26 +37,17 @@ put-edited-requires c κs =
       ),
     )
 
-array-read-t17 : tie.Need-array-read-t17
-array-read-t17 c = search needs
-
 cast-t25 : tie.Need-cast-t25
 cast-t25 c =
     let s = c .before .before .before .before .before .before .before .before .before .before .before .before .before in
     let f = s .args .file .now in
     omega (arith, edges-are f (s .pre .0) _ (c .before .before .before .before .counts-of .ensures), joined-room f (s .pre .0) (s .args .u) (s .args .v) (s .args .out .now) (c .before .before .before .before .before .before .before .before .join-uses .ensures) (c .before .before .before .before .before .before .made2 .given .1))
 
-join-values-requires : tie.Need-join-values-requires
-join-values-requires c κs = search needs
-
 returns : tie.Need-returns
 returns c =
     let s = c .before .before .before .before .before .before .before .before .before .before in
     let t = not-joined (s .args .file .now) (s .pre .0) (s .args .u) (s .args .v) (s .args .out .now) (c .before .before .before .before .before .join-uses .ensures) (c .before .before .before .made .given .1) in
     (c .refused .ensures ∙ ap (λ (n : ℕ). refused n 0) (c .before .edit-number .ensures) ∙ t .0, t .1)
-
-same-length : tie.Need-same-length
-same-length c = search needs
 
 returns-2 : tie.Need-returns-2
 returns-2 c =
@@ -95,18 +65,18 @@ pub concat-accepted-spec : {M : Type 1} → statement M
 concat-accepted-spec =
     tie.close
     (tie.spec
-    join-uses-requires
-    enum-known-made
-    edit-number-requires
-    refused-requires
-    enum-known-made-2
+    (λ c κs. search needs)
+    (λ c. search needs)
+    (λ c κs. search needs)
+    (λ c κs. search needs)
+    (λ c. search needs)
     counts-of-requires
-    array-read-put-edited
-    array-read-put-edited-2
+    (λ c. search needs)
+    (λ c. search needs)
     put-edited-requires
-    array-read-t17
+    (λ c. search needs)
     cast-t25
-    join-values-requires
+    (λ c κs. search needs)
     returns
-    same-length
+    (λ c. search needs)
     returns-2)

@@ -13,29 +13,11 @@ use Rattle.file_concat.proofs.join_uses.Tie as tie
 counts-of-requires : tie.Need-counts-of-requires
 counts-of-requires c κs = table-long (c .before .args .file .now) (table-right (c .before .args .file .now) (c .before .pre))
 
-array-read-edges : tie.Need-array-read-edges
-array-read-edges c = search needs
-
-cast-i : tie.Need-cast-i
-cast-i c = search needs
-
-cast-j : tie.Need-cast-j
-cast-j c = search needs
-
 returns : tie.Need-returns
 returns c = let s = c .before .before .before in first-unnamed (fileContent (s .args .file .now)) (s .args .u) (s .args .v) _ (edges-are (s .args .file .now) (s .pre) _ (c .before .counts-of .ensures)) (c .if1 .taken)
 
 returns-2 : tie.Need-returns-2
 returns-2 c = let s = c .before .before .before .before in second-unnamed (fileContent (s .args .file .now)) (s .args .u) (s .args .v) _ (edges-are (s .args .file .now) (s .pre) _ (c .before .before .counts-of .ensures)) (c .if2 .taken)
-
-file-edge-requires : tie.Need-file-edge-requires
-file-edge-requires c κs = search needs
-
-file-edge-requires-2 : tie.Need-file-edge-requires-2
-file-edge-requires-2 c κs = search needs
-
-judge-concat-requires : tie.Need-judge-concat-requires
-judge-concat-requires c κs = search needs
 
 returns-3 : tie.Need-returns-3
 returns-3 c = let s = c .before .before .before .before .before .before .before in
@@ -48,12 +30,12 @@ join-uses-spec =
     tie.close
     (tie.spec
     counts-of-requires
-    array-read-edges
-    cast-i
-    cast-j
+    (λ c. search needs)
+    (λ c. search needs)
+    (λ c. search needs)
     returns
     returns-2
-    file-edge-requires
-    file-edge-requires-2
-    judge-concat-requires
+    (λ c κs. search needs)
+    (λ c κs. search needs)
+    (λ c κs. search needs)
     returns-3)

@@ -36,63 +36,18 @@ curve-is c = ap (λ (d : Edge). d .curve) (edge-is c)
 counts-of-requires : tie.Need-counts-of-requires
 counts-of-requires c κs = let s = c .before .before .before .before .before .before .before in table-long (s .args .file .now) (table-right (s .args .file .now) (s .pre .0))
 
-array-read-all-named : tie.Need-array-read-all-named
-array-read-all-named c = search needs
-
-array-read-all-named-2 : tie.Need-array-read-all-named-2
-array-read-all-named-2 c = search needs
-
-array-read-all-named-3 : tie.Need-array-read-all-named-3
-array-read-all-named-3 c = search needs
-
-all-named-requires : tie.Need-all-named-requires
-all-named-requires c κs = search needs
-
-edit-number-requires : tie.Need-edit-number-requires
-edit-number-requires c κs = search needs
-
-refused-requires : tie.Need-refused-requires
-refused-requires c κs = search needs
-
 returns : tie.Need-returns
 returns c = let s = c .before .before .before .before .before .before .before .before .before .before .before .before in
     let a = s .args in
     let t = cut-unnamed (a .file .now) (s .pre .0) (a .n) (a .e) (a .v) (a .at) (a .out .now) _ _ _ _ _ _ _ _ (lent (c .before .before .before .before)) (sym (c .before .before .before .all-named .ensures) ∙ not-true _ (c .before .before .if1 .taken)) in
     (c .refused .ensures ∙ ap (λ (x : ℕ). refused x 0) (c .before .edit-number .ensures) ∙ t .0, t .1)
 
-index-requires : tie.Need-index-requires
-index-requires c κs = search needs
-
 file-edge-requires : tie.Need-file-edge-requires
 file-edge-requires c κs = (c .before .before .before .before .before .before .before .before .before .before .before .pre .0, c .before .before .before .counts-of .ensures, omega (arith, c .index .ensures .0, named (c .before) .1))
-
-slice-aggregate-cut-columns : tie.Need-slice-aggregate-cut-columns
-slice-aggregate-cut-columns c = search needs
-
-slice-aggregate-cut-columns-2 : tie.Need-slice-aggregate-cut-columns-2
-slice-aggregate-cut-columns-2 c = search needs
 
 cut-columns-requires : tie.Need-cut-columns-requires
 cut-columns-requires c κs = let n = named (c .before .before .before .before .before) in
     ((stored (fileContent (c .before .before .before .before .before .before .before .before .before .before .before .before .before .before .before .args .file .now)), lent (c .before .before .before .before .before .before .before), curve-is (c .before .before .before)), (n .0, n .1, n .2, search needs, search needs))
-
-enum-known-done : tie.Need-enum-known-done
-enum-known-done c = search needs
-
-edit-number-requires-2 : tie.Need-edit-number-requires-2
-edit-number-requires-2 c κs = search needs
-
-refused-requires-2 : tie.Need-refused-requires-2
-refused-requires-2 c κs = search needs
-
-enum-known-done-2 : tie.Need-enum-known-done-2
-enum-known-done-2 c = search needs
-
-slice-aggregate-put-parted : tie.Need-slice-aggregate-put-parted
-slice-aggregate-put-parted c = search needs
-
-slice-aggregate-put-parted-2 : tie.Need-slice-aggregate-put-parted-2
-slice-aggregate-put-parted-2 c = search needs
 
 put-parted-requires : tie.Need-put-parted-requires
 put-parted-requires c κs = let s = c .before .before .before .before .before .before .before .before .before .before .before .before .before .before .before .before .before .before .before .before .before .before .before .before in
@@ -109,9 +64,6 @@ returns-2 c = let s = c .before .before .before .before .before .before .before 
     let t = cut-refused (a .file .now) (s .pre .0) (a .n) (a .e) (a .v) (a .at) (a .out .now) _ _ _ _ _ _ _ _ (lent (c .before .before .before .before .before .before .before .before .before .before .before .before .before .before .before)) (named (c .before .before .before .before .before .before .before .before .before .before .before .before .before)) _ _ _ _ _ done (c .before .before .before .done .given .1) in
     (c .refused2 .ensures ∙ ap (λ (x : ℕ). refused x 0) (c .before .edit-number2 .ensures) ∙ t .0, t .1)
 
-same-length : tie.Need-same-length
-same-length c = search needs
-
 returns-3 : tie.Need-returns-3
 returns-3 c = let s = c .before .before .before .before .before .before .before .before .before .before .before .before .before .before .before .before .before .before .before .before .before .before .before .before .before .before .before in
     let a = s .args in
@@ -126,25 +78,25 @@ cut-accepted-spec =
     tie.close
     (tie.spec
     counts-of-requires
-    array-read-all-named
-    array-read-all-named-2
-    array-read-all-named-3
-    all-named-requires
-    edit-number-requires
-    refused-requires
+    (λ c. search needs)
+    (λ c. search needs)
+    (λ c. search needs)
+    (λ c κs. search needs)
+    (λ c κs. search needs)
+    (λ c κs. search needs)
     returns
-    index-requires
+    (λ c κs. search needs)
     file-edge-requires
-    slice-aggregate-cut-columns
-    slice-aggregate-cut-columns-2
+    (λ c. search needs)
+    (λ c. search needs)
     cut-columns-requires
-    enum-known-done
-    edit-number-requires-2
-    refused-requires-2
-    enum-known-done-2
-    slice-aggregate-put-parted
-    slice-aggregate-put-parted-2
+    (λ c. search needs)
+    (λ c κs. search needs)
+    (λ c κs. search needs)
+    (λ c. search needs)
+    (λ c. search needs)
+    (λ c. search needs)
     put-parted-requires
     returns-2
-    same-length
+    (λ c. search needs)
     returns-3)

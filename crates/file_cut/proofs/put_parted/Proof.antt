@@ -18,15 +18,6 @@ use Rattle.file_table.proofs.Laws.{counts-of-content, limits}
 use Rattle.file_cut.proofs.put_parted.Statement.{statement}
 use Rattle.file_cut.proofs.put_parted.Tie as tie
 
-new-unchecked-requires : tie.Need-new-unchecked-requires
-new-unchecked-requires c κs = search needs
-
-new-unchecked-requires-2 : tie.Need-new-unchecked-requires-2
-new-unchecked-requires-2 c κs = search needs
-
-array-read-put-edited : tie.Need-array-read-put-edited
-array-read-put-edited c = search needs
-
 put-edited-requires : tie.Need-put-edited-requires
 put-edited-requires c κs = let s = c .before .before .before .before .before .before .before .before .before in
     let f = s .args .file .now in
@@ -41,20 +32,11 @@ put-edited-requires c κs = let s = c .before .before .before .before .before .b
       ),
     )
 
-array-read-first : tie.Need-array-read-first
-array-read-first c = search needs
-
 cast-first : tie.Need-cast-first
 cast-first c = omega (arith, c .before .before .before .before .before .before .before .before .before .before .before .before .pre .0 .2)
 
 add-t27 : tie.Need-add-t27
 add-t27 c = omega (arith, c .before .before .before .before .before .before .before .before .before .before .before .before .pre .0 .2)
-
-cut-values-requires : tie.Need-cut-values-requires
-cut-values-requires c κs = search needs
-
-same-length : tie.Need-same-length
-same-length c = search needs
 
 returns : tie.Need-returns
 returns c = let s = c .before .before .before .before .before .before .before .before .before .before .before .before .before in
@@ -70,13 +52,13 @@ pub put-parted-spec : {M : Type 1} → statement M
 put-parted-spec =
     tie.close
     (tie.spec
-    new-unchecked-requires
-    new-unchecked-requires-2
-    array-read-put-edited
+    (λ c κs. search needs)
+    (λ c κs. search needs)
+    (λ c. search needs)
     put-edited-requires
-    array-read-first
+    (λ c. search needs)
     cast-first
     add-t27
-    cut-values-requires
-    same-length
+    (λ c κs. search needs)
+    (λ c. search needs)
     returns)

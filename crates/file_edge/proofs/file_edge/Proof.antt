@@ -18,9 +18,6 @@ room c = let s = c .before .before in edge-room (s .args .file .now) (s .pre .0)
 starts-of-requires : tie.Need-starts-of-requires
 starts-of-requires c κs = let s = c .before in ap countFaults (s .pre .1) ∙ table-counts (s .args .file .now) (table-right (s .args .file .now) (s .pre .0))
 
-array-read-at : tie.Need-array-read-at
-array-read-at c = search needs
-
 mul-edge-at : tie.Need-mul-edge-at
 mul-edge-at c = omega (arith, room c)
 
@@ -36,4 +33,4 @@ returns c = let s = c .before .before .before in edge-is (s .args .file .now) (s
 pub file-edge-spec : {M : Type 1} → statement M
 file-edge-spec =
     tie.close
-    (tie.spec starts-of-requires array-read-at mul-edge-at add-edge-at edge-at-requires returns)
+    (tie.spec starts-of-requires (λ c. search needs) mul-edge-at add-edge-at edge-at-requires returns)

@@ -4,33 +4,9 @@ use borrow.Author.Needs.{needs}
 use Rattle.file_face_edits.proofs.file_glue.Statement.{statement}
 use Rattle.file_face_edits.proofs.file_glue.Tie as tie
 
-read-requires : tie.Need-read-requires
-read-requires c κs = search needs
-
-enum-known-checked : tie.Need-enum-known-checked
-enum-known-checked c = search needs
-
-unread-requires : tie.Need-unread-requires
-unread-requires c κs = search needs
-
-enum-told : tie.Need-enum-told
-enum-told c = search needs
-
-glue-at-boundaries-requires : tie.Need-glue-at-boundaries-requires
-glue-at-boundaries-requires c κs = search needs
-
-face-values-requires : tie.Need-face-values-requires
-face-values-requires c κs = search needs
-
 returns : tie.Need-returns
 unfolding flat
 returns c = rw (← c .before .before .before .before .read .ensures, c .before .before .checked .given .1) (c .unread .ensures, (refl, refl))
-
-same-length : tie.Need-same-length
-same-length c = search needs
-
-same-length-2 : tie.Need-same-length-2
-same-length-2 c = search needs
 
 returns-2 : tie.Need-returns-2
 returns-2 c = rw (← c .before .before .before .before .before .before .before .before .before .before .before .read .ensures, c .before .before .before .before .before .before .before .before .before .enum-told .given .1, ← c .before .before .before .before .before .glue-at-boundaries .ensures .0) (c .face-values .ensures, c .before .before .before .before .before .glue-at-boundaries .ensures .1)
@@ -39,13 +15,13 @@ pub file-glue-spec : {M : Type 1} → statement M
 file-glue-spec =
     tie.close
     (tie.spec
-    read-requires
-    enum-known-checked
-    unread-requires
-    enum-told
-    glue-at-boundaries-requires
-    face-values-requires
+    (λ c κs. search needs)
+    (λ c. search needs)
+    (λ c κs. search needs)
+    (λ c. search needs)
+    (λ c κs. search needs)
+    (λ c κs. search needs)
     returns
-    same-length
-    same-length-2
+    (λ c. search needs)
+    (λ c. search needs)
     returns-2)

@@ -13,60 +13,6 @@ use Rattle.file_remove.proofs.file_remove.Tie as tie
 ok : (c : tie.After-enum-told) → fileFaults (c .before .before .before .before .before .before .before .before .before .before .before .before .before .before .before .before .before .before .before .args .file .now) ≡ []
 ok c = accepted-none (fileFaults (c .before .before .before .before .before .before .before .before .before .before .before .before .before .before .before .before .before .before .before .args .file .now)) (sym (c .before .before .before .before .before .before .before .before .before .read-file .ensures .0) ∙ c .enum-told .given .1)
 
-slice-aggregate-read-file : tie.Need-slice-aggregate-read-file
-slice-aggregate-read-file c = search needs
-
-slice-aggregate-read-file-2 : tie.Need-slice-aggregate-read-file-2
-slice-aggregate-read-file-2 c = search needs
-
-slice-aggregate-read-file-3 : tie.Need-slice-aggregate-read-file-3
-slice-aggregate-read-file-3 c = search needs
-
-slice-aggregate-read-file-4 : tie.Need-slice-aggregate-read-file-4
-slice-aggregate-read-file-4 c = search needs
-
-slice-aggregate-read-file-5 : tie.Need-slice-aggregate-read-file-5
-slice-aggregate-read-file-5 c = search needs
-
-slice-aggregate-read-file-6 : tie.Need-slice-aggregate-read-file-6
-slice-aggregate-read-file-6 c = search needs
-
-slice-aggregate-read-file-7 : tie.Need-slice-aggregate-read-file-7
-slice-aggregate-read-file-7 c = search needs
-
-read-file-requires : tie.Need-read-file-requires
-read-file-requires c κs = search needs
-
-enum-known-checked : tie.Need-enum-known-checked
-enum-known-checked c = search needs
-
-unread-requires : tie.Need-unread-requires
-unread-requires c κs = search needs
-
-enum-told : tie.Need-enum-told
-enum-told c = search needs
-
-slice-aggregate-remove-accepted : tie.Need-slice-aggregate-remove-accepted
-slice-aggregate-remove-accepted c = search needs
-
-slice-aggregate-remove-accepted-2 : tie.Need-slice-aggregate-remove-accepted-2
-slice-aggregate-remove-accepted-2 c = search needs
-
-slice-aggregate-remove-accepted-3 : tie.Need-slice-aggregate-remove-accepted-3
-slice-aggregate-remove-accepted-3 c = search needs
-
-slice-aggregate-remove-accepted-4 : tie.Need-slice-aggregate-remove-accepted-4
-slice-aggregate-remove-accepted-4 c = search needs
-
-slice-aggregate-remove-accepted-5 : tie.Need-slice-aggregate-remove-accepted-5
-slice-aggregate-remove-accepted-5 c = search needs
-
-slice-aggregate-remove-accepted-6 : tie.Need-slice-aggregate-remove-accepted-6
-slice-aggregate-remove-accepted-6 c = search needs
-
-slice-aggregate-remove-accepted-7 : tie.Need-slice-aggregate-remove-accepted-7
-slice-aggregate-remove-accepted-7 c = search needs
-
 remove-accepted-requires : tie.Need-remove-accepted-requires
 remove-accepted-requires c κs = (ok (c .before .before .before .before .before .before .before .before), c .before .before .before .before .before .before .before .before .before .before .before .before .before .before .before .before .before .read-file .ensures .1 (ok (c .before .before .before .before .before .before .before .before)))
 
@@ -74,9 +20,6 @@ returns : tie.Need-returns
 returns c = let f = c .before .before .before .before .before .before .before .before .before .before .before .before .before .before .before .before .before .before .before .before .before .args .file .now in
     let h = sym (c .before .before .before .before .before .before .before .before .before .before .before .read-file .ensures .0) ∙ c .before .before .checked .given .1 in
     (answer-refused f _ h _ (c .unread .ensures), bytes-refused f _ h _ _)
-
-same-length : tie.Need-same-length
-same-length c = search needs
 
 returns-2 : tie.Need-returns-2
 returns-2 c = let a = c .before .before .before .before .before .before .before .before .before .before .before .before .before .before .before .before .before .before .before .before .before .before .before .before .before .before .before .before .before .before .args in
@@ -89,25 +32,25 @@ pub file-remove-spec : {M : Type 1} → statement M
 file-remove-spec =
     tie.close
     (tie.spec
-    slice-aggregate-read-file
-    slice-aggregate-read-file-2
-    slice-aggregate-read-file-3
-    slice-aggregate-read-file-4
-    slice-aggregate-read-file-5
-    slice-aggregate-read-file-6
-    slice-aggregate-read-file-7
-    read-file-requires
-    enum-known-checked
-    unread-requires
-    enum-told
-    slice-aggregate-remove-accepted
-    slice-aggregate-remove-accepted-2
-    slice-aggregate-remove-accepted-3
-    slice-aggregate-remove-accepted-4
-    slice-aggregate-remove-accepted-5
-    slice-aggregate-remove-accepted-6
-    slice-aggregate-remove-accepted-7
+    (λ c. search needs)
+    (λ c. search needs)
+    (λ c. search needs)
+    (λ c. search needs)
+    (λ c. search needs)
+    (λ c. search needs)
+    (λ c. search needs)
+    (λ c κs. search needs)
+    (λ c. search needs)
+    (λ c κs. search needs)
+    (λ c. search needs)
+    (λ c. search needs)
+    (λ c. search needs)
+    (λ c. search needs)
+    (λ c. search needs)
+    (λ c. search needs)
+    (λ c. search needs)
+    (λ c. search needs)
     remove-accepted-requires
     returns
-    same-length
+    (λ c. search needs)
     returns-2)

@@ -25,29 +25,11 @@ inside c = of-edges (getD (c .before .before .before .before .before .before .be
 find-pair-requires : tie.Need-find-pair-requires
 find-pair-requires c κs = (stored (fileContent (c .before .before .before .before .before .before .before .before .args .file .now)), lent (c .before .before .before .before .before .before .before .before))
 
-enum-known-found : tie.Need-enum-known-found
-enum-known-found c = search needs
-
-enum-known-found-2 : tie.Need-enum-known-found-2
-enum-known-found-2 c = search needs
-
-index-requires : tie.Need-index-requires
-index-requires c κs = search needs
-
 file-edge-requires : tie.Need-file-edge-requires
 file-edge-requires c κs = (c .before .before .before .before .before .before .before .before .before .before .before .before .before .before .pre .0, c .before .before .before .before .before .before .before .before .before .before .before .before .before .before .pre .1, omega (arith, c .index .ensures .0, inside (c .before .before .before) .0))
 
-index-requires-2 : tie.Need-index-requires-2
-index-requires-2 c κs = search needs
-
 file-edge-requires-2 : tie.Need-file-edge-requires-2
 file-edge-requires-2 c κs = (c .before .before .before .before .before .before .before .before .before .before .before .before .before .before .before .before .before .pre .0, c .before .before .before .before .before .before .before .before .before .before .before .before .before .before .before .before .before .pre .1, omega (arith, c .index2 .ensures .0, inside (c .before .before .before .before .before .before) .1))
-
-array-read-join-pair : tie.Need-array-read-join-pair
-array-read-join-pair c = search needs
-
-join-pair-requires : tie.Need-join-pair-requires
-join-pair-requires c κs = search needs
 
 returns : tie.Need-returns
 returns c = let s = c .before .before .before .before .before .before .before .before .before .before .before .before in
@@ -66,13 +48,13 @@ judge-file-spec =
     tie.close
     (tie.spec
     find-pair-requires
-    enum-known-found
-    enum-known-found-2
-    index-requires
+    (λ c. search needs)
+    (λ c. search needs)
+    (λ c κs. search needs)
     file-edge-requires
-    index-requires-2
+    (λ c κs. search needs)
     file-edge-requires-2
-    array-read-join-pair
-    join-pair-requires
+    (λ c. search needs)
+    (λ c κs. search needs)
     returns
     returns-2)

@@ -23,36 +23,6 @@ lent c = file-lent (c .before .before .before .before .before .before .before .b
 counts-of-requires : tie.Need-counts-of-requires
 counts-of-requires c κs = let s = c .before .before .before .before .before .before .before .before .before in table-long (s .args .file .now) (table-right (s .args .file .now) (s .pre .0))
 
-judge-file-requires : tie.Need-judge-file-requires
-judge-file-requires c κs = search needs
-
-enum-known-judged : tie.Need-enum-known-judged
-enum-known-judged c = search needs
-
-edit-number-requires : tie.Need-edit-number-requires
-edit-number-requires c κs = search needs
-
-refused-requires : tie.Need-refused-requires
-refused-requires c κs = search needs
-
-enum-known-judged-2 : tie.Need-enum-known-judged-2
-enum-known-judged-2 c = search needs
-
-array-read-put-tables : tie.Need-array-read-put-tables
-array-read-put-tables c = search needs
-
-array-read-put-tables-2 : tie.Need-array-read-put-tables-2
-array-read-put-tables-2 c = search needs
-
-array-read-put-tables-3 : tie.Need-array-read-put-tables-3
-array-read-put-tables-3 c = search needs
-
-slice-aggregate-put-tables : tie.Need-slice-aggregate-put-tables
-slice-aggregate-put-tables c = search needs
-
-slice-aggregate-put-tables-2 : tie.Need-slice-aggregate-put-tables-2
-slice-aggregate-put-tables-2 c = search needs
-
 put-tables-requires : tie.Need-put-tables-requires
 put-tables-requires c κs = let s = c .before .before .before .before .before .before .before .before .before .before .before .before .before .before .before .before in
     let a = s .args in
@@ -63,15 +33,6 @@ put-tables-requires c κs = let s = c .before .before .before .before .before .b
       tables p _ _ _ _ _ _ _ _ l,
       (omega (arith, wires-room p _ _ _ _ _ _ _ _ l .0, length-replicate {A = ℕ} 1024 0), omega (arith, uses-room p _ _ _ _ _ _ _ _ l .0, length-replicate {A = ℕ} 4096 0), removed-room (a .file .now) (s .pre .0) (a .n) (a .v) (a .out .now) _ _ _ _ _ _ _ _ l _ j h),
     )
-
-slice-aggregate-put-edited : tie.Need-slice-aggregate-put-edited
-slice-aggregate-put-edited c = search needs
-
-slice-aggregate-put-edited-2 : tie.Need-slice-aggregate-put-edited-2
-slice-aggregate-put-edited-2 c = search needs
-
-array-read-put-edited : tie.Need-array-read-put-edited
-array-read-put-edited c = search needs
 
 put-edited-requires : tie.Need-put-edited-requires
 put-edited-requires c κs = let s = c .before .before .before .before .before .before .before .before .before .before .before .before .before .before .before .before .before .before .before .before .before .before in
@@ -92,9 +53,6 @@ put-edited-requires c κs = let s = c .before .before .before .before .before .b
       ),
     )
 
-array-read-t30 : tie.Need-array-read-t30
-array-read-t30 c = search needs
-
 cast-t49 : tie.Need-cast-t49
 cast-t49 c = let s = c .before .before .before .before .before .before .before .before .before .before .before .before .before .before .before .before .before .before .before .before .before .before .before .before .before in
     let a = s .args in
@@ -103,17 +61,11 @@ cast-t49 c = let s = c .before .before .before .before .before .before .before .
     let h = c .before .before .before .before .before .before .before .before .before .before .before .before .judged2 .given .1 in
     omega (arith, removed-room (a .file .now) (s .pre .0) (a .n) (a .v) (a .out .now) _ _ _ _ _ _ _ _ l _ j h)
 
-join-values-requires : tie.Need-join-values-requires
-join-values-requires c κs = search needs
-
 returns : tie.Need-returns
 returns c = let s = c .before .before .before .before .before .before .before .before .before .before .before .before .before .before .before .before in
     let a = s .args in
     let t = removal-refused (a .file .now) (s .pre .0) (a .n) (a .v) (a .out .now) _ _ _ _ _ _ _ _ (lent (c .before .before .before .before .before .before)) _ (c .before .before .before .before .before .judge-file .ensures) (c .before .before .before .judged .given .1) in
     (c .refused .ensures ∙ ap (λ (x : ℕ). refused x 0) (c .before .edit-number .ensures) ∙ t .0, t .1)
-
-same-length : tie.Need-same-length
-same-length c = search needs
 
 returns-2 : tie.Need-returns-2
 returns-2 c = let s = c .before .before .before .before .before .before .before .before .before .before .before .before .before .before .before .before .before .before .before .before .before .before .before .before .before .before in
@@ -132,24 +84,24 @@ remove-accepted-spec =
     tie.close
     (tie.spec
     counts-of-requires
-    judge-file-requires
-    enum-known-judged
-    edit-number-requires
-    refused-requires
-    enum-known-judged-2
-    array-read-put-tables
-    array-read-put-tables-2
-    array-read-put-tables-3
-    slice-aggregate-put-tables
-    slice-aggregate-put-tables-2
+    (λ c κs. search needs)
+    (λ c. search needs)
+    (λ c κs. search needs)
+    (λ c κs. search needs)
+    (λ c. search needs)
+    (λ c. search needs)
+    (λ c. search needs)
+    (λ c. search needs)
+    (λ c. search needs)
+    (λ c. search needs)
     put-tables-requires
-    slice-aggregate-put-edited
-    slice-aggregate-put-edited-2
-    array-read-put-edited
+    (λ c. search needs)
+    (λ c. search needs)
+    (λ c. search needs)
     put-edited-requires
-    array-read-t30
+    (λ c. search needs)
     cast-t49
-    join-values-requires
+    (λ c κs. search needs)
     returns
-    same-length
+    (λ c. search needs)
     returns-2)

@@ -4,24 +4,6 @@ use borrow.Author.Needs.{needs}
 use Rattle.file_reports.proofs.file_openings.Statement.{statement}
 use Rattle.file_reports.proofs.file_openings.Tie as tie
 
-read-requires : tie.Need-read-requires
-read-requires c κs = search needs
-
-enum-known-checked : tie.Need-enum-known-checked
-enum-known-checked c = search needs
-
-unread-requires : tie.Need-unread-requires
-unread-requires c κs = search needs
-
-enum-told : tie.Need-enum-told
-enum-told c = search needs
-
-extract-boundaries-requires : tie.Need-extract-boundaries-requires
-extract-boundaries-requires c κs = search needs
-
-openings-values-requires : tie.Need-openings-values-requires
-openings-values-requires c κs = search needs
-
 returns : tie.Need-returns
 unfolding flat
 returns c = rw (← c .before .before .before .before .read .ensures, c .before .before .checked .given .1) (c .unread .ensures, (refl, refl))
@@ -33,11 +15,11 @@ pub file-openings-spec : {M : Type 1} → statement M
 file-openings-spec =
     tie.close
     (tie.spec
-    read-requires
-    enum-known-checked
-    unread-requires
-    enum-told
-    extract-boundaries-requires
-    openings-values-requires
+    (λ c κs. search needs)
+    (λ c. search needs)
+    (λ c κs. search needs)
+    (λ c. search needs)
+    (λ c κs. search needs)
+    (λ c κs. search needs)
     returns
     returns-2)

@@ -7,29 +7,8 @@ use Rattle.file_reports.proofs.Read.{after-accepted, when-accepted}
 use Rattle.file_reports.proofs.rewrite_file.Statement.{statement}
 use Rattle.file_reports.proofs.rewrite_file.Tie as tie
 
-read-requires : tie.Need-read-requires
-read-requires c κs = search needs
-
-enum-known-checked : tie.Need-enum-known-checked
-enum-known-checked c = search needs
-
-unread-requires : tie.Need-unread-requires
-unread-requires c κs = search needs
-
-enum-told : tie.Need-enum-told
-enum-told c = search needs
-
-write-requires : tie.Need-write-requires
-write-requires c κs = search needs
-
-written-values-requires : tie.Need-written-values-requires
-written-values-requires c κs = search needs
-
 returns : tie.Need-returns
 returns c = rw (← c .before .before .before .before .read .ensures, c .before .before .checked .given .1) (c .unread .ensures, refl)
-
-same-length : tie.Need-same-length
-same-length c = search needs
 
 returns-2 : tie.Need-returns-2
 returns-2 c =
@@ -45,12 +24,12 @@ pub rewrite-file-spec : {M : Type 1} → statement M
 rewrite-file-spec =
     tie.close
     (tie.spec
-    read-requires
-    enum-known-checked
-    unread-requires
-    enum-told
-    write-requires
-    written-values-requires
+    (λ c κs. search needs)
+    (λ c. search needs)
+    (λ c κs. search needs)
+    (λ c. search needs)
+    (λ c κs. search needs)
+    (λ c κs. search needs)
     returns
-    same-length
+    (λ c. search needs)
     returns-2)

@@ -26,35 +26,11 @@ start-is s b h = ap (λ (l : List ℕ). getD l b 0) (s .pre .1) ∙ getD-tabulat
 loop-holds : tie.Need-loop-holds Inv-loop μ-loop
 loop-holds c = (omega arith, passed-start (offsetFault (fileCounts (c .before .args .s .now))) 0 _ 0)
 
-mul-u32-at : tie.Need-mul-u32-at Inv-loop μ-loop
-mul-u32-at c = search needs
-
-u32-at-requires : tie.Need-u32-at-requires Inv-loop μ-loop
-u32-at-requires c κs = search needs
-
-cast-if1 : tie.Need-cast-if1 Inv-loop μ-loop
-cast-if1 c = search needs
-
-mul-if1 : tie.Need-mul-if1 Inv-loop μ-loop
-mul-if1 c = search needs
-
-array-read-if1 : tie.Need-array-read-if1 Inv-loop μ-loop
-array-read-if1 c = search needs
-
 returns : tie.Need-returns Inv-loop μ-loop
 returns c = wrong-offset (c .before .before .before .before .before .args .s .now) (c .before .before .before .loop .b) (c .before .before .before .loop .inv .1) (c .before .before .loop-test .taken) (λ e. c .if1 .taken (c .before .u32-at .ensures ∙ e ∙ sym (start-is (c .before .before .before .before .before) (c .before .before .before .loop .b) (omega arith))))
 
-add-b : tie.Need-add-b Inv-loop μ-loop
-add-b c = search needs
-
-loop-less : tie.Need-loop-less Inv-loop μ-loop
-loop-less c = search needs
-
 loop-again : tie.Need-loop-again Inv-loop μ-loop
 loop-again c = (omega arith, right-offset (c .before .before .before .before .before .args .s .now) (c .before .before .before .loop .b) (c .before .before .before .loop .inv .1) (c .before .before .loop-test .taken) (sym (c .before .u32-at .ensures) ∙ c .if1 .left ∙ start-is (c .before .before .before .before .before) (c .before .before .before .loop .b) (omega arith)))
-
-array-read-if2 : tie.Need-array-read-if2 Inv-loop μ-loop
-array-read-if2 c = search needs
 
 returns-2 : tie.Need-returns-2 Inv-loop μ-loop
 returns-2 c = wrong-end (c .before .before .before .before .args .s .now) (c .before .before .loop .b) (c .before .before .loop .inv .1) (c .before .loop-test .left) (λ e. c .if2 .taken (e ∙ sym (start-is (c .before .before .before .before) 7 (omega arith))))
@@ -69,15 +45,15 @@ check-offsets-spec =
     Inv-loop
     μ-loop
     loop-holds
-    mul-u32-at
-    u32-at-requires
-    cast-if1
-    mul-if1
-    array-read-if1
+    (λ c. search needs)
+    (λ c κs. search needs)
+    (λ c. search needs)
+    (λ c. search needs)
+    (λ c. search needs)
     returns
-    add-b
-    loop-less
+    (λ c. search needs)
+    (λ c. search needs)
     loop-again
-    array-read-if2
+    (λ c. search needs)
     returns-2
     returns-3)

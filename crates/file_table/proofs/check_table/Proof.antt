@@ -29,32 +29,17 @@ longest-is c =
 first-is : (c : tie.After-starts-of) → c .before .before .file-layout .result .first ≡ layout .first
 first-is c = ap (λ (l : Layout). l .first) (c .before .before .file-layout .ensures)
 
-file-layout-requires : tie.Need-file-layout-requires
-file-layout-requires c κs = search needs
-
 starts-of-requires : tie.Need-starts-of-requires
 starts-of-requires c κs = limits-pass (c .before .file-layout .result) (c .before .file-layout .ensures)
 
 returns : tie.Need-returns
 returns c = too-short (c .before .before .before .before .before .before .args .s .now) (omega (arith, first-is (c .before .before)))
 
-array-read-if2 : tie.Need-array-read-if2
-array-read-if2 c = search needs
-
 returns-2 : tie.Need-returns-2
 returns-2 c = too-long (c .before .before .before .before .before .before .before .args .s .now) (omega (arith, first-is (c .before .before .before))) (omega (arith, longest-is (c .before .before .before)))
 
 counts-of-requires : tie.Need-counts-of-requires
 counts-of-requires c κs = omega (arith, first-is (c .before .before .before))
-
-check-counts-requires : tie.Need-check-counts-requires
-check-counts-requires c κs = search needs
-
-enum-known-answer : tie.Need-enum-known-answer
-enum-known-answer c = search needs
-
-enum-told : tie.Need-enum-told
-enum-told c = search needs
 
 starts-of-requires-2 : tie.Need-starts-of-requires-2
 starts-of-requires-2 c κs = accepted-none (countFaults (c .before .before .before .counts-of .result)) (sym (c .before .before .check-counts .ensures) ∙ c .enum-told .given .1)
@@ -72,15 +57,15 @@ pub check-table-spec : {M : Type 1} → statement M
 check-table-spec =
     tie.close
     (tie.spec
-    file-layout-requires
+    (λ c κs. search needs)
     starts-of-requires
     returns
-    array-read-if2
+    (λ c. search needs)
     returns-2
     counts-of-requires
-    check-counts-requires
-    enum-known-answer
-    enum-told
+    (λ c κs. search needs)
+    (λ c. search needs)
+    (λ c. search needs)
     starts-of-requires-2
     check-offsets-requires
     returns-3

@@ -5,20 +5,11 @@ use Rattle.forms.proofs.Tokens.{below-is, below-not}
 use Rattle.forms.proofs.below.Statement.{statement}
 use Rattle.forms.proofs.below.Tie as tie
 
-enum-told : tie.Need-enum-told
-enum-told c = search needs
-
-enum-known-number : tie.Need-enum-known-number
-enum-known-number c = search needs
-
 returns : tie.Need-returns
 returns c = sym (below-is (c .before .before .number .given .1) (c .if1 .taken))
-
-returns-2 : tie.Need-returns-2
-returns-2 c = search needs
 
 returns-3 : tie.Need-returns-3
 returns-3 c = sym (below-not (c .before .before .number .given .1) (c .if1 .left))
 
 pub below-spec : {M : Type 1} → statement M
-below-spec = tie.close (tie.spec enum-told enum-known-number returns returns-2 returns-3)
+below-spec = tie.close (tie.spec (λ c. search needs) (λ c. search needs) returns (λ c. search needs) returns-3)

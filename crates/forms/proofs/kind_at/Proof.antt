@@ -6,12 +6,6 @@ use Rattle.lists.proofs.Flat.{getD-any}
 use Rattle.forms.proofs.kind_at.Statement.{statement}
 use Rattle.forms.proofs.kind_at.Tie as tie
 
-mul-result : tie.Need-mul-result
-mul-result c = search needs
-
-shared-slice-read-result : tie.Need-shared-slice-read-result
-shared-slice-read-result c = search needs
-
 returns : tie.Need-returns
 returns c = getD-any (c .before .before .args .kinds .now) (c .before .before .args .i) 0 (c .before .before .args .rest) (c .before .if1 .taken)
 
@@ -19,4 +13,4 @@ returns-2 : tie.Need-returns-2
 returns-2 c = sym (List·getD-eq-default (c .before .args .kinds .now) (c .before .args .rest) (c .if1 .left))
 
 pub kind-at-spec : {M : Type 1} → statement M
-kind-at-spec = tie.close (tie.spec mul-result shared-slice-read-result returns returns-2)
+kind-at-spec = tie.close (tie.spec (λ c. search needs) (λ c. search needs) returns returns-2)

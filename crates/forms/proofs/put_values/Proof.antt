@@ -35,38 +35,11 @@ room c =
 loop-holds : tie.Need-loop-holds Inv-loop μ-loop
 loop-holds c = (c .before .before .before .pre .0, reading-start (c .before .before .before .args .kinds .now) (c .before .before .before .args .rest) (words (drop (c .before .before .before .args .from) (c .before .before .before .args .line .now))) (c .before .before .before .args .out .now))
 
-word-start-requires : tie.Need-word-start-requires Inv-loop μ-loop
-word-start-requires c κs = search needs
-
-word-end-requires : tie.Need-word-end-requires Inv-loop μ-loop
-word-end-requires c κs = search needs
-
-kind-at-requires : tie.Need-kind-at-requires Inv-loop μ-loop
-kind-at-requires c κs = search needs
-
-sub-token-of : tie.Need-sub-token-of Inv-loop μ-loop
-sub-token-of c = search needs
-
-part-token-of-start : tie.Need-part-token-of-start Inv-loop μ-loop
-part-token-of-start c = search needs
-
-part-token-of-end : tie.Need-part-token-of-end Inv-loop μ-loop
-part-token-of-end c = search needs
-
-token-of-requires : tie.Need-token-of-requires Inv-loop μ-loop
-token-of-requires c κs = search needs
-
-enum-told : tie.Need-enum-told Inv-loop μ-loop
-enum-told c = search needs
-
 same-length : tie.Need-same-length Inv-loop μ-loop
 same-length c = reading-long (c .before .before .before .before .before .before .before .before .before .loop .inv .1)
 
 returns : tie.Need-returns Inv-loop μ-loop
 returns c = reading-not (c .before .before .before .before .before .before .before .before .before .loop .inv .1) (word (c .before .before .before .before .before) .0) (c .before .before .before .before .kind-at .ensures) (c .before .before .token-of .ensures) (c .enum-told .given .1)
-
-enum-known-read : tie.Need-enum-known-read Inv-loop μ-loop
-enum-known-read c = search needs
 
 mul-out : tie.Need-mul-out Inv-loop μ-loop
 mul-out c = let h = room (c .before .before .before .before .before .before) .0 in search needs
@@ -102,17 +75,17 @@ put-values-spec =
     Inv-loop
     μ-loop
     loop-holds
-    word-start-requires
-    word-end-requires
-    kind-at-requires
-    sub-token-of
-    part-token-of-start
-    part-token-of-end
-    token-of-requires
-    enum-told
+    (λ c κs. search needs)
+    (λ c κs. search needs)
+    (λ c κs. search needs)
+    (λ c. search needs)
+    (λ c. search needs)
+    (λ c. search needs)
+    (λ c κs. search needs)
+    (λ c. search needs)
     same-length
     returns
-    enum-known-read
+    (λ c. search needs)
     mul-out
     slice-write-out
     add-i

@@ -19,65 +19,32 @@ by-name c =
 returns : tie.Need-returns
 returns c = sym (token-none (c .before .before .args .k) (c .before .before .args .word .now) (c .if1 .taken))
 
-number-of-requires : tie.Need-number-of-requires
-number-of-requires c κs = search needs
-
 returns-2 : tie.Need-returns-2
 returns-2 c = c .number-of .ensures ∙ sym (token-number (c .before .before .before .before .args .k) (c .before .before .before .before .args .word .now) (c .before .if2 .taken))
-
-signed-of-requires : tie.Need-signed-of-requires
-signed-of-requires c κs = search needs
 
 returns-3 : tie.Need-returns-3
 returns-3 c = c .signed-of .ensures ∙ sym (token-signed (c .before .before .before .before .before .args .k) (c .before .before .before .before .before .args .word .now) (c .before .if3 .taken))
 
-real-of-requires : tie.Need-real-of-requires
-real-of-requires c κs = search needs
-
 returns-4 : tie.Need-returns-4
 returns-4 c = c .real-of .ensures ∙ sym (token-real (c .before .before .before .before .before .before .args .k) (c .before .before .before .before .before .before .args .word .now) (c .before .if4 .taken))
-
-name-of-requires : tie.Need-name-of-requires
-name-of-requires c κs = search needs
 
 returns-5 : tie.Need-returns-5
 returns-5 c = sym (token-nowhere (c .before .before .before .before .before .before .before .before .args .k) (c .before .before .before .before .before .before .before .before .args .word .now) (c .before .before .if5 .taken) (c .before .name-of .ensures) (c .if6 .taken))
 
-real-of-requires-2 : tie.Need-real-of-requires-2
-real-of-requires-2 c κs = search needs
-
 returns-6 : tie.Need-returns-6
 returns-6 c = c .real-of2 .ensures ∙ sym (token-parameter (c .before .before .before .before .before .before .before .before .before .args .k) (c .before .before .before .before .before .before .before .before .before .args .word .now) (c .before .before .before .if5 .taken) (c .before .before .name-of .ensures) (c .before .if6 .left))
-
-name-of-requires-2 : tie.Need-name-of-requires-2
-name-of-requires-2 c κs = search needs
 
 returns-7 : tie.Need-returns-7
 returns-7 c = sym (token-wire (c .before .before .before .before .before .before .before .before .before .args .k) (c .before .before .before .before .before .before .before .before .before .args .word .now) (c .before .before .if7 .taken) (c .before .name-of2 .ensures) (c .if8 .taken))
 
-signed-of-requires-2 : tie.Need-signed-of-requires-2
-signed-of-requires-2 c κs = search needs
-
 returns-8 : tie.Need-returns-8
 returns-8 c = c .signed-of2 .ensures ∙ sym (token-use (c .before .before .before .before .before .before .before .before .before .before .args .k) (c .before .before .before .before .before .before .before .before .before .before .args .word .now) (c .before .before .before .if7 .taken) (c .before .before .name-of2 .ensures) (c .before .if8 .left))
-
-number-of-requires-2 : tie.Need-number-of-requires-2
-number-of-requires-2 c κs = search needs
-
-below-requires : tie.Need-below-requires
-below-requires c κs = search needs
 
 returns-9 : tie.Need-returns-9
 returns-9 c = c .below .ensures ∙ rw (c .before .number-of2 .ensures) (sym (token-short (c .before .before .before .before .before .before .before .before .before .before .args .k) (c .before .before .before .before .before .before .before .before .before .before .args .word .now) (c .before .before .if9 .taken)))
 
-label-of-requires : tie.Need-label-of-requires
-label-of-requires c κs = search needs
-
 returns-10 : tie.Need-returns-10
 returns-10 c = c .label-of .ensures ∙ sym (token-label (c .before .before .before .before .before .before .before .before .before .before .args .k) (c .before .before .before .before .before .before .before .before .before .before .args .word .now) (c .before .if10 .taken))
-
-name-of-requires-3 : tie.Need-name-of-requires-3
-name-of-requires-3 c κs = search needs
 
 returns-11 : tie.Need-returns-11
 returns-11 c = sym (by-name (c .before) ∙ rw (eq-eqb _ _ (c .if11 .taken)))
@@ -90,25 +57,25 @@ token-of-spec =
     tie.close
     (tie.spec
     returns
-    number-of-requires
+    (λ c κs. search needs)
     returns-2
-    signed-of-requires
+    (λ c κs. search needs)
     returns-3
-    real-of-requires
+    (λ c κs. search needs)
     returns-4
-    name-of-requires
+    (λ c κs. search needs)
     returns-5
-    real-of-requires-2
+    (λ c κs. search needs)
     returns-6
-    name-of-requires-2
+    (λ c κs. search needs)
     returns-7
-    signed-of-requires-2
+    (λ c κs. search needs)
     returns-8
-    number-of-requires-2
-    below-requires
+    (λ c κs. search needs)
+    (λ c κs. search needs)
     returns-9
-    label-of-requires
+    (λ c κs. search needs)
     returns-10
-    name-of-requires-3
+    (λ c κs. search needs)
     returns-11
     returns-12)

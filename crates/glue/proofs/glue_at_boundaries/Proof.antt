@@ -7,26 +7,11 @@ use Rattle.pattern.specs.Checks.{patternFaults}
 use Rattle.errors.proofs.Laws.{accepted-none}
 use Rattle.glue.proofs.Faces.{reading-passed, reading-refused}
 
-check-requires : tie.Need-check-requires
-check-requires c κs = search needs
-
-enum-known-answer : tie.Need-enum-known-answer
-enum-known-answer c = search needs
-
-enum-told : tie.Need-enum-told
-enum-told c = search needs
-
 glue-checked-requires : tie.Need-glue-checked-requires
 glue-checked-requires c κs = accepted-none (patternFaults (c .before .before .before .before .before .before .before .args .p)) (sym (c .before .before .before .before .check .ensures) ∙ c .before .before .enum-told .given .1)
 
 returns : tie.Need-returns
 returns c = reading-refused _ (c .before .before .before .before .before .before .args .f) (c .before .before .before .before .before .before .args .g) _ _ _ (sym (c .before .before .before .check .ensures) ∙ c .before .answer .given .1)
-
-same-length : tie.Need-same-length
-same-length c = search needs
-
-same-length-2 : tie.Need-same-length-2
-same-length-2 c = search needs
 
 returns-2 : tie.Need-returns-2
 returns-2 c = reading-passed _ (c .before .before .before .before .before .before .before .before .before .before .before .before .args .f) (c .before .before .before .before .before .before .before .before .before .before .before .before .args .g) _ _ (accepted-none (patternFaults (c .before .before .before .before .before .before .before .before .before .before .before .before .args .p)) (sym (c .before .before .before .before .before .before .before .before .before .check .ensures) ∙ c .before .before .before .before .before .before .before .enum-told .given .1)) _ _ _ (c .before .before .before .before .glue-checked .ensures)
@@ -35,11 +20,11 @@ pub glue-at-boundaries-spec : {M : Type 1} → statement M
 glue-at-boundaries-spec =
     tie.close
     (tie.spec
-    check-requires
-    enum-known-answer
-    enum-told
+    (λ c κs. search needs)
+    (λ c. search needs)
+    (λ c. search needs)
     glue-checked-requires
     returns
-    same-length
-    same-length-2
+    (λ c. search needs)
+    (λ c. search needs)
     returns-2)

@@ -32,29 +32,14 @@ good s = fine (s .args .t1) (s .pre) (seven s) (full s)
 counted : (s : tie.Start) → length (content (s .args .t1) .faces) ≡ getD (s .args .t1 .counts) 4 0
 counted s = faces-counted (s .args .t1) (good s .limits) (full s)
 
-element-copy-out-faces : tie.Need-element-copy-out-faces
-element-copy-out-faces c = search needs
-
-index-requires : tie.Need-index-requires
-index-requires c κs = search needs
-
-index-requires-2 : tie.Need-index-requires-2
-index-requires-2 c κs = search needs
-
 returns : tie.Need-returns
 returns c = first-3 (c .before .before .before .before .before .before .args .t1) (c .before .before .before .before .before .before .args .f) (c .before .before .before .before .before .before .args .g) _ _ _ (counted (c .before .before .before .before .before .before)) (omega (arith, c .if1 .taken, c .before .before .index .ensures .0))
 
 returns-2 : tie.Need-returns-2
 returns-2 c = second-3 (c .before .before .before .before .before .before .before .args .t1) (c .before .before .before .before .before .before .before .args .f) (c .before .before .before .before .before .before .before .args .g) _ _ _ (counted (c .before .before .before .before .before .before .before)) (omega (arith, c .if2 .taken, c .before .before .index2 .ensures .0))
 
-mul-a : tie.Need-mul-a
-mul-a c = search needs
-
 element-copy-out-a : tie.Need-element-copy-out-a
 element-copy-out-a c = omega (arith, c .before .if1 .left, good (c .before .before .before .before .before .before .before) .limits .faces)
-
-mul-b : tie.Need-mul-b
-mul-b c = search needs
 
 element-copy-out-b : tie.Need-element-copy-out-b
 element-copy-out-b c = omega (arith, c .before .if2 .left, good (c .before .before .before .before .before .before .before .before) .limits .faces)
@@ -68,12 +53,6 @@ returns-4 c = sign-20 (c .before .before .before .before .before .before .before
 glue-faces-requires : tie.Need-glue-faces-requires
 glue-faces-requires c κs = (c .before .before .before .before .before .before .before .before .before .before .before .before .before .before .before .pre, (omega (arith, c .before .before .before .before .before .before .before .before .before .if1 .left, c .before .before .before .before .before .before .before .before .before .before .before .index .ensures .0), omega (arith, c .before .before .before .before .before .before .before .before .if2 .left, c .before .before .before .before .before .before .before .before .before .before .index2 .ensures .0)))
 
-same-length : tie.Need-same-length
-same-length c = search needs
-
-same-length-2 : tie.Need-same-length-2
-same-length-2 c = search needs
-
 returns-5 : tie.Need-returns-5
 returns-5 c = alike-rest (c .before .before .before .before .before .before .before .before .before .before .before .before .before .before .before .before .before .before .before .before .args .t1) (c .before .before .before .before .before .before .before .before .before .before .before .before .before .before .before .before .before .before .before .before .args .f) (c .before .before .before .before .before .before .before .before .before .before .before .before .before .before .before .before .before .before .before .before .args .g) _ _ _ (counted (c .before .before .before .before .before .before .before .before .before .before .before .before .before .before .before .before .before .before .before .before)) (omega (arith, c .before .before .before .before .before .before .before .before .before .before .before .before .before .before .if1 .left, c .before .before .before .before .before .before .before .before .before .before .before .before .before .before .before .before .index .ensures .0)) (omega (arith, c .before .before .before .before .before .before .before .before .before .before .before .before .before .if2 .left, c .before .before .before .before .before .before .before .before .before .before .before .before .before .before .before .index2 .ensures .0)) refl _ _ (c .before .before .before .before .before .before .before .before .before .before .before .before .before .before .before .before .index .ensures .0) (c .before .before .before .before .before .before .before .before .before .before .before .before .before .before .before .index2 .ensures .0) (c .before .before .before .before .before .before .before .before .if3 .left) (c .before .before .before .before .before .before .before .if4 .left) _ _ _ (c .before .before .before .before .glue-faces .ensures)
 
@@ -81,18 +60,18 @@ pub glue-checked-spec : {M : Type 1} → statement M
 glue-checked-spec =
     tie.close
     (tie.spec
-    element-copy-out-faces
-    index-requires
-    index-requires-2
+    (λ c. search needs)
+    (λ c κs. search needs)
+    (λ c κs. search needs)
     returns
     returns-2
-    mul-a
+    (λ c. search needs)
     element-copy-out-a
-    mul-b
+    (λ c. search needs)
     element-copy-out-b
     returns-3
     returns-4
     glue-faces-requires
-    same-length
-    same-length-2
+    (λ c. search needs)
+    (λ c. search needs)
     returns-5)

@@ -19,9 +19,6 @@ loop-holds c = chaining-start _ _ _ _ _ (c .before .before .before .before .befo
 chain-at-requires : tie.Need-chain-at-requires Inv-loop μ-loop
 chain-at-requires c κs = (c .before .before .before .loop-test .taken, c .before .before .before .before .loop .inv .room)
 
-add-q : tie.Need-add-q Inv-loop μ-loop
-add-q c = search needs
-
 loop-less : tie.Need-loop-less Inv-loop μ-loop
 loop-less c = omega (arith, c .before .before .before .before .before .before .before .before .before .before .before .loop .inv .long, c .before .before .before .before .before .before .before .before .before .before .loop-test .taken)
 
@@ -48,7 +45,7 @@ chain-all-spec =
     μ-loop
     loop-holds
     chain-at-requires
-    add-q
+    (λ c. search needs)
     loop-less
     loop-again
     same-length

@@ -16,23 +16,11 @@ abbrev μ-loop : tie.MeasureT-loop
 loop-holds : tie.Need-loop-holds Inv-loop μ-loop
 loop-holds c = keeping-start _ _ _ _ (c .before .before .before .before .pre .0) (c .before .before .before .before .pre .1)
 
-mul-u : tie.Need-mul-u Inv-loop μ-loop
-mul-u c = search needs
-
-shared-slice-read-u : tie.Need-shared-slice-read-u Inv-loop μ-loop
-shared-slice-read-u c = search needs
-
 front-of-requires : tie.Need-front-of-requires Inv-loop μ-loop
 front-of-requires c κs = keeping-edge _ _ _ _ (c .before .before .before .before .before .before .before .pre .0) _ _ (c .before .before .loop .inv) _ (c .before .loop-test .taken) refl
 
 keep-at-requires : tie.Need-keep-at-requires Inv-loop μ-loop
 keep-at-requires c κs = keeping-front _ _ _ _ (c .before .before .before .before .before .before .before .before .before .pre .0) _ _ (c .before .before .before .before .loop .inv) _ (c .before .before .before .loop-test .taken) refl _ (c .before .front-of .ensures)
-
-add-i : tie.Need-add-i Inv-loop μ-loop
-add-i c = search needs
-
-loop-less : tie.Need-loop-less Inv-loop μ-loop
-loop-less c = search needs
 
 loop-again : tie.Need-loop-again Inv-loop μ-loop
 loop-again c = keeping-next _ _ _ _ (c .before .before .before .before .before .before .before .before .before .before .before .before .pre .0) _ _ (c .before .before .before .before .before .before .before .loop .inv) _ (c .before .before .before .before .before .before .loop-test .taken) refl _ (c .before .before .before .before .front-of .ensures) _ (c .before .before .keep-at .ensures)
@@ -50,12 +38,12 @@ keep-face-spec =
     Inv-loop
     μ-loop
     loop-holds
-    mul-u
-    shared-slice-read-u
+    (λ c. search needs)
+    (λ c. search needs)
     front-of-requires
     keep-at-requires
-    add-i
-    loop-less
+    (λ c. search needs)
+    (λ c. search needs)
     loop-again
     same-length
     returns)

@@ -17,12 +17,6 @@ abbrev μ-loop : tie.MeasureT-loop
 loop-holds : tie.Need-loop-holds Inv-loop μ-loop
 loop-holds c = meeting-start _ _ _ _ (c .before .before .before .before .pre .0) (c .before .before .before .before .pre .1)
 
-mul-meet-use : tie.Need-mul-meet-use Inv-loop μ-loop
-mul-meet-use c = search needs
-
-shared-slice-read-meet-use : tie.Need-shared-slice-read-meet-use Inv-loop μ-loop
-shared-slice-read-meet-use c = search needs
-
 meet-use-requires : tie.Need-meet-use-requires Inv-loop μ-loop
 meet-use-requires c κs = (c .before .before .before .before .before .before .before .before .pre .0 .ends, (meeting-fits _ _ _ _ (c .before .before .before .before .before .before .before .before .pre .0) _ _ (c .before .before .before .loop .inv) (c .before .before .loop-test .taken), c .before .before .before .loop .inv .holding))
 
@@ -31,12 +25,6 @@ same-length c = c .before .before .before .meet-use .kept .0 ∙ c .before .befo
 
 returns : tie.Need-returns Inv-loop μ-loop
 returns c = (meeting-stop _ _ _ _ (c .before .before .before .before .before .before .before .before .before .before .before .before .pre .0) _ _ (c .before .before .before .before .before .before .before .loop .inv) (c .before .before .before .before .before .before .loop-test .taken) _ (c .before .before .before .meet-use .ensures .1) (c .before .before .before .meet-use .result) (c .before .before .before .meet-use .ensures .0) (not-true (c .before .before .before .meet-use .result) (c .if1 .taken)), c .before .before .before .meet-use .ensures .1)
-
-add-i : tie.Need-add-i Inv-loop μ-loop
-add-i c = search needs
-
-loop-less : tie.Need-loop-less Inv-loop μ-loop
-loop-less c = search needs
 
 loop-again : tie.Need-loop-again Inv-loop μ-loop
 loop-again c = meeting-next _ _ _ _ (c .before .before .before .before .before .before .before .before .before .before .before .before .pre .0) _ _ (c .before .before .before .before .before .before .before .loop .inv) (c .before .before .before .before .before .before .loop-test .taken) _ (c .before .before .before .meet-use .ensures .1) (c .before .before .before .meet-use .result) (c .before .before .before .meet-use .ensures .0) (not-false (c .before .before .before .meet-use .result) (c .if1 .left)) (c .before .before .before .meet-use .kept .0)
@@ -54,13 +42,13 @@ meet-all-spec =
     Inv-loop
     μ-loop
     loop-holds
-    mul-meet-use
-    shared-slice-read-meet-use
+    (λ c. search needs)
+    (λ c. search needs)
     meet-use-requires
     same-length
     returns
-    add-i
-    loop-less
+    (λ c. search needs)
+    (λ c. search needs)
     loop-again
     same-length-2
     returns-2)

@@ -13,35 +13,17 @@ front-of-requires c κs = edge-named _ _ (c .before .before .before .pre .0) _ _
 back-of-requires : tie.Need-back-of-requires
 back-of-requires c κs = edge-named _ _ (c .before .before .before .before .pre .0) _ _ (c .before .before .before .before .pre .1 .0)
 
-mul-v : tie.Need-mul-v
-mul-v c = search needs
-
-slice-read-v : tie.Need-slice-read-v
-slice-read-v c = search needs
-
 ends-at-requires : tie.Need-ends-at-requires
 ends-at-requires c κs = λ n. there-edge _ _ _ _ (c .before .before .before .before .before .before .pre .0) (c .before .before .before .before .before .before .pre .1 .0) (c .before .before .before .before .before .before .pre .1 .1) _ _ (c .before .before .front-of .ensures) (c .before .back-of .ensures) _ refl n
 
 keep-at-requires : tie.Need-keep-at-requires
 keep-at-requires c κs = front-place _ _ _ _ (c .before .before .before .before .before .before .before .before .before .pre .0) (c .before .before .before .before .before .before .before .before .before .pre .1 .0) (c .before .before .before .before .before .before .before .before .before .pre .1 .1) _ _ (c .before .before .before .before .before .front-of .ensures) (c .before .before .before .before .back-of .ensures)
 
-same-length : tie.Need-same-length
-same-length c = search needs
-
 returns : tie.Need-returns
 returns c = (met-kept _ _ _ _ (c .before .before .before .before .before .before .before .before .before .before .before .before .pre .0) (c .before .before .before .before .before .before .before .before .before .before .before .before .pre .1 .0) (c .before .before .before .before .before .before .before .before .before .before .before .before .pre .1 .1) _ _ (c .before .before .before .before .before .before .before .before .front-of .ensures) (c .before .before .before .before .before .before .before .back-of .ensures) _ refl (c .before .before .before .before .before .ends-at .result) (c .before .before .before .before .before .ends-at .ensures) (not-true (c .before .before .before .before .before .ends-at .result) (c .before .before .before .before .if1 .taken)) _ (c .before .before .keep-at .ensures), kept-holds _ _ _ _ (c .before .before .before .before .before .before .before .before .before .before .before .before .pre .0) (c .before .before .before .before .before .before .before .before .before .before .before .before .pre .1 .0) (c .before .before .before .before .before .before .before .before .before .before .before .before .pre .1 .1) _ _ (c .before .before .before .before .before .before .before .before .front-of .ensures) (c .before .before .before .before .before .before .before .back-of .ensures) _ (c .before .before .keep-at .ensures))
 
 returns-2 : tie.Need-returns-2
 returns-2 c = (met-21 _ _ _ _ (c .before .before .before .before .before .before .before .before .before .pre .0) (c .before .before .before .before .before .before .before .before .before .pre .1 .0) (c .before .before .before .before .before .before .before .before .before .pre .1 .1) _ _ (c .before .before .before .before .before .front-of .ensures) (c .before .before .before .before .back-of .ensures) _ refl (c .before .before .ends-at .result) (c .before .before .ends-at .ensures) (not-false (c .before .before .ends-at .result) (c .before .if1 .left)) (c .if2 .taken), c .before .before .before .before .before .before .before .before .before .pre .1 .1)
-
-mul-kept : tie.Need-mul-kept
-mul-kept c = search needs
-
-slice-write-kept : tie.Need-slice-write-kept
-slice-write-kept c = search needs
-
-same-length-2 : tie.Need-same-length-2
-same-length-2 c = search needs
 
 returns-3 : tie.Need-returns-3
 returns-3 c = (met-both _ _ _ _ (c .before .before .before .before .before .before .before .before .before .pre .0) (c .before .before .before .before .before .before .before .before .before .pre .1 .0) (c .before .before .before .before .before .before .before .before .before .pre .1 .1) _ _ (c .before .before .before .before .before .front-of .ensures) (c .before .before .before .before .back-of .ensures) _ refl (c .before .before .ends-at .result) (c .before .before .ends-at .ensures) (not-false (c .before .before .ends-at .result) (c .before .if1 .left)) (c .if2 .left), gone-holds _ _ _ _ (c .before .before .before .before .before .before .before .before .before .pre .0) (c .before .before .before .before .before .before .before .before .before .pre .1 .0) (c .before .before .before .before .before .before .before .before .before .pre .1 .1) _ _ (c .before .before .before .before .before .front-of .ensures) (c .before .before .before .before .back-of .ensures))
@@ -52,14 +34,14 @@ meet-use-spec =
     (tie.spec
     front-of-requires
     back-of-requires
-    mul-v
-    slice-read-v
+    (λ c. search needs)
+    (λ c. search needs)
     ends-at-requires
     keep-at-requires
-    same-length
+    (λ c. search needs)
     returns
     returns-2
-    mul-kept
-    slice-write-kept
-    same-length-2
+    (λ c. search needs)
+    (λ c. search needs)
+    (λ c. search needs)
     returns-3)

@@ -6,20 +6,8 @@ use Rattle.glue_wires.proofs.breaks_rule.Statement.{statement}
 use Rattle.glue_wires.proofs.breaks_rule.Tie as tie
 use Rattle.glue_wires.proofs.Judging.{one-sum, rule-broken, rule-kept}
 
-cast-t8 : tie.Need-cast-t8
-cast-t8 c = search needs
-
-slice-aggregate-check-faces : tie.Need-slice-aggregate-check-faces
-slice-aggregate-check-faces c = search needs
-
 check-faces-requires : tie.Need-check-faces-requires
 check-faces-requires c κs = (c .before .before .before .before .before .pre .0, ((omega arith, omega arith, c .before .before .before .before .before .pre .1 .1), (one-sum (length (c .before .before .before .before .before .args .parts .now)), c .before .before .before .before .before .pre .1 .0)))
-
-enum-told : tie.Need-enum-told
-enum-told c = search needs
-
-enum-told-2 : tie.Need-enum-told-2
-enum-told-2 c = search needs
 
 returns : tie.Need-returns
 returns c = rule-broken _ _ (c .before .before .before .before .before .before .before .before .args .out .now) (c .before .before .before .before .before .before .before .before .args .parts .now) _ (c .before .before .check-faces .ensures) _ (c .enum-told .given .1)
@@ -31,10 +19,10 @@ pub breaks-rule-spec : {M : Type 1} → statement M
 breaks-rule-spec =
     tie.close
     (tie.spec
-    cast-t8
-    slice-aggregate-check-faces
+    (λ c. search needs)
+    (λ c. search needs)
     check-faces-requires
-    enum-told
-    enum-told-2
+    (λ c. search needs)
+    (λ c. search needs)
     returns
     returns-2)

@@ -25,12 +25,6 @@ write-kept-requires c κs = (c .before .before .before .before .before .before .
 same-length-2 : tie.Need-same-length-2
 same-length-2 c = c .before .before .before .before .before .before .write-kept .kept .0 ∙ c .before .before .before .before .before .before .before .before .before .before .before .before .before .meet-all .kept .0 ∙ c .before .before .before .before .before .before .before .before .before .before .before .before .before .before .before .before .before .keep-face .kept .0
 
-same-length-3 : tie.Need-same-length-3
-same-length-3 c = search needs
-
-same-length-4 : tie.Need-same-length-4
-same-length-4 c = search needs
-
 returns-2 : tie.Need-returns-2
 returns-2 c = λ p f g s. glue-rest _ _ _ _ _ _ _ _ (c .before .before .before .before .before .before .before .before .before .before .before .before .before .before .before .before .before .before .before .before .before .before .before .before .before .before .pre .1 .1 .0) (c .before .before .before .before .before .before .before .before .before .before .before .before .before .before .before .before .before .keep-face .ensures .0) _ (c .before .before .before .before .before .before .before .before .before .before .before .before .before .meet-all .ensures .0) (not-false (c .before .before .before .before .before .before .before .before .before .before .before .before .before .meet-all .result) (c .before .before .before .before .before .before .before .before .before .before .if1 .left)) (c .before .before .before .before .before .before .before .before .before .before .before .before .before .meet-all .kept .0 ∙ c .before .before .before .before .before .before .before .before .before .before .before .before .before .before .before .before .before .keep-face .kept .0) p f g s _ _ _ _ _ (c .before .before .before .before .before .before .write-kept .ensures)
 
@@ -44,6 +38,6 @@ glue-parts-spec =
     returns
     write-kept-requires
     same-length-2
-    same-length-3
-    same-length-4
+    (λ c. search needs)
+    (λ c. search needs)
     returns-2)

@@ -26,12 +26,6 @@ put-all-requires c κs = omega (arith, c .before .before .if3 .left)
 put-all-requires-2 : tie.Need-put-all-requires-2
 put-all-requires-2 c κs = omega (arith, c .before .before .before .before .before .if4 .left)
 
-same-length : tie.Need-same-length
-same-length c = search needs
-
-same-length-2 : tie.Need-same-length-2
-same-length-2 c = search needs
-
 returns-5 : tie.Need-returns-5
 returns-5 c = λ p ws col eo ep. all-written p ws _ _ _ _ _ _ col eo ep (c .before .before .before .before .before .before .before .before .before .before .before .before .if1 .left) _ (c .before .before .before .before .before .before .before .before .before .before .before .breaks-rule .ensures) (c .before .before .before .before .before .before .before .before .before .before .if2 .left) (omega (arith, c .before .before .before .before .before .before .before .before .before .if3 .left)) (omega (arith, c .before .before .before .before .before .before .before .before .if4 .left)) _ _ (c .before .before .before .before .before .before .put-all .ensures) (c .before .before .put-all2 .ensures)
 
@@ -46,6 +40,6 @@ judge-wires-spec =
     returns-4
     put-all-requires
     put-all-requires-2
-    same-length
-    same-length-2
+    (λ c. search needs)
+    (λ c. search needs)
     returns-5)

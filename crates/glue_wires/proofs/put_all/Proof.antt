@@ -16,32 +16,8 @@ Inv-loop out₀ from i₀ out i = (i ≤ length from) × (length out ≡ length 
 abbrev μ-loop : tie.MeasureT-loop
 μ-loop out₀ from i₀ out i = length from - i
 
-loop-holds : tie.Need-loop-holds Inv-loop μ-loop
-loop-holds c = search needs
-
-mul-out : tie.Need-mul-out Inv-loop μ-loop
-mul-out c = search needs
-
-shared-slice-read-out : tie.Need-shared-slice-read-out Inv-loop μ-loop
-shared-slice-read-out c = search needs
-
-mul-out-2 : tie.Need-mul-out-2 Inv-loop μ-loop
-mul-out-2 c = search needs
-
-slice-write-out : tie.Need-slice-write-out Inv-loop μ-loop
-slice-write-out c = search needs
-
-add-i : tie.Need-add-i Inv-loop μ-loop
-add-i c = search needs
-
-loop-less : tie.Need-loop-less Inv-loop μ-loop
-loop-less c = search needs
-
 loop-again : tie.Need-loop-again Inv-loop μ-loop
 loop-again c = let v = c .before .before .loop .inv in let a = c .before .before .before .args in let i = c .before .before .loop .i in let e : 0 + i ≡ i = omega arith in (omega arith, simp length-set (v .1), rw (v .2) (rw e at (sets-next (a .out .now) 0 (a .from .now) i 0 (c .before .loop-test .taken))))
-
-same-length : tie.Need-same-length Inv-loop μ-loop
-same-length c = search needs
 
 returns : tie.Need-returns Inv-loop μ-loop
 returns c = put-end (c .before .before .args .out .now) _ (c .before .before .args .from .now) (c .before .loop .i) (omega arith) (c .before .loop .inv .2)
@@ -52,13 +28,13 @@ put-all-spec =
     (tie.spec
     Inv-loop
     μ-loop
-    loop-holds
-    mul-out
-    shared-slice-read-out
-    mul-out-2
-    slice-write-out
-    add-i
-    loop-less
+    (λ c. search needs)
+    (λ c. search needs)
+    (λ c. search needs)
+    (λ c. search needs)
+    (λ c. search needs)
+    (λ c. search needs)
+    (λ c. search needs)
     loop-again
-    same-length
+    (λ c. search needs)
     returns)

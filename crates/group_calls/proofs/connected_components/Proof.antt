@@ -15,26 +15,8 @@ use Rattle.group_calls.proofs.connected_components.Tie as tie
 there : (c : tie.After-enum-told2) → There ≡ presence (c .before .before .before .args .p) (c .before .before .before .args .n)
 there c = sym (c .enum-told2 .given .1) ∙ c .before .before .find-shell .ensures
 
-find-shell-requires : tie.Need-find-shell-requires
-find-shell-requires c κs = search needs
-
-enum-known-found : tie.Need-enum-known-found
-enum-known-found c = search needs
-
-enum-told : tie.Need-enum-told
-enum-told c = search needs
-
-enum-told-2 : tie.Need-enum-told-2
-enum-told-2 c = search needs
-
 groups-at-requires : tie.Need-groups-at-requires
 groups-at-requires c κs = sym (there c)
-
-put-first-requires : tie.Need-put-first-requires
-put-first-requires c κs = search needs
-
-put-first-requires-2 : tie.Need-put-first-requires-2
-put-first-requires-2 c κs = search needs
 
 returns : tie.Need-returns
 returns c =
@@ -61,13 +43,13 @@ pub connected-components-spec : {M : Type 1} → statement M
 connected-components-spec =
     tie.close
     (tie.spec
-    find-shell-requires
-    enum-known-found
-    enum-told
-    enum-told-2
+    (λ c κs. search needs)
+    (λ c. search needs)
+    (λ c. search needs)
+    (λ c. search needs)
     groups-at-requires
-    put-first-requires
-    put-first-requires-2
+    (λ c κs. search needs)
+    (λ c κs. search needs)
     returns
     returns-2
     returns-3)

@@ -20,18 +20,6 @@ slice-read-if1-2 c = climbs-in _ _ (c .before .before .before .before .pre .righ
 returns : tie.Need-returns
 returns c = joined-alike _ _ _ _ (c .before .before .before .before .before .pre) (c .if1 .taken)
 
-join-roots-requires : tie.Need-join-roots-requires
-join-roots-requires c κs = search needs
-
-same-length : tie.Need-same-length
-same-length c = search needs
-
-same-length-2 : tie.Need-same-length-2
-same-length-2 c = search needs
-
-returns-2 : tie.Need-returns-2
-returns-2 c = search needs
-
 pub join-spec : {M : Type 1} → statement M
 join-spec =
     tie.close
@@ -41,7 +29,7 @@ join-spec =
     mul-if1-2
     slice-read-if1-2
     returns
-    join-roots-requires
-    same-length
-    same-length-2
-    returns-2)
+    (λ c κs. search needs)
+    (λ c. search needs)
+    (λ c. search needs)
+    (λ c. search needs))

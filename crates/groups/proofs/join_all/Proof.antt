@@ -17,20 +17,8 @@ abbrev μ-loop : tie.MeasureT-loop
 loop-holds : tie.Need-loop-holds Inv-loop μ-loop
 loop-holds c = joins-start _ _ _ _ _ (c .before .before .before .before .pre .0)
 
-mul-join : tie.Need-mul-join Inv-loop μ-loop
-mul-join c = search needs
-
-shared-slice-read-join : tie.Need-shared-slice-read-join Inv-loop μ-loop
-shared-slice-read-join c = search needs
-
 cast-join : tie.Need-cast-join Inv-loop μ-loop
 cast-join c = omega (arith, c .shared-slice-known3 .given (c .before .before .before .before .loop .k))
-
-mul-join-2 : tie.Need-mul-join-2 Inv-loop μ-loop
-mul-join-2 c = search needs
-
-shared-slice-read-join-2 : tie.Need-shared-slice-read-join-2 Inv-loop μ-loop
-shared-slice-read-join-2 c = search needs
 
 cast-join-2 : tie.Need-cast-join-2 Inv-loop μ-loop
 cast-join-2 c = omega (arith, c .shared-slice-known4 .given (c .before .before .before .before .before .loop .k))
@@ -40,20 +28,8 @@ join-requires c κs =
     let h = c .before .before .before .before .before .before .before .before .before .before .pre .1 .1 (c .before .before .before .before .before .loop .k) (omega arith) in
     ready _ _ _ (c .before .before .before .before .before .loop .inv .forest) _ _ (omega (arith, h .0, h .1)) (omega (arith, h .0, h .1))
 
-add-k : tie.Need-add-k Inv-loop μ-loop
-add-k c = search needs
-
-loop-less : tie.Need-loop-less Inv-loop μ-loop
-loop-less c = search needs
-
 loop-again : tie.Need-loop-again Inv-loop μ-loop
 loop-again c = joins-next _ _ _ _ _ _ _ _ (c .before .before .before .before .before .before .before .before .before .before .before .before .before .before .before .pre .1) (c .before .before .before .before .before .before .before .before .before .before .loop .inv) (omega arith) (c .before .before .before .before .join .ensures)
-
-same-length : tie.Need-same-length Inv-loop μ-loop
-same-length c = search needs
-
-same-length-2 : tie.Need-same-length-2 Inv-loop μ-loop
-same-length-2 c = search needs
 
 returns : tie.Need-returns Inv-loop μ-loop
 returns c = joins-end _ _ _ _ _ _ _ _ (c .before .before .before .before .before .before .pre .1) (c .before .loop .inv) (omega arith)
@@ -65,16 +41,16 @@ join-all-spec =
     Inv-loop
     μ-loop
     loop-holds
-    mul-join
-    shared-slice-read-join
+    (λ c. search needs)
+    (λ c. search needs)
     cast-join
-    mul-join-2
-    shared-slice-read-join-2
+    (λ c. search needs)
+    (λ c. search needs)
     cast-join-2
     join-requires
-    add-k
-    loop-less
+    (λ c. search needs)
+    (λ c. search needs)
     loop-again
-    same-length
-    same-length-2
+    (λ c. search needs)
+    (λ c. search needs)
     returns)

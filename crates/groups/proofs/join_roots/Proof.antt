@@ -7,32 +7,11 @@ use Rattle.groups.proofs.join_roots.Statement.{statement}
 use Rattle.groups.specs.Forest.{Trees, rootOf}
 use Rattle.groups.proofs.join_roots.Tie as tie
 
-find-requires : tie.Need-find-requires
-find-requires c κs = search needs
-
-find-requires-2 : tie.Need-find-requires-2
-find-requires-2 c κs = search needs
-
-same-length : tie.Need-same-length
-same-length c = search needs
-
 returns : tie.Need-returns
 returns c =
     let s = c .before .before .before .before .before .before .before .args in
     let e = rooted-one (s .parents .now) (s .sizes .now) (rootOf (s .parents .now) (s .i)) (rootOf (s .parents .now) (s .j)) (sym (c .before .before .before .find .ensures) ∙ c .if1 .taken ∙ c .before .find2 .ensures) in
     (sym (ap (λ (t : Trees). t .parents) e), sym (ap (λ (t : Trees). t .sizes) e))
-
-mul-if2 : tie.Need-mul-if2
-mul-if2 c = search needs
-
-slice-read-if2 : tie.Need-slice-read-if2
-slice-read-if2 c = search needs
-
-mul-if2-2 : tie.Need-mul-if2-2
-mul-if2-2 c = search needs
-
-slice-read-if2-2 : tie.Need-slice-read-if2-2
-slice-read-if2-2 c = search needs
 
 put-under-requires : tie.Need-put-under-requires
 put-under-requires c κs = ready-under _ _ _ _ _ _ (ready-back _ _ _ _ (c .before .before .before .before .before .before .before .before .before .before .before .before .pre)) (c .before .before .before .before .before .before .find2 .ensures) (c .before .before .before .before .before .before .before .before .find .ensures) (λ e. c .before .before .before .before .before .if1 .left (sym e))
@@ -40,22 +19,10 @@ put-under-requires c κs = ready-under _ _ _ _ _ _ (ready-back _ _ _ _ (c .befor
 put-under-requires-2 : tie.Need-put-under-requires-2
 put-under-requires-2 c κs = ready-under _ _ _ _ _ _ (c .before .before .before .before .before .before .before .before .before .before .before .before .pre) (c .before .before .before .before .before .before .before .before .find .ensures) (c .before .before .before .before .before .before .find2 .ensures) (c .before .before .before .before .before .if1 .left)
 
-same-length-2 : tie.Need-same-length-2
-same-length-2 c = search needs
-
-same-length-3 : tie.Need-same-length-3
-same-length-3 c = search needs
-
 returns-2 : tie.Need-returns-2
 returns-2 c =
     let s = c .before .before .before .before .before .before .before .before .before .before .before .before .before .before .before .before .before .args in
     rw (← c .before .before .before .before .before .before .before .before .before .before .before .find2 .ensures, ← c .before .before .before .before .before .before .before .before .before .before .before .before .before .find .ensures, rooted-less (s .parents .now) (s .sizes .now) (c .before .before .before .before .before .before .before .before .before .before .before .before .before .find .result) (c .before .before .before .before .before .before .before .before .before .before .before .find2 .result) (c .before .before .before .before .before .before .before .before .before .before .if1 .left) (c .before .before .before .before .before .before .before .if2 .taken)) (c .before .before .before .before .put-under .ensures)
-
-same-length-4 : tie.Need-same-length-4
-same-length-4 c = search needs
-
-same-length-5 : tie.Need-same-length-5
-same-length-5 c = search needs
 
 returns-3 : tie.Need-returns-3
 returns-3 c =
@@ -66,19 +33,19 @@ pub join-roots-spec : {M : Type 1} → statement M
 join-roots-spec =
     tie.close
     (tie.spec
-    find-requires
-    find-requires-2
-    same-length
+    (λ c κs. search needs)
+    (λ c κs. search needs)
+    (λ c. search needs)
     returns
-    mul-if2
-    slice-read-if2
-    mul-if2-2
-    slice-read-if2-2
+    (λ c. search needs)
+    (λ c. search needs)
+    (λ c. search needs)
+    (λ c. search needs)
     put-under-requires
     put-under-requires-2
-    same-length-2
-    same-length-3
+    (λ c. search needs)
+    (λ c. search needs)
     returns-2
-    same-length-4
-    same-length-5
+    (λ c. search needs)
+    (λ c. search needs)
     returns-3)

@@ -3,14 +3,8 @@ use borrow.Author.Needs.{needs}
 use Rattle.groups.proofs.same.Statement.{statement}
 use Rattle.groups.proofs.same.Tie as tie
 
-find-requires : tie.Need-find-requires
-find-requires c κs = search needs
-
-find-requires-2 : tie.Need-find-requires-2
-find-requires-2 c κs = search needs
-
 returns : tie.Need-returns
 returns c = rw (c .find2 .ensures, c .before .find .ensures)
 
 pub same-spec : {M : Type 1} → statement M
-same-spec = tie.close (tie.spec find-requires find-requires-2 returns)
+same-spec = tie.close (tie.spec (λ c κs. search needs) (λ c κs. search needs) returns)

@@ -16,26 +16,11 @@ abbrev μ-loop : tie.MeasureT-loop
 loop-holds : tie.Need-loop-holds Inv-loop μ-loop
 loop-holds c = (omega arith, (filling-start _ _, filling-start _ _))
 
-cast-parents : tie.Need-cast-parents Inv-loop μ-loop
-cast-parents c = search needs
-
-mul-parents : tie.Need-mul-parents Inv-loop μ-loop
-mul-parents c = search needs
-
 slice-write-parents : tie.Need-slice-write-parents Inv-loop μ-loop
 slice-write-parents c = omega (arith, filling-long _ _ _ _ (c .before .loop .inv .1 .0))
 
-mul-sizes : tie.Need-mul-sizes Inv-loop μ-loop
-mul-sizes c = search needs
-
 slice-write-sizes : tie.Need-slice-write-sizes Inv-loop μ-loop
 slice-write-sizes c = omega (arith, filling-long _ _ _ _ (c .before .loop .inv .1 .1))
-
-add-i : tie.Need-add-i Inv-loop μ-loop
-add-i c = search needs
-
-loop-less : tie.Need-loop-less Inv-loop μ-loop
-loop-less c = search needs
 
 loop-again : tie.Need-loop-again Inv-loop μ-loop
 loop-again c =
@@ -60,13 +45,13 @@ start-spec =
     Inv-loop
     μ-loop
     loop-holds
-    cast-parents
-    mul-parents
+    (λ c. search needs)
+    (λ c. search needs)
     slice-write-parents
-    mul-sizes
+    (λ c. search needs)
     slice-write-sizes
-    add-i
-    loop-less
+    (λ c. search needs)
+    (λ c. search needs)
     loop-again
     same-length
     same-length-2

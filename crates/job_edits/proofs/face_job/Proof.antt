@@ -19,23 +19,8 @@ wire c =
 shared-slice-read-small : tie.Need-shared-slice-read-small
 shared-slice-read-small c = omega (arith, kinds-some (c .before .before .before .before .before .args .j))
 
-small-requires : tie.Need-small-requires
-small-requires c κs = search needs
-
 shared-slice-read-small-2 : tie.Need-shared-slice-read-small-2
 shared-slice-read-small-2 c = omega (arith, ap length (kinds-two (c .before .before .before .before .before .before .before .before .args .j) (inr (c .before .if1 .taken))))
-
-small-requires-2 : tie.Need-small-requires-2
-small-requires-2 c κs = search needs
-
-file-glue-requires : tie.Need-file-glue-requires
-file-glue-requires c κs = search needs
-
-same-length : tie.Need-same-length
-same-length c = search needs
-
-same-length-2 : tie.Need-same-length-2
-same-length-2 c = search needs
 
 returns : tie.Need-returns
 returns c =
@@ -46,65 +31,14 @@ returns c =
 sub-n : tie.Need-sub-n
 sub-n c = omega (arith, kinds-some (c .before .before .before .before .before .before .before .args .j))
 
-add-put-small : tie.Need-add-put-small
-add-put-small c = search needs
-
-sub-put-small : tie.Need-sub-put-small
-sub-put-small c = search needs
-
-part-put-small-start : tie.Need-part-put-small-start
-part-put-small-start c = search needs
-
 part-put-small-end : tie.Need-part-put-small-end
 part-put-small-end c = omega (arith, kinds-some (c .before .before .before .before .before .before .before .args .j))
-
-slice-aggregate-put-small : tie.Need-slice-aggregate-put-small
-slice-aggregate-put-small c = search needs
-
-put-small-requires : tie.Need-put-small-requires
-put-small-requires c κs = search needs
-
-sub-file-add : tie.Need-sub-file-add
-sub-file-add c = search needs
-
-part-file-add-start : tie.Need-part-file-add-start
-part-file-add-start c = search needs
-
-part-file-add-end : tie.Need-part-file-add-end
-part-file-add-end c = search needs
-
-file-add-requires : tie.Need-file-add-requires
-file-add-requires c κs = search needs
-
-same-length-3 : tie.Need-same-length-3
-same-length-3 c = search needs
-
-same-length-4 : tie.Need-same-length-4
-same-length-4 c = search needs
 
 returns-2 : tie.Need-returns-2
 returns-2 c =
     let a = c .before .before .before .before .before .before .before .before .before .before .before .before .before .before .before .before .before .before .before .before .before .args in
     let e = add-is (a .j) (a .v .now) (a .file .now) _ _ _ (c .before .before .before .before .before .before .before .before .before .before .before .before .before .before .before .small .ensures) (c .before .before .before .before .before .before .before .before .before .before .before .before .before .before .before .before .before .before .before .before .before .pre .1 .0) (c .before .before .before .before .before .before .before .before .before .before .before .before .before .before .before .before .before .before .before .before .before .pre .1 .1) _ (c .before .before .before .before .before .before .before .before .before .if2 .taken) (wire (c .before .before .before .before .before .before .before .before .before .before .before)) in
     face-made e _ (a .uses .now) (a .lens .now) _ _ (c .before .before .before .before .file-add .ensures)
-
-sub-file-cut-by-wire : tie.Need-sub-file-cut-by-wire
-sub-file-cut-by-wire c = search needs
-
-part-file-cut-by-wire-start : tie.Need-part-file-cut-by-wire-start
-part-file-cut-by-wire-start c = search needs
-
-part-file-cut-by-wire-end : tie.Need-part-file-cut-by-wire-end
-part-file-cut-by-wire-end c = search needs
-
-file-cut-by-wire-requires : tie.Need-file-cut-by-wire-requires
-file-cut-by-wire-requires c κs = search needs
-
-same-length-5 : tie.Need-same-length-5
-same-length-5 c = search needs
-
-same-length-6 : tie.Need-same-length-6
-same-length-6 c = search needs
 
 returns-3 : tie.Need-returns-3
 returns-3 c =
@@ -117,31 +51,31 @@ face-job-spec =
     tie.close
     (tie.spec
     shared-slice-read-small
-    small-requires
+    (λ c κs. search needs)
     shared-slice-read-small-2
-    small-requires-2
-    file-glue-requires
-    same-length
-    same-length-2
+    (λ c κs. search needs)
+    (λ c κs. search needs)
+    (λ c. search needs)
+    (λ c. search needs)
     returns
     sub-n
-    add-put-small
-    sub-put-small
-    part-put-small-start
+    (λ c. search needs)
+    (λ c. search needs)
+    (λ c. search needs)
     part-put-small-end
-    slice-aggregate-put-small
-    put-small-requires
-    sub-file-add
-    part-file-add-start
-    part-file-add-end
-    file-add-requires
-    same-length-3
-    same-length-4
+    (λ c. search needs)
+    (λ c κs. search needs)
+    (λ c. search needs)
+    (λ c. search needs)
+    (λ c. search needs)
+    (λ c κs. search needs)
+    (λ c. search needs)
+    (λ c. search needs)
     returns-2
-    sub-file-cut-by-wire
-    part-file-cut-by-wire-start
-    part-file-cut-by-wire-end
-    file-cut-by-wire-requires
-    same-length-5
-    same-length-6
+    (λ c. search needs)
+    (λ c. search needs)
+    (λ c. search needs)
+    (λ c κs. search needs)
+    (λ c. search needs)
+    (λ c. search needs)
     returns-3)

@@ -16,26 +16,8 @@ abbrev μ-loop : tie.MeasureT-loop
 loop-holds : tie.Need-loop-holds Inv-loop μ-loop
 loop-holds c = copied-start (λ (u : ℕ). min u 65535) (c .before .before .args .v .now) (c .before .before .args .out .now) (c .before .before .pre)
 
-mul-small : tie.Need-mul-small Inv-loop μ-loop
-mul-small c = search needs
-
-shared-slice-read-small : tie.Need-shared-slice-read-small Inv-loop μ-loop
-shared-slice-read-small c = search needs
-
-small-requires : tie.Need-small-requires Inv-loop μ-loop
-small-requires c κs = search needs
-
-mul-out : tie.Need-mul-out Inv-loop μ-loop
-mul-out c = search needs
-
 slice-write-out : tie.Need-slice-write-out Inv-loop μ-loop
 slice-write-out c = omega (arith, copied-long (λ (u : ℕ). min u 65535) (c .before .before .before .loop .inv))
-
-add-i : tie.Need-add-i Inv-loop μ-loop
-add-i c = search needs
-
-loop-less : tie.Need-loop-less Inv-loop μ-loop
-loop-less c = search needs
 
 loop-again : tie.Need-loop-again Inv-loop μ-loop
 loop-again c = copied-next (λ (u : ℕ). min u 65535) (c .before .before .before .loop .inv) _ (c .before .before .loop-test .taken) (c .small .ensures)
@@ -53,13 +35,13 @@ put-small-spec =
     Inv-loop
     μ-loop
     loop-holds
-    mul-small
-    shared-slice-read-small
-    small-requires
-    mul-out
+    (λ c. search needs)
+    (λ c. search needs)
+    (λ c κs. search needs)
+    (λ c. search needs)
     slice-write-out
-    add-i
-    loop-less
+    (λ c. search needs)
+    (λ c. search needs)
     loop-again
     same-length
     returns)

@@ -15,23 +15,11 @@ shared-slice-read-file-cut c = omega (arith, ap length (kinds-cut (c .before .be
 shared-slice-read-small : tie.Need-shared-slice-read-small
 shared-slice-read-small c = omega (arith, ap length (kinds-cut (c .before .before .before .before .before .before .args .j) (c .before .before .if1 .taken)))
 
-small-requires : tie.Need-small-requires
-small-requires c κs = search needs
-
 shared-slice-read-small-2 : tie.Need-shared-slice-read-small-2
 shared-slice-read-small-2 c = omega (arith, ap length (kinds-cut (c .before .before .before .before .before .before .before .before .args .j) (c .before .before .before .before .if1 .taken)))
 
-small-requires-2 : tie.Need-small-requires-2
-small-requires-2 c κs = search needs
-
 shared-slice-read-file-cut-2 : tie.Need-shared-slice-read-file-cut-2
 shared-slice-read-file-cut-2 c = omega (arith, ap length (kinds-cut (c .before .before .before .before .before .before .before .before .before .before .args .j) (c .before .before .before .before .before .before .if1 .taken)))
-
-file-cut-requires : tie.Need-file-cut-requires
-file-cut-requires c κs = search needs
-
-same-length : tie.Need-same-length
-same-length c = search needs
 
 returns : tie.Need-returns
 returns c =
@@ -45,15 +33,6 @@ shared-slice-read-file-remove c = omega (arith, ap length (kinds-remove (c .befo
 shared-slice-read-small-3 : tie.Need-shared-slice-read-small-3
 shared-slice-read-small-3 c = omega (arith, ap length (kinds-remove (c .before .before .before .before .before .before .before .args .j) (c .before .before .if2 .taken)))
 
-small-requires-3 : tie.Need-small-requires-3
-small-requires-3 c κs = search needs
-
-file-remove-requires : tie.Need-file-remove-requires
-file-remove-requires c κs = search needs
-
-same-length-2 : tie.Need-same-length-2
-same-length-2 c = search needs
-
 returns-2 : tie.Need-returns-2
 returns-2 c =
     let a = c .before .before .before .before .before .before .before .before .before .before .before .before .args in
@@ -63,20 +42,8 @@ returns-2 c =
 shared-slice-read-small-4 : tie.Need-shared-slice-read-small-4
 shared-slice-read-small-4 c = omega (arith, ap length (kinds-two (c .before .before .before .before .before .before .args .j) (inl (omega arith))))
 
-small-requires-4 : tie.Need-small-requires-4
-small-requires-4 c κs = search needs
-
 shared-slice-read-small-5 : tie.Need-shared-slice-read-small-5
 shared-slice-read-small-5 c = omega (arith, ap length (kinds-two (c .before .before .before .before .before .before .before .before .args .j) (inl (omega arith))))
-
-small-requires-5 : tie.Need-small-requires-5
-small-requires-5 c κs = search needs
-
-file-concat-requires : tie.Need-file-concat-requires
-file-concat-requires c κs = search needs
-
-same-length-3 : tie.Need-same-length-3
-same-length-3 c = search needs
 
 returns-3 : tie.Need-returns-3
 returns-3 c =
@@ -90,23 +57,23 @@ shell-job-spec =
     (tie.spec
     shared-slice-read-file-cut
     shared-slice-read-small
-    small-requires
+    (λ c κs. search needs)
     shared-slice-read-small-2
-    small-requires-2
+    (λ c κs. search needs)
     shared-slice-read-file-cut-2
-    file-cut-requires
-    same-length
+    (λ c κs. search needs)
+    (λ c. search needs)
     returns
     shared-slice-read-file-remove
     shared-slice-read-small-3
-    small-requires-3
-    file-remove-requires
-    same-length-2
+    (λ c κs. search needs)
+    (λ c κs. search needs)
+    (λ c. search needs)
     returns-2
     shared-slice-read-small-4
-    small-requires-4
+    (λ c κs. search needs)
     shared-slice-read-small-5
-    small-requires-5
-    file-concat-requires
-    same-length-3
+    (λ c κs. search needs)
+    (λ c κs. search needs)
+    (λ c. search needs)
     returns-3)

@@ -12,20 +12,11 @@ use Rattle.output.specs.Text.{ascii, decimal}
 use Rattle.job_lines.proofs.put_edges.Statement.{statement}
 use Rattle.job_lines.proofs.put_edges.Tie as tie
 
-slice-aggregate-put-field : tie.Need-slice-aggregate-put-field
-slice-aggregate-put-field c = search needs
-
 put-field-requires : tie.Need-put-field-requires
 put-field-requires c κs = omega (arith, decimal-20 (c .before .before .before .before .args .first) (omega arith))
 
-slice-aggregate-put-number : tie.Need-slice-aggregate-put-number
-slice-aggregate-put-number c = search needs
-
 put-number-requires : tie.Need-put-number-requires
 put-number-requires c κs = omega (arith, decimal-20 (c .before .before .before .before .before .before .before .before .before .args .first) (omega arith), number-short (ascii " ") 20 _ (decimal-20 (c .before .before .before .before .before .before .before .before .before .args .second) (omega arith)))
-
-same-length : tie.Need-same-length
-same-length c = search needs
 
 returns : tie.Need-returns
 returns c =
@@ -34,14 +25,8 @@ returns c =
     put-front out _ _ (edges-two (a .j) (a .first) (a .second) (c .before .before .before .before .before .before .before .before .before .before .if1 .taken))
     (put-then out 0 (ascii "done edges " ++ decimal (a .first)) (wordNumber (ascii " ") (a .second)) _ _ _ _ (c .before .before .before .before .before .before .before .put-field .ensures) (c .before .before .put-number .ensures))
 
-slice-aggregate-put-number-2 : tie.Need-slice-aggregate-put-number-2
-slice-aggregate-put-number-2 c = search needs
-
 put-number-requires-2 : tie.Need-put-number-requires-2
 put-number-requires-2 c κs = omega (arith, number-short (ascii "done edge ") 20 _ (decimal-20 (c .before .before .before .before .args .first) (omega arith)))
-
-same-length-2 : tie.Need-same-length-2
-same-length-2 c = search needs
 
 returns-2 : tie.Need-returns-2
 returns-2 c = put-front (c .before .before .before .before .before .before .before .args .text .now) _ _ (edges-one (c .before .before .before .before .before .before .before .args .j) (c .before .before .before .before .before .before .before .args .first) (c .before .before .before .before .before .before .before .args .second) (c .before .before .before .before .before .if1 .left)) (c .before .before .put-number2 .ensures)
@@ -50,13 +35,13 @@ pub put-edges-spec : {M : Type 1} → statement M
 put-edges-spec =
     tie.close
     (tie.spec
-    slice-aggregate-put-field
+    (λ c. search needs)
     put-field-requires
-    slice-aggregate-put-number
+    (λ c. search needs)
     put-number-requires
-    same-length
+    (λ c. search needs)
     returns
-    slice-aggregate-put-number-2
+    (λ c. search needs)
     put-number-requires-2
-    same-length-2
+    (λ c. search needs)
     returns-2)

@@ -11,26 +11,11 @@ use Rattle.output.specs.Text.{ascii, decimal}
 use Rattle.job_lines.proofs.put_no_job.Statement.{statement}
 use Rattle.job_lines.proofs.put_no_job.Tie as tie
 
-slice-aggregate-put-text : tie.Need-slice-aggregate-put-text
-slice-aggregate-put-text c = search needs
-
-put-text-requires : tie.Need-put-text-requires
-put-text-requires c κs = search needs
-
-same-length : tie.Need-same-length
-same-length c = search needs
-
 returns : tie.Need-returns
 returns c = put-front (c .before .before .before .before .before .before .before .args .text .now) _ _ (no-name (c .before .before .before .before .before .before .before .args .j) (c .before .before .before .before .before .before .before .args .n) (c .before .before .before .before .before .if1 .taken)) (c .before .before .put-text .ensures)
 
-slice-aggregate-put-field : tie.Need-slice-aggregate-put-field
-slice-aggregate-put-field c = search needs
-
 put-field-requires : tie.Need-put-field-requires
 put-field-requires c κs = omega (arith, decimal-20 (c .before .before .before .before .args .n) (omega arith))
-
-slice-aggregate-put-text-2 : tie.Need-slice-aggregate-put-text-2
-slice-aggregate-put-text-2 c = search needs
 
 put-text-requires-2 : tie.Need-put-text-requires-2
 put-text-requires-2 c κs = omega (arith, decimal-20 (c .before .before .before .before .before .before .before .before .before .args .n) (omega arith))
@@ -38,14 +23,8 @@ put-text-requires-2 c κs = omega (arith, decimal-20 (c .before .before .before 
 put-form-requires : tie.Need-put-form-requires
 put-form-requires c κs = omega (arith, decimal-20 (c .before .before .before .before .before .before .before .before .before .before .before .before .before .args .n) (omega arith))
 
-slice-aggregate-put-text-3 : tie.Need-slice-aggregate-put-text-3
-slice-aggregate-put-text-3 c = search needs
-
 put-text-requires-3 : tie.Need-put-text-requires-3
 put-text-requires-3 c κs = omega (arith, decimal-20 (c .before .before .before .before .before .before .before .before .before .before .before .before .before .before .before .before .before .before .args .n) (omega arith), form-short (c .before .before .before .before .before .before .before .before .before .before .before .before .before .before .before .before .before .before .args .j))
-
-same-length-2 : tie.Need-same-length-2
-same-length-2 c = search needs
 
 returns-2 : tie.Need-returns-2
 returns-2 c =
@@ -61,16 +40,16 @@ pub put-no-job-spec : {M : Type 1} → statement M
 put-no-job-spec =
     tie.close
     (tie.spec
-    slice-aggregate-put-text
-    put-text-requires
-    same-length
+    (λ c. search needs)
+    (λ c κs. search needs)
+    (λ c. search needs)
     returns
-    slice-aggregate-put-field
+    (λ c. search needs)
     put-field-requires
-    slice-aggregate-put-text-2
+    (λ c. search needs)
     put-text-requires-2
     put-form-requires
-    slice-aggregate-put-text-3
+    (λ c. search needs)
     put-text-requires-3
-    same-length-2
+    (λ c. search needs)
     returns-2)

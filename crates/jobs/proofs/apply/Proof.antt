@@ -13,76 +13,28 @@ begun c = record { few = c .before .before .before .if1 .left; trim = trim-is (c
 read : (c : tie.After-match-job) → Valued (c .before .before .before .before .before .before .before .before .before .before .args .line .now) (c .before .before .before .first-of .result .job) (c .match-job .result .words) (c .match-job .result .all) (c .match-job .last .1 .1 .1 .0)
 read c = valued (begun (c .before .before .before)) (c .before .before .if2 .left) _ _ _ (c .match-job .ensures .0) (c .match-job .ensures .1 .0) (c .match-job .ensures .1 .1)
 
-slice-aggregate-put-text : tie.Need-slice-aggregate-put-text
-slice-aggregate-put-text c = search needs
-
-put-text-requires : tie.Need-put-text-requires
-put-text-requires c κs = search needs
-
 returns : tie.Need-returns
 returns c =
     let a = c .before .before .before .before .before .before .before .args in
     answered (a .line .now) (a .file .now) (a .out .now) (too-long (a .line .now) (a .file .now) (a .out .now) (c .before .before .before .if1 .taken)) (a .text .now) _ _ (c .put-text .ensures .0, omega (arith, c .put-text .ensures .1))
-
-trimmed-length-requires : tie.Need-trimmed-length-requires
-trimmed-length-requires c κs = search needs
-
-sub-l : tie.Need-sub-l
-sub-l c = search needs
-
-part-l-start : tie.Need-part-l-start
-part-l-start c = search needs
-
-part-l-end : tie.Need-part-l-end
-part-l-end c = search needs
-
-first-of-requires : tie.Need-first-of-requires
-first-of-requires c κs = search needs
-
-put-no-job-requires : tie.Need-put-no-job-requires
-put-no-job-requires c κs = search needs
 
 returns-2 : tie.Need-returns-2
 returns-2 c =
     let a = c .before .before .before .before .before .before .before .before .before .before .args in
     answered (a .line .now) (a .file .now) (a .out .now) (no-name-line (begun (c .before .before .before)) (a .file .now) (a .out .now) (c .before .before .if2 .taken)) (a .text .now) _ _ (c .put-no-job .ensures)
 
-slice-aggregate-match-job : tie.Need-slice-aggregate-match-job
-slice-aggregate-match-job c = search needs
-
-match-job-requires : tie.Need-match-job-requires
-match-job-requires c κs = search needs
-
 add-put-no-job : tie.Need-add-put-no-job
 add-put-no-job c = omega (arith, valued-few (read (c .before .before .before .before)))
-
-put-no-job-requires-2 : tie.Need-put-no-job-requires-2
-put-no-job-requires-2 c κs = search needs
 
 returns-3 : tie.Need-returns-3
 returns-3 c =
     let a = c .before .before .before .before .before .before .before .before .before .before .before .before .before .before .before .args in
     answered (a .line .now) (a .file .now) (a .out .now) (no-word-line (read (c .before .before .before .before .before)) (a .file .now) (a .out .now) (c .before .before .if3 .taken)) (a .text .now) _ _ (c .put-no-job2 .ensures)
 
-needed-requires : tie.Need-needed-requires
-needed-requires c κs = search needs
-
-add-put-no-job-2 : tie.Need-add-put-no-job-2
-add-put-no-job-2 c = search needs
-
-put-no-job-requires-3 : tie.Need-put-no-job-requires-3
-put-no-job-requires-3 c κs = search needs
-
 returns-4 : tie.Need-returns-4
 returns-4 c =
     let a = c .before .before .before .before .before .before .before .before .before .before .before .before .before .before .before .before .before .args in
     answered (a .line .now) (a .file .now) (a .out .now) (missing-line (read (c .before .before .before .before .before .before .before)) (c .before .before .before .before .if3 .left) (a .file .now) (a .out .now) _ (c .before .before .before .needed .ensures .0) (c .before .before .if4 .taken)) (a .text .now) _ _ (c .put-no-job3 .ensures)
-
-sub-do-job : tie.Need-sub-do-job
-sub-do-job c = search needs
-
-part-do-job-start : tie.Need-part-do-job-start
-part-do-job-start c = search needs
 
 part-do-job-end : tie.Need-part-do-job-end
 part-do-job-end c = valued-room (read (c .before .before .before .before .before .before))
@@ -91,9 +43,6 @@ do-job-requires : tie.Need-do-job-requires
 do-job-requires c κs =
     let e = job-fits (read (c .before .before .before .before .before .before .before .before .before)) (c .before .before .before .before .before .before .if3 .left) _ (c .before .before .before .before .before .needed .ensures .0) (c .before .before .before .before .if4 .left) in
     (search needs, search needs, e .0, e .1, search needs)
-
-same-length : tie.Need-same-length
-same-length c = search needs
 
 returns-5 : tie.Need-returns-5
 returns-5 c =
@@ -110,28 +59,28 @@ pub apply-spec : {M : Type 1} → statement M
 apply-spec =
     tie.close
     (tie.spec
-    slice-aggregate-put-text
-    put-text-requires
+    (λ c. search needs)
+    (λ c κs. search needs)
     returns
-    trimmed-length-requires
-    sub-l
-    part-l-start
-    part-l-end
-    first-of-requires
-    put-no-job-requires
+    (λ c κs. search needs)
+    (λ c. search needs)
+    (λ c. search needs)
+    (λ c. search needs)
+    (λ c κs. search needs)
+    (λ c κs. search needs)
     returns-2
-    slice-aggregate-match-job
-    match-job-requires
+    (λ c. search needs)
+    (λ c κs. search needs)
     add-put-no-job
-    put-no-job-requires-2
+    (λ c κs. search needs)
     returns-3
-    needed-requires
-    add-put-no-job-2
-    put-no-job-requires-3
+    (λ c κs. search needs)
+    (λ c. search needs)
+    (λ c κs. search needs)
     returns-4
-    sub-do-job
-    part-do-job-start
+    (λ c. search needs)
+    (λ c. search needs)
     part-do-job-end
     do-job-requires
-    same-length
+    (λ c. search needs)
     returns-5)

@@ -9,49 +9,19 @@ use Rattle.jobs.proofs.do_face_job.Tie as tie
 held : (c : tie.Else1) → Held (c .before .before .before .before .before .before .before .before .before .before .args .j) (c .before .before .before .before .before .before .before .before .before .before .args .v .now) (c .before .before .before .before .before .before .before .before .before .before .args .file .now) (c .before .before .before .before .face-job .result) (c .before .before .before .before .face-job .last .1 .1 .1 .0) (c .before .before .before .before .face-job .last .1 .1 .1 .1 .0)
 held c = record { is = c .before .before .before .before .face-job .ensures .0; done = c .if1 .left; held = c .before .before .before .before .face-job .ensures .1 .0; kept = c .before .before .before .before .face-job .ensures .1 .1 }
 
-slice-aggregate-face-job : tie.Need-slice-aggregate-face-job
-slice-aggregate-face-job c = search needs
-
-slice-aggregate-face-job-2 : tie.Need-slice-aggregate-face-job-2
-slice-aggregate-face-job-2 c = search needs
-
-face-job-requires : tie.Need-face-job-requires
-face-job-requires c κs = search needs
-
-put-refused-requires : tie.Need-put-refused-requires
-put-refused-requires c κs = search needs
-
-same-length : tie.Need-same-length
-same-length c = search needs
-
 returns : tie.Need-returns
 returns c =
     let p = c .before .before .put-refused .ensures in
     text-as (face-refused (c .before .before .before .before .before .before .before .before .before .before .before .before .before .before .args .j) (c .before .before .before .before .before .before .before .before .before .before .before .before .before .before .args .v .now) (c .before .before .before .before .before .before .before .before .before .before .before .before .before .before .args .file .now) _ (c .before .before .before .before .before .before .before .before .face-job .ensures .0) (c .before .before .before .before .if1 .taken)) (c .before .before .before .before .before .before .before .before .before .before .before .before .before .before .args .text .now) _ _ (p .0, p .1)
 
-sub-put-done : tie.Need-sub-put-done
-sub-put-done c = search needs
-
-part-put-done-start : tie.Need-part-put-done-start
-part-put-done-start c = search needs
-
 part-put-done-end : tie.Need-part-put-done-end
 part-put-done-end c = told-room (held (c .before .before)) .0
-
-sub-put-done-2 : tie.Need-sub-put-done-2
-sub-put-done-2 c = search needs
-
-part-put-done-start-2 : tie.Need-part-put-done-start-2
-part-put-done-start-2 c = search needs
 
 part-put-done-end-2 : tie.Need-part-put-done-end-2
 part-put-done-end-2 c = told-room (held (c .before .before .before .before)) .1
 
 put-done-requires : tie.Need-put-done-requires
 put-done-requires c κs = let e = told-fits (held (c .before .before .before .before .before)) in (search needs, e .0, e .1, e .2)
-
-same-length-2 : tie.Need-same-length-2
-same-length-2 c = search needs
 
 returns-2 : tie.Need-returns-2
 returns-2 c =
@@ -61,18 +31,18 @@ pub do-face-job-spec : {M : Type 1} → statement M
 do-face-job-spec =
     tie.close
     (tie.spec
-    slice-aggregate-face-job
-    slice-aggregate-face-job-2
-    face-job-requires
-    put-refused-requires
-    same-length
+    (λ c. search needs)
+    (λ c. search needs)
+    (λ c κs. search needs)
+    (λ c κs. search needs)
+    (λ c. search needs)
     returns
-    sub-put-done
-    part-put-done-start
+    (λ c. search needs)
+    (λ c. search needs)
     part-put-done-end
-    sub-put-done-2
-    part-put-done-start-2
+    (λ c. search needs)
+    (λ c. search needs)
     part-put-done-end-2
     put-done-requires
-    same-length-2
+    (λ c. search needs)
     returns-2)

@@ -6,32 +6,11 @@ use Rattle.jobs.proofs.Texts.{shell-done, shell-refused, text-as}
 use Rattle.jobs.proofs.do_shell_job.Statement.{statement}
 use Rattle.jobs.proofs.do_shell_job.Tie as tie
 
-shell-job-requires : tie.Need-shell-job-requires
-shell-job-requires c κs = search needs
-
-put-refused-requires : tie.Need-put-refused-requires
-put-refused-requires c κs = search needs
-
-same-length : tie.Need-same-length
-same-length c = search needs
-
-same-length-2 : tie.Need-same-length-2
-same-length-2 c = search needs
-
 returns : tie.Need-returns
 returns c =
     let e = c .before .before .before .before .before .before .before .before .shell-job .ensures in
     let p = c .before .before .put-refused .ensures in
     (text-as (shell-refused (c .before .before .before .before .before .before .before .before .before .before .before .before .before .before .args .j) _ _ (e .0) (c .before .before .before .before .if1 .taken)) (c .before .before .before .before .before .before .before .before .before .before .before .before .before .before .args .text .now) _ _ (p .0, p .1), (e .1, ap (λ (a : Answer). a .third) (e .0)))
-
-put-edges-requires : tie.Need-put-edges-requires
-put-edges-requires c κs = search needs
-
-same-length-3 : tie.Need-same-length-3
-same-length-3 c = search needs
-
-same-length-4 : tie.Need-same-length-4
-same-length-4 c = search needs
 
 returns-2 : tie.Need-returns-2
 returns-2 c =
@@ -42,12 +21,12 @@ pub do-shell-job-spec : {M : Type 1} → statement M
 do-shell-job-spec =
     tie.close
     (tie.spec
-    shell-job-requires
-    put-refused-requires
-    same-length
-    same-length-2
+    (λ c κs. search needs)
+    (λ c κs. search needs)
+    (λ c. search needs)
+    (λ c. search needs)
     returns
-    put-edges-requires
-    same-length-3
-    same-length-4
+    (λ c κs. search needs)
+    (λ c. search needs)
+    (λ c. search needs)
     returns-2)

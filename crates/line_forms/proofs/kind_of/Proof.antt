@@ -4,12 +4,6 @@ use Rattle.line_forms.proofs.Laws.{begun, comment, named, no-word}
 use Rattle.line_forms.proofs.kind_of.Statement.{statement}
 use Rattle.line_forms.proofs.kind_of.Tie as tie
 
-word-start-requires : tie.Need-word-start-requires
-word-start-requires c κs = search needs
-
-word-end-requires : tie.Need-word-end-requires
-word-end-requires c κs = search needs
-
 returns : tie.Need-returns
 returns c =
     let s = no-word (c .before .before .before .before .args .line .now) (c .before .before .word-start .result) (c .before .word-end .result) (c .before .before .word-start .ensures .0) (c .before .before .word-start .ensures .1) (c .before .word-end .ensures .0) (c .if1 .taken) in
@@ -23,21 +17,6 @@ returns-2 c =
     let s = comment (c .before .before .before .before .before .before .args .line .now) (c .before .before .before .before .word-start .result) (c .before .before .before .word-end .result) (c .before .before .before .before .word-start .ensures .0) (c .before .before .before .before .word-start .ensures .1) (c .before .before .before .word-end .ensures .0) (c .before .before .if1 .left) (c .if2 .taken) in
     (s .0, c .before .before .before .word-end .ensures .1, s .1)
 
-sub-name-of : tie.Need-sub-name-of
-sub-name-of c = search needs
-
-part-name-of-start : tie.Need-part-name-of-start
-part-name-of-start c = search needs
-
-part-name-of-end : tie.Need-part-name-of-end
-part-name-of-end c = search needs
-
-name-of-requires : tie.Need-name-of-requires
-name-of-requires c κs = search needs
-
-kind-named-requires : tie.Need-kind-named-requires
-kind-named-requires c κs = search needs
-
 returns-3 : tie.Need-returns-3
 returns-3 c =
     let s = named (c .before .before .before .before .before .before .before .before .before .args .line .now) (c .before .before .before .before .before .before .before .word-start .result) (c .before .before .before .before .before .before .word-end .result) (c .before .before .before .before .before .before .before .word-start .ensures .0) (c .before .before .before .before .before .before .before .word-start .ensures .1) (c .before .before .before .before .before .before .word-end .ensures .0) (c .before .before .before .before .before .if1 .left) _ _ (c .before .before .before .if2 .left) (c .before .name-of .ensures) (c .kind-named .ensures) in
@@ -47,14 +26,14 @@ pub kind-of-spec : {M : Type 1} → statement M
 kind-of-spec =
     tie.close
     (tie.spec
-    word-start-requires
-    word-end-requires
+    (λ c κs. search needs)
+    (λ c κs. search needs)
     returns
     shared-slice-read-if2
     returns-2
-    sub-name-of
-    part-name-of-start
-    part-name-of-end
-    name-of-requires
-    kind-named-requires
+    (λ c. search needs)
+    (λ c. search needs)
+    (λ c. search needs)
+    (λ c κs. search needs)
+    (λ c κs. search needs)
     returns-3)

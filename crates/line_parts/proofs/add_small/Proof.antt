@@ -17,33 +17,6 @@ Inv-loop v out₀ at i₀ out i = (i ≤ length v) × (length out ≡ length out
 abbrev μ-loop : tie.MeasureT-loop
 μ-loop v out₀ at i₀ out i = length v - i
 
-loop-holds : tie.Need-loop-holds Inv-loop μ-loop
-loop-holds c = search needs
-
-mul-small : tie.Need-mul-small Inv-loop μ-loop
-mul-small c = search needs
-
-shared-slice-read-small : tie.Need-shared-slice-read-small Inv-loop μ-loop
-shared-slice-read-small c = search needs
-
-small-requires : tie.Need-small-requires Inv-loop μ-loop
-small-requires c κs = search needs
-
-add-out : tie.Need-add-out Inv-loop μ-loop
-add-out c = search needs
-
-mul-out : tie.Need-mul-out Inv-loop μ-loop
-mul-out c = search needs
-
-slice-write-out : tie.Need-slice-write-out Inv-loop μ-loop
-slice-write-out c = search needs
-
-add-i : tie.Need-add-i Inv-loop μ-loop
-add-i c = search needs
-
-loop-less : tie.Need-loop-less Inv-loop μ-loop
-loop-less c = search needs
-
 loop-again : tie.Need-loop-again Inv-loop μ-loop
 loop-again c =
     let v = c .before .before .before .loop .inv in
@@ -66,15 +39,15 @@ add-small-spec =
     (tie.spec
     Inv-loop
     μ-loop
-    loop-holds
-    mul-small
-    shared-slice-read-small
-    small-requires
-    add-out
-    mul-out
-    slice-write-out
-    add-i
-    loop-less
+    (λ c. search needs)
+    (λ c. search needs)
+    (λ c. search needs)
+    (λ c κs. search needs)
+    (λ c. search needs)
+    (λ c. search needs)
+    (λ c. search needs)
+    (λ c. search needs)
+    (λ c. search needs)
     loop-again
     same-length
     returns)

@@ -22,17 +22,11 @@ columns s = record {
 shared-slice-read-add-point : tie.Need-shared-slice-read-add-point
 shared-slice-read-add-point c = let m = point-words (adding (c .before .before .before)) (c .before .if1 .taken) in search needs
 
-array-read-add-point : tie.Need-array-read-add-point
-array-read-add-point c = search needs
-
 add-point-requires : tie.Need-add-point-requires
 add-point-requires c κs = let m = point-room (adding (c .before .before .before .before)) (c .before .before .if1 .taken) in search needs
 
 returns : tie.Need-returns
 returns c = point-joined (adding (c .before .before .before .before .before)) (columns (c .before .before .before .before .before)) _ (c .before .before .before .if1 .taken) (search needs) (c .add-point .ensures)
-
-array-read-add-edge : tie.Need-array-read-add-edge
-array-read-add-edge c = search needs
 
 add-edge-requires : tie.Need-add-edge-requires
 add-edge-requires c κs =
@@ -48,15 +42,6 @@ sub-add-wires c = let m = face-words (adding (c .before .before .before .before)
 part-add-wires-start : tie.Need-part-add-wires-start
 part-add-wires-start c = let m = face-words (adding (c .before .before .before .before)) (c .if3 .taken) in search needs
 
-part-add-wires-end : tie.Need-part-add-wires-end
-part-add-wires-end c = search needs
-
-array-read-add-wires : tie.Need-array-read-add-wires
-array-read-add-wires c = search needs
-
-array-read-add-wires-2 : tie.Need-array-read-add-wires-2
-array-read-add-wires-2 c = search needs
-
 add-wires-requires : tie.Need-add-wires-requires
 add-wires-requires c κs =
     let m = face-room (adding (c .before .before .before .before .before .before .before)) (c .before .before .before .if3 .taken) in
@@ -64,9 +49,6 @@ add-wires-requires c κs =
 
 shared-slice-read-add-face : tie.Need-shared-slice-read-add-face
 shared-slice-read-add-face c = let m = face-words (adding (c .before .before .before .before .before .before .before .before .before)) (c .before .before .before .before .before .if3 .taken) in search needs
-
-array-read-add-face : tie.Need-array-read-add-face
-array-read-add-face c = search needs
 
 add-face-requires : tie.Need-add-face-requires
 add-face-requires c κs = let m = face-room (adding (c .before .before .before .before .before .before .before .before .before .before)) (c .before .before .before .before .before .before .if3 .taken) in search needs
@@ -81,9 +63,6 @@ returns-3 c =
 sub-add-shell : tie.Need-sub-add-shell
 sub-add-shell c = let m = shell-words (adding (c .before .before .before .before .before)) (c .if4 .taken) in search needs
 
-array-read-add-shell : tie.Need-array-read-add-shell
-array-read-add-shell c = search needs
-
 add-shell-requires : tie.Need-add-shell-requires
 add-shell-requires c κs = let m = shell-room (adding (c .before .before .before .before .before .before)) (c .before .if4 .taken) in search needs
 
@@ -92,12 +71,6 @@ sub-add-small c = let m = shell-words (adding (c .before .before .before .before
 
 part-add-small-start : tie.Need-part-add-small-start
 part-add-small-start c = let m = shell-words (adding (c .before .before .before .before .before .before .before)) (c .before .before .if4 .taken) in search needs
-
-part-add-small-end : tie.Need-part-add-small-end
-part-add-small-end c = search needs
-
-array-read-add-small : tie.Need-array-read-add-small
-array-read-add-small c = search needs
 
 add-small-requires : tie.Need-add-small-requires
 add-small-requires c κs =
@@ -117,29 +90,29 @@ add-values-spec =
     tie.close
     (tie.spec
     shared-slice-read-add-point
-    array-read-add-point
+    (λ c. search needs)
     add-point-requires
     returns
-    array-read-add-edge
+    (λ c. search needs)
     add-edge-requires
     returns-2
     sub-add-wires
     part-add-wires-start
-    part-add-wires-end
-    array-read-add-wires
-    array-read-add-wires-2
+    (λ c. search needs)
+    (λ c. search needs)
+    (λ c. search needs)
     add-wires-requires
     shared-slice-read-add-face
-    array-read-add-face
+    (λ c. search needs)
     add-face-requires
     returns-3
     sub-add-shell
-    array-read-add-shell
+    (λ c. search needs)
     add-shell-requires
     sub-add-small
     part-add-small-start
-    part-add-small-end
-    array-read-add-small
+    (λ c. search needs)
+    (λ c. search needs)
     add-small-requires
     returns-4
     returns-5)

@@ -27,12 +27,6 @@ for-last c = (last-room (c .before .before .before .before .loop .inv) (c .befor
 loop-holds : tie.Need-loop-holds Inv-loop μ-loop
 loop-holds c = laying-start _ _ _ _ _
 
-mul-if1 : tie.Need-mul-if1 Inv-loop μ-loop
-mul-if1 c = search needs
-
-shared-slice-read-if1 : tie.Need-shared-slice-read-if1 Inv-loop μ-loop
-shared-slice-read-if1 c = search needs
-
 mul-wires : tie.Need-mul-wires Inv-loop μ-loop
 mul-wires c = let r = for-wire c in search needs
 
@@ -41,15 +35,6 @@ slice-write-wires c = for-wire c .0
 
 add-w : tie.Need-add-w Inv-loop μ-loop
 add-w c = let r = for-wire c in search needs
-
-mul-small : tie.Need-mul-small Inv-loop μ-loop
-mul-small c = search needs
-
-shared-slice-read-small : tie.Need-shared-slice-read-small Inv-loop μ-loop
-shared-slice-read-small c = search needs
-
-small-requires : tie.Need-small-requires Inv-loop μ-loop
-small-requires c κs = search needs
 
 mul-uses : tie.Need-mul-uses Inv-loop μ-loop
 mul-uses c = let r = for-use (c .before .before) in search needs
@@ -60,26 +45,11 @@ slice-write-uses c = for-use (c .before .before) .0
 add-u : tie.Need-add-u Inv-loop μ-loop
 add-u c = let r = for-use (c .before .before) in search needs
 
-add-size : tie.Need-add-size Inv-loop μ-loop
-add-size c = search needs
-
-small-length-requires : tie.Need-small-length-requires Inv-loop μ-loop
-small-length-requires c κs = search needs
-
-sub-wires : tie.Need-sub-wires Inv-loop μ-loop
-sub-wires c = search needs
-
 mul-wires-2 : tie.Need-mul-wires-2 Inv-loop μ-loop
 mul-wires-2 c = let r = for-last (c .before .before .before) in search needs
 
 slice-write-wires-2 : tie.Need-slice-write-wires-2 Inv-loop μ-loop
 slice-write-wires-2 c = for-last (c .before .before .before) .0
-
-add-i : tie.Need-add-i Inv-loop μ-loop
-add-i c = search needs
-
-loop-less : tie.Need-loop-less Inv-loop μ-loop
-loop-less c = search needs
 
 loop-again : tie.Need-loop-again Inv-loop μ-loop
 loop-again c =
@@ -91,9 +61,6 @@ loop-again c =
     (λ w. rw (w .5, w .6, w .7, w .8, w .9) (laying-use v l (w .0 .left) (w .1 .taken) _ _ (w .3 .ensures) (w .4 .ensures)))
     (λ w. rw (w .2, w .3, w .4, w .5, w .6) (laying-before v l (w .0 .left) (w .1 .left))))
     (c .if1 .came)
-
-sub-result : tie.Need-sub-result Inv-loop μ-loop
-sub-result c = search needs
 
 same-length : tie.Need-same-length Inv-loop μ-loop
 same-length c = laying-uses (c .before .loop .inv)
@@ -111,26 +78,26 @@ add-wires-spec =
     Inv-loop
     μ-loop
     loop-holds
-    mul-if1
-    shared-slice-read-if1
+    (λ c. search needs)
+    (λ c. search needs)
     mul-wires
     slice-write-wires
     add-w
-    mul-small
-    shared-slice-read-small
-    small-requires
+    (λ c. search needs)
+    (λ c. search needs)
+    (λ c κs. search needs)
     mul-uses
     slice-write-uses
     add-u
-    add-size
-    small-length-requires
-    sub-wires
+    (λ c. search needs)
+    (λ c κs. search needs)
+    (λ c. search needs)
     mul-wires-2
     slice-write-wires-2
-    add-i
-    loop-less
+    (λ c. search needs)
+    (λ c. search needs)
     loop-again
-    sub-result
+    (λ c. search needs)
     same-length
     same-length-2
     returns)

@@ -8,74 +8,35 @@ use Rattle.line_parts.proofs.counts_after.Tie as tie
 limits : (s : tie.Start) → Limited (s .args .t3)
 limits s = limited (s .args .t3) (search needs) (s .pre)
 
-array-read-after : tie.Need-array-read-after
-array-read-after c = search needs
-
 add-after : tie.Need-add-after
 add-after c = let l = limits (c .before .before) .points in search needs
-
-array-write-after : tie.Need-array-write-after
-array-write-after c = search needs
 
 returns : tie.Need-returns
 returns c =
     let s = c .before .before in
     after-point (s .args .k) (s .args .v .now) (s .args .t3) (search needs) (c .if1 .taken)
 
-array-read-after-2 : tie.Need-array-read-after-2
-array-read-after-2 c = search needs
-
 add-after-2 : tie.Need-add-after-2
 add-after-2 c = let l = limits (c .before .before .before) .edges in search needs
-
-array-write-after-2 : tie.Need-array-write-after-2
-array-write-after-2 c = search needs
 
 returns-2 : tie.Need-returns-2
 returns-2 c =
     let s = c .before .before .before in
     after-edge (s .args .k) (s .args .v .now) (s .args .t3) (search needs) (c .if2 .taken)
 
-array-read-after-3 : tie.Need-array-read-after-3
-array-read-after-3 c = search needs
-
 add-after-3 : tie.Need-add-after-3
 add-after-3 c = let l = limits (c .before .before .before .before) .faces in search needs
-
-array-write-after-3 : tie.Need-array-write-after-3
-array-write-after-3 c = search needs
 
 returns-3 : tie.Need-returns-3
 returns-3 c =
     let s = c .before .before .before .before .before in
     after-face-few (s .args .k) (s .args .v .now) (s .args .t3) (search needs) (c .before .if3 .taken) (c .if4 .taken)
 
-part-count-wires-start : tie.Need-part-count-wires-start
-part-count-wires-start c = search needs
-
-part-count-wires-end : tie.Need-part-count-wires-end
-part-count-wires-end c = search needs
-
-count-wires-requires : tie.Need-count-wires-requires
-count-wires-requires c κs = search needs
-
-array-read-after-4 : tie.Need-array-read-after-4
-array-read-after-4 c = search needs
-
 add-after-4 : tie.Need-add-after-4
 add-after-4 c = let l = limits (c .before .before .before .before .before .before .before .before) .uses in let m = c .before .count-wires .ensures .2 in search needs
 
-array-write-after-4 : tie.Need-array-write-after-4
-array-write-after-4 c = search needs
-
-array-read-after-5 : tie.Need-array-read-after-5
-array-read-after-5 c = search needs
-
 add-after-5 : tie.Need-add-after-5
 add-after-5 c = let l = limits (c .before .before .before .before .before .before .before .before .before) .wires in let m = c .before .before .count-wires .ensures .2 in search needs
-
-array-write-after-5 : tie.Need-array-write-after-5
-array-write-after-5 c = search needs
 
 returns-4 : tie.Need-returns-4
 returns-4 c =
@@ -84,28 +45,16 @@ returns-4 c =
     let n = c .before .before .count-wires .ensures in
     after-face (s .args .k) (s .args .v .now) (s .args .t3) (search needs) _ _ (c .before .before .before .before .before .if3 .taken) (rw w at (n .0)) (rw w at (n .1))
 
-array-read-after-6 : tie.Need-array-read-after-6
-array-read-after-6 c = search needs
-
 add-after-6 : tie.Need-add-after-6
 add-after-6 c = let l = limits (c .before .before .before .before .before) .shells in search needs
-
-array-write-after-6 : tie.Need-array-write-after-6
-array-write-after-6 c = search needs
 
 returns-5 : tie.Need-returns-5
 returns-5 c =
     let s = c .before .before .before .before .before .before in
     after-shell-few (s .args .k) (s .args .v .now) (s .args .t3) (search needs) (c .before .if5 .taken) (c .if6 .taken)
 
-array-read-after-7 : tie.Need-array-read-after-7
-array-read-after-7 c = search needs
-
 add-after-7 : tie.Need-add-after-7
 add-after-7 c = let l = limits (c .before .before .before .before .before .before) .listings in search needs
-
-array-write-after-7 : tie.Need-array-write-after-7
-array-write-after-7 c = search needs
 
 returns-6 : tie.Need-returns-6
 returns-6 c =
@@ -121,34 +70,34 @@ pub counts-after-spec : {M : Type 1} → statement M
 counts-after-spec =
     tie.close
     (tie.spec
-    array-read-after
+    (λ c. search needs)
     add-after
-    array-write-after
+    (λ c. search needs)
     returns
-    array-read-after-2
+    (λ c. search needs)
     add-after-2
-    array-write-after-2
+    (λ c. search needs)
     returns-2
-    array-read-after-3
+    (λ c. search needs)
     add-after-3
-    array-write-after-3
+    (λ c. search needs)
     returns-3
-    part-count-wires-start
-    part-count-wires-end
-    count-wires-requires
-    array-read-after-4
+    (λ c. search needs)
+    (λ c. search needs)
+    (λ c κs. search needs)
+    (λ c. search needs)
     add-after-4
-    array-write-after-4
-    array-read-after-5
+    (λ c. search needs)
+    (λ c. search needs)
     add-after-5
-    array-write-after-5
+    (λ c. search needs)
     returns-4
-    array-read-after-6
+    (λ c. search needs)
     add-after-6
-    array-write-after-6
+    (λ c. search needs)
     returns-5
-    array-read-after-7
+    (λ c. search needs)
     add-after-7
-    array-write-after-7
+    (λ c. search needs)
     returns-6
     returns-7)

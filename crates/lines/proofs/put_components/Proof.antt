@@ -9,14 +9,8 @@ use Rattle.lines.specs.Parts.{wordLines, wordNumbers}
 use Rattle.lines.proofs.put_components.Statement.{statement}
 use Rattle.lines.proofs.put_components.Tie as tie
 
-slice-aggregate-put-lines : tie.Need-slice-aggregate-put-lines
-slice-aggregate-put-lines c = search needs
-
 put-lines-requires : tie.Need-put-lines-requires
 put-lines-requires c κs = (c .before .before .before .before .before .before .pre .0, omega (arith, length-append (wordLines (ascii "component") (c .before .before .before .before .before .before .args .plens .now) (c .before .before .before .before .before .before .args .pairs .now)) (wordNumbers (ascii "singular ") (c .before .before .before .before .before .before .args .points .now))))
-
-slice-aggregate-put-numbers : tie.Need-slice-aggregate-put-numbers
-slice-aggregate-put-numbers c = search needs
 
 put-numbers-requires : tie.Need-put-numbers-requires
 put-numbers-requires c κs = omega (arith, length-append (wordLines (ascii "component") (c .before .before .before .before .before .before .before .before .before .before .before .args .plens .now) (c .before .before .before .before .before .before .before .before .before .before .before .args .pairs .now)) (wordNumbers (ascii "singular ") (c .before .before .before .before .before .before .before .before .before .before .before .args .points .now)), c .before .before .before .before .put-lines .kept .0)
@@ -33,9 +27,9 @@ pub put-components-spec : {M : Type 1} → statement M
 put-components-spec =
     tie.close
     (tie.spec
-    slice-aggregate-put-lines
+    (λ c. search needs)
     put-lines-requires
-    slice-aggregate-put-numbers
+    (λ c. search needs)
     put-numbers-requires
     same-length
     returns)

@@ -10,9 +10,6 @@ use Rattle.lines.specs.Parts.{conditionLine, connectedLine, wordNumber}
 use Rattle.lines.proofs.put_head.Statement.{statement}
 use Rattle.lines.proofs.put_head.Tie as tie
 
-slice-aggregate-put-number : tie.Need-slice-aggregate-put-number
-slice-aggregate-put-number c = search needs
-
 put-number-requires : tie.Need-put-number-requires
 put-number-requires c κs = omega (arith, shell-number-short (c .before .before .before .args .n) (c .before .before .before .pre .0))
 
@@ -38,7 +35,7 @@ pub put-head-spec : {M : Type 1} → statement M
 put-head-spec =
     tie.close
     (tie.spec
-    slice-aggregate-put-number
+    (λ c. search needs)
     put-number-requires
     put-condition-requires
     put-connected-requires

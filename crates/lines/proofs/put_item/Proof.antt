@@ -8,12 +8,6 @@ use Rattle.lines.proofs.Steps.{put-after}
 use Rattle.lines.proofs.put_item.Statement.{statement}
 use Rattle.lines.proofs.put_item.Tie as tie
 
-slice-write-out : tie.Need-slice-write-out
-slice-write-out c = search needs
-
-add-put-signed : tie.Need-add-put-signed
-add-put-signed c = search needs
-
 put-signed-requires : tie.Need-put-signed-requires
 put-signed-requires c κs = simp length-set (omega arith)
 
@@ -25,4 +19,4 @@ returns c = put-after (c .before .before .before .before .before .args .out .now
 
 pub put-item-spec : {M : Type 1} → statement M
 put-item-spec =
-    tie.close (tie.spec slice-write-out add-put-signed put-signed-requires same-length returns)
+    tie.close (tie.spec (λ c. search needs) (λ c. search needs) put-signed-requires same-length returns)

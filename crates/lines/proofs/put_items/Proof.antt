@@ -17,20 +17,8 @@ abbrev μ-loop : tie.MeasureT-loop
 loop-holds : tie.Need-loop-holds Inv-loop μ-loop
 loop-holds c = putting-start item (c .before .before .args .out .now) (c .before .before .args .at) (c .before .before .args .us .now) (c .before .before .pre)
 
-mul-put-item : tie.Need-mul-put-item Inv-loop μ-loop
-mul-put-item c = search needs
-
-shared-slice-read-put-item : tie.Need-shared-slice-read-put-item Inv-loop μ-loop
-shared-slice-read-put-item c = search needs
-
 put-item-requires : tie.Need-put-item-requires Inv-loop μ-loop
 put-item-requires c κs = putting-room item (c .before .before .before .loop .inv) 0 (c .before .before .loop-test .taken) refl
-
-add-i : tie.Need-add-i Inv-loop μ-loop
-add-i c = search needs
-
-loop-less : tie.Need-loop-less Inv-loop μ-loop
-loop-less c = search needs
 
 loop-again : tie.Need-loop-again Inv-loop μ-loop
 loop-again c = putting-next item (c .before .before .before .before .before .before .loop .inv) 0 (c .before .before .before .before .before .loop-test .taken) refl (c .before .before .put-item .last .0) (c .before .before .put-item .result) (c .before .before .put-item .ensures)
@@ -48,11 +36,11 @@ put-items-spec =
     Inv-loop
     μ-loop
     loop-holds
-    mul-put-item
-    shared-slice-read-put-item
+    (λ c. search needs)
+    (λ c. search needs)
     put-item-requires
-    add-i
-    loop-less
+    (λ c. search needs)
+    (λ c. search needs)
     loop-again
     same-length
     returns)

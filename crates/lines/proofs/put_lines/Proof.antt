@@ -21,26 +21,11 @@ fits c = lining-fits (wordLine (c .before .before .before .before .before .befor
 loop-holds : tie.Need-loop-holds Inv-loop μ-loop
 loop-holds c = lining-start (wordLine (c .before .before .before .before .args .word .now)) (c .before .before .before .before .args .out .now) (c .before .before .before .before .args .at) (c .before .before .before .before .args .items .now) (c .before .before .before .before .args .lens .now) (c .before .before .before .before .pre .0) (c .before .before .before .before .pre .1)
 
-mul-index : tie.Need-mul-index Inv-loop μ-loop
-mul-index c = search needs
-
-shared-slice-read-index : tie.Need-shared-slice-read-index Inv-loop μ-loop
-shared-slice-read-index c = search needs
-
-index-requires : tie.Need-index-requires Inv-loop μ-loop
-index-requires c κs = search needs
-
 add-put-line : tie.Need-add-put-line Inv-loop μ-loop
 add-put-line c = omega (arith, fits (c .before))
 
 mul-put-line : tie.Need-mul-put-line Inv-loop μ-loop
 mul-put-line c = omega (arith, fits (c .before))
-
-sub-put-line : tie.Need-sub-put-line Inv-loop μ-loop
-sub-put-line c = search needs
-
-part-put-line-start : tie.Need-part-put-line-start Inv-loop μ-loop
-part-put-line-start c = search needs
 
 part-put-line-end : tie.Need-part-put-line-end Inv-loop μ-loop
 part-put-line-end c = fits (c .before)
@@ -50,12 +35,6 @@ put-line-requires c κs = lining-room (wordLine (c .before .before .before .befo
 
 add-start : tie.Need-add-start Inv-loop μ-loop
 add-start c = omega (arith, fits (c .before .before .before .before .before))
-
-add-k : tie.Need-add-k Inv-loop μ-loop
-add-k c = search needs
-
-loop-less : tie.Need-loop-less Inv-loop μ-loop
-loop-less c = search needs
 
 loop-again : tie.Need-loop-again Inv-loop μ-loop
 loop-again c = lining-next (wordLine (c .before .before .before .before .before .before .before .before .before .before .before .before .before .args .word .now)) (c .before .before .before .before .before .before .before .before .loop .inv) (c .before .before .before .before .before .before .before .loop-test .taken) (c .before .before .before .before .before .index .ensures .0) (c .before .before .put-line .last .0) (c .before .before .put-line .result) (c .before .before .put-line .ensures)
@@ -73,18 +52,18 @@ put-lines-spec =
     Inv-loop
     μ-loop
     loop-holds
-    mul-index
-    shared-slice-read-index
-    index-requires
+    (λ c. search needs)
+    (λ c. search needs)
+    (λ c κs. search needs)
     add-put-line
     mul-put-line
-    sub-put-line
-    part-put-line-start
+    (λ c. search needs)
+    (λ c. search needs)
     part-put-line-end
     put-line-requires
     add-start
-    add-k
-    loop-less
+    (λ c. search needs)
+    (λ c. search needs)
     loop-again
     same-length
     returns)

@@ -17,12 +17,9 @@ slice-write-out c = omega (arith, length-append (c .before .before .before .befo
 add-result : tie.Need-add-result
 add-result c = omega (arith, length-append (c .before .before .before .before .before .before .args .word .now ++ decimal (c .before .before .before .before .before .before .args .n)) (ascii "\n"))
 
-same-length : tie.Need-same-length
-same-length c = search needs
-
 returns : tie.Need-returns
 returns c = put-byte (c .before .before .before .before .before .before .args .out .now) (c .before .before .before .before .before .before .args .at) (c .before .before .before .before .before .before .args .word .now ++ decimal (c .before .before .before .before .before .before .args .n)) (c .before .before .put-field .last .0) (c .before .before .put-field .result) 10 (c .before .before .put-field .ensures)
 
 pub put-number-spec : {M : Type 1} → statement M
 put-number-spec =
-    tie.close (tie.spec put-field-requires slice-write-out add-result same-length returns)
+    tie.close (tie.spec put-field-requires slice-write-out add-result (λ c. search needs) returns)

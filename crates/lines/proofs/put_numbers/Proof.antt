@@ -17,23 +17,8 @@ abbrev μ-loop : tie.MeasureT-loop
 loop-holds : tie.Need-loop-holds Inv-loop μ-loop
 loop-holds c = putting-start (wordNumber (c .before .before .before .args .word .now)) (c .before .before .before .args .out .now) (c .before .before .before .args .at) (c .before .before .before .args .points .now) (c .before .before .before .pre)
 
-mul-index : tie.Need-mul-index Inv-loop μ-loop
-mul-index c = search needs
-
-shared-slice-read-index : tie.Need-shared-slice-read-index Inv-loop μ-loop
-shared-slice-read-index c = search needs
-
-index-requires : tie.Need-index-requires Inv-loop μ-loop
-index-requires c κs = search needs
-
 put-number-requires : tie.Need-put-number-requires Inv-loop μ-loop
 put-number-requires c κs = putting-room (wordNumber (c .before .before .before .before .before .before .before .before .args .word .now)) (c .before .before .before .before .loop .inv) 0 (c .before .before .before .loop-test .taken) (sym (c .index .ensures .0))
-
-add-j : tie.Need-add-j Inv-loop μ-loop
-add-j c = search needs
-
-loop-less : tie.Need-loop-less Inv-loop μ-loop
-loop-less c = search needs
 
 loop-again : tie.Need-loop-again Inv-loop μ-loop
 loop-again c = putting-next (wordNumber (c .before .before .before .before .before .before .before .before .before .before .before .args .word .now)) (c .before .before .before .before .before .before .before .loop .inv) 0 (c .before .before .before .before .before .before .loop-test .taken) (sym (c .before .before .before .index .ensures .0)) (c .before .before .put-number .last .0) (c .before .before .put-number .result) (c .before .before .put-number .ensures)
@@ -51,12 +36,12 @@ put-numbers-spec =
     Inv-loop
     μ-loop
     loop-holds
-    mul-index
-    shared-slice-read-index
-    index-requires
+    (λ c. search needs)
+    (λ c. search needs)
+    (λ c κs. search needs)
     put-number-requires
-    add-j
-    loop-less
+    (λ c. search needs)
+    (λ c. search needs)
     loop-again
     same-length
     returns)

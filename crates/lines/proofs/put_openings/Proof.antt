@@ -9,14 +9,8 @@ use Rattle.lines.specs.Parts.{wordLines, wordNumber}
 use Rattle.lines.proofs.put_openings.Statement.{statement}
 use Rattle.lines.proofs.put_openings.Tie as tie
 
-slice-aggregate-put-lines : tie.Need-slice-aggregate-put-lines
-slice-aggregate-put-lines c = search needs
-
 put-lines-requires : tie.Need-put-lines-requires
 put-lines-requires c κs = (c .before .before .before .before .before .pre .0, omega (arith, length-append (wordLines (ascii "opening") (c .before .before .before .before .before .args .lens .now) (c .before .before .before .before .before .args .uses .now)) (wordNumber (ascii "lookups ") (c .before .before .before .before .before .args .lookups))))
-
-slice-aggregate-put-number : tie.Need-slice-aggregate-put-number
-slice-aggregate-put-number c = search needs
 
 put-number-requires : tie.Need-put-number-requires
 put-number-requires c κs = omega (arith, length-append (wordLines (ascii "opening") (c .before .before .before .before .before .before .before .before .before .before .args .lens .now) (c .before .before .before .before .before .before .before .before .before .before .args .uses .now)) (wordNumber (ascii "lookups ") (c .before .before .before .before .before .before .before .before .before .before .args .lookups)), c .before .before .before .before .put-lines .kept .0)
@@ -33,9 +27,9 @@ pub put-openings-spec : {M : Type 1} → statement M
 put-openings-spec =
     tie.close
     (tie.spec
-    slice-aggregate-put-lines
+    (λ c. search needs)
     put-lines-requires
-    slice-aggregate-put-number
+    (λ c. search needs)
     put-number-requires
     same-length
     returns)

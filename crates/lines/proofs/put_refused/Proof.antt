@@ -10,14 +10,8 @@ use Rattle.lines.specs.Parts.{wordNumber}
 use Rattle.lines.proofs.put_refused.Statement.{statement}
 use Rattle.lines.proofs.put_refused.Tie as tie
 
-slice-aggregate-put-field : tie.Need-slice-aggregate-put-field
-slice-aggregate-put-field c = search needs
-
 put-field-requires : tie.Need-put-field-requires
 put-field-requires c κs = omega (arith, refused-first (c .before .before .before .args .number) (c .before .before .before .pre .0))
-
-slice-aggregate-put-number : tie.Need-slice-aggregate-put-number
-slice-aggregate-put-number c = search needs
 
 put-number-requires : tie.Need-put-number-requires
 put-number-requires c κs = omega (arith, refused-first (c .before .before .before .before .before .before .before .before .args .number) (c .before .before .before .before .before .before .before .before .pre .0), refused-second (c .before .before .before .before .before .before .before .before .args .shell) (c .before .before .before .before .before .before .before .before .pre .1), c .before .before .before .before .put-field .kept .0)
@@ -34,9 +28,9 @@ pub put-refused-spec : {M : Type 1} → statement M
 put-refused-spec =
     tie.close
     (tie.spec
-    slice-aggregate-put-field
+    (λ c. search needs)
     put-field-requires
-    slice-aggregate-put-number
+    (λ c. search needs)
     put-number-requires
     same-length
     returns)

@@ -18,9 +18,6 @@ short : (c : tie.After-shared-slice-known5)
     × (length (componentLines (c .before .before .before .before .before .before .args .plens .now) (c .before .before .before .before .before .before .args .pairs .now) (c .before .before .before .before .before .before .args .points .now)) ≤ 39424)
 short c = parts-short (c .before .before .before .before .before .before .args .condition) (c .before .before .before .before .before .before .args .connected) (c .before .before .before .before .before .before .pre) (λ k. omega (arith, c .shared-slice-known5 .given k))
 
-put-head-requires : tie.Need-put-head-requires
-put-head-requires c κs = search needs
-
 put-openings-requires : tie.Need-put-openings-requires
 put-openings-requires c κs = let s = short (c .before .before .before .before .before) in (c .before .before .before .before .before .before .before .before .before .before .before .pre .all-uses, omega (arith, c .before .before .before .before .before .before .before .before .before .before .before .pre .room, c .before .before .before .put-head .ensures .1, c .before .before .before .put-head .kept .0))
 
@@ -47,4 +44,4 @@ returns c =
 pub put-shell-spec : {M : Type 1} → statement M
 put-shell-spec =
     tie.close
-    (tie.spec put-head-requires put-openings-requires put-components-requires same-length returns)
+    (tie.spec (λ c κs. search needs) put-openings-requires put-components-requires same-length returns)

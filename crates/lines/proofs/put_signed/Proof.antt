@@ -5,12 +5,6 @@ use Rattle.lines.proofs.Steps.{put-sign, signed-long}
 use Rattle.lines.proofs.put_signed.Statement.{statement}
 use Rattle.lines.proofs.put_signed.Tie as tie
 
-sign-of-requires : tie.Need-sign-of-requires
-sign-of-requires c κs = search needs
-
-index-requires : tie.Need-index-requires
-index-requires c κs = search needs
-
 put-decimal-requires : tie.Need-put-decimal-requires
 put-decimal-requires c κs = omega (arith, signed-long (c .before .before .before .before .args .u) (c .index .ensures .0) (c .before .before .sign-of .ensures))
 
@@ -20,9 +14,6 @@ slice-write-out c = omega (arith, signed-long (c .before .before .before .before
 add-result : tie.Need-add-result
 add-result c = omega (arith, signed-long (c .before .before .before .before .before .before .before .args .u) (c .before .before .before .index .ensures .0) (c .before .before .before .before .before .sign-of .ensures))
 
-same-length : tie.Need-same-length
-same-length c = search needs
-
 returns : tie.Need-returns
 returns c = put-sign (c .before .before .before .before .before .before .before .args .u) (c .before .before .before .index .ensures .0) (c .before .before .before .before .before .sign-of .ensures) (c .before .before .before .before .before .before .before .args .out .now) (c .before .before .before .before .before .before .before .args .at) (c .before .before .put-decimal .last .0) (c .before .before .put-decimal .result) (c .before .before .put-decimal .ensures)
 
@@ -30,10 +21,10 @@ pub put-signed-spec : {M : Type 1} → statement M
 put-signed-spec =
     tie.close
     (tie.spec
-    sign-of-requires
-    index-requires
+    (λ c κs. search needs)
+    (λ c κs. search needs)
     put-decimal-requires
     slice-write-out
     add-result
-    same-length
+    (λ c. search needs)
     returns)

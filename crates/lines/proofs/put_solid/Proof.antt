@@ -6,26 +6,11 @@ use Rattle.lines.proofs.Steps.{accepted-is, put-as, refused-is}
 use Rattle.lines.proofs.put_solid.Statement.{statement}
 use Rattle.lines.proofs.put_solid.Tie as tie
 
-slice-aggregate-put-text : tie.Need-slice-aggregate-put-text
-slice-aggregate-put-text c = search needs
-
-put-text-requires : tie.Need-put-text-requires
-put-text-requires c κs = search needs
-
-same-length : tie.Need-same-length
-same-length c = search needs
-
 returns : tie.Need-returns
 returns c =
     let a = c .before .before .before .before .before .before .before .args in
     let p = put-as (a .out .now) (a .at) _ _ (accepted-is (a .accepted) (a .number) (a .shell) (c .before .before .before .before .before .if1 .taken)) (c .before .before .put-text .ensures) in
     (p .0, p .1, omega (arith, c .before .before .put-text .ensures .1))
-
-put-refused-requires : tie.Need-put-refused-requires
-put-refused-requires c κs = search needs
-
-same-length-2 : tie.Need-same-length-2
-same-length-2 c = search needs
 
 returns-2 : tie.Need-returns-2
 returns-2 c =
@@ -37,10 +22,10 @@ pub put-solid-spec : {M : Type 1} → statement M
 put-solid-spec =
     tie.close
     (tie.spec
-    slice-aggregate-put-text
-    put-text-requires
-    same-length
+    (λ c. search needs)
+    (λ c κs. search needs)
+    (λ c. search needs)
     returns
-    put-refused-requires
-    same-length-2
+    (λ c κs. search needs)
+    (λ c. search needs)
     returns-2)

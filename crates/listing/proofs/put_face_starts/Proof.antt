@@ -17,32 +17,14 @@ abbrev μ-loop : tie.MeasureT-loop
 loop-holds : tie.Need-loop-holds Inv-loop μ-loop
 loop-holds c = starting-start _ _ _ _ (c .before .before .before .pre .0) (c .before .before .before .pre .1) (c .before .before .before .pre .2) (c .before .before .before .pre .4)
 
-mul-out : tie.Need-mul-out Inv-loop μ-loop
-mul-out c = search needs
-
 slice-write-out : tie.Need-slice-write-out Inv-loop μ-loop
 slice-write-out c = omega (arith, starting-long (c .before .loop .inv), c .before .before .before .before .before .pre .0)
-
-mul-index : tie.Need-mul-index Inv-loop μ-loop
-mul-index c = search needs
-
-shared-slice-read-index : tie.Need-shared-slice-read-index Inv-loop μ-loop
-shared-slice-read-index c = search needs
-
-index-requires : tie.Need-index-requires Inv-loop μ-loop
-index-requires c κs = search needs
 
 add-sum-of : tie.Need-add-sum-of Inv-loop μ-loop
 add-sum-of c = omega (arith, starting-fits (c .before .before .before .loop .inv) (omega arith) (c .index .ensures .0))
 
 mul-sum-of : tie.Need-mul-sum-of Inv-loop μ-loop
 mul-sum-of c = omega (arith, starting-fits (c .before .before .before .loop .inv) (omega arith) (c .index .ensures .0))
-
-sub-sum-of : tie.Need-sub-sum-of Inv-loop μ-loop
-sub-sum-of c = search needs
-
-part-sum-of-start : tie.Need-part-sum-of-start Inv-loop μ-loop
-part-sum-of-start c = search needs
 
 part-sum-of-end : tie.Need-part-sum-of-end Inv-loop μ-loop
 part-sum-of-end c = starting-fits (c .before .before .before .loop .inv) (omega arith) (c .index .ensures .0)
@@ -56,17 +38,8 @@ add-start c = omega (arith, starting-low (c .before .before .before .before .bef
 add-at : tie.Need-add-at Inv-loop μ-loop
 add-at c = omega (arith, starting-fits (c .before .before .before .before .before .loop .inv) (omega arith) (c .before .before .index .ensures .0))
 
-add-k : tie.Need-add-k Inv-loop μ-loop
-add-k c = search needs
-
-loop-less : tie.Need-loop-less Inv-loop μ-loop
-loop-less c = search needs
-
 loop-again : tie.Need-loop-again Inv-loop μ-loop
 loop-again c = starting-next (c .before .before .before .before .before .loop .inv) (omega arith) (c .before .before .index .ensures .0) (c .sum-of .ensures)
-
-mul-out-2 : tie.Need-mul-out-2 Inv-loop μ-loop
-mul-out-2 c = search needs
 
 slice-write-out-2 : tie.Need-slice-write-out-2 Inv-loop μ-loop
 slice-write-out-2 c = omega (arith, starting-long (c .before .loop .inv), c .before .before .before .before .before .pre .0)
@@ -84,23 +57,23 @@ put-face-starts-spec =
     Inv-loop
     μ-loop
     loop-holds
-    mul-out
+    (λ c. search needs)
     slice-write-out
-    mul-index
-    shared-slice-read-index
-    index-requires
+    (λ c. search needs)
+    (λ c. search needs)
+    (λ c κs. search needs)
     add-sum-of
     mul-sum-of
-    sub-sum-of
-    part-sum-of-start
+    (λ c. search needs)
+    (λ c. search needs)
     part-sum-of-end
     sum-of-requires
     add-start
     add-at
-    add-k
-    loop-less
+    (λ c. search needs)
+    (λ c. search needs)
     loop-again
-    mul-out-2
+    (λ c. search needs)
     slice-write-out-2
     same-length
     returns)

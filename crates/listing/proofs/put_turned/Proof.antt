@@ -18,39 +18,6 @@ Inv-loop out₀ at wire i₀ out i = (i ≤ length wire) × (length out ≡ leng
 abbrev μ-loop : tie.MeasureT-loop
 μ-loop out₀ at wire i₀ out i = length wire - i
 
-loop-holds : tie.Need-loop-holds Inv-loop μ-loop
-loop-holds c = search needs
-
-sub-turn : tie.Need-sub-turn Inv-loop μ-loop
-sub-turn c = search needs
-
-sub-turn-2 : tie.Need-sub-turn-2 Inv-loop μ-loop
-sub-turn-2 c = search needs
-
-mul-turn : tie.Need-mul-turn Inv-loop μ-loop
-mul-turn c = search needs
-
-shared-slice-read-turn : tie.Need-shared-slice-read-turn Inv-loop μ-loop
-shared-slice-read-turn c = search needs
-
-turn-requires : tie.Need-turn-requires Inv-loop μ-loop
-turn-requires c κs = search needs
-
-add-out : tie.Need-add-out Inv-loop μ-loop
-add-out c = search needs
-
-mul-out : tie.Need-mul-out Inv-loop μ-loop
-mul-out c = search needs
-
-slice-write-out : tie.Need-slice-write-out Inv-loop μ-loop
-slice-write-out c = search needs
-
-add-i : tie.Need-add-i Inv-loop μ-loop
-add-i c = search needs
-
-loop-less : tie.Need-loop-less Inv-loop μ-loop
-loop-less c = search needs
-
 loop-again : tie.Need-loop-again Inv-loop μ-loop
 loop-again c =
     let v = c .before .before .before .loop .inv in
@@ -59,9 +26,6 @@ loop-again c =
       simp length-set (v .1),
       turning-one (a .out .now) (a .at) (a .wire .now) (c .before .before .before .loop .i) (c .turn .result) (c .before .before .before .loop .out) (omega arith) (c .turn .ensures) (v .2),
     )
-
-same-length : tie.Need-same-length Inv-loop μ-loop
-same-length c = search needs
 
 returns : tie.Need-returns Inv-loop μ-loop
 returns c =
@@ -75,17 +39,17 @@ put-turned-spec =
     (tie.spec
     Inv-loop
     μ-loop
-    loop-holds
-    sub-turn
-    sub-turn-2
-    mul-turn
-    shared-slice-read-turn
-    turn-requires
-    add-out
-    mul-out
-    slice-write-out
-    add-i
-    loop-less
+    (λ c. search needs)
+    (λ c. search needs)
+    (λ c. search needs)
+    (λ c. search needs)
+    (λ c. search needs)
+    (λ c κs. search needs)
+    (λ c. search needs)
+    (λ c. search needs)
+    (λ c. search needs)
+    (λ c. search needs)
+    (λ c. search needs)
     loop-again
-    same-length
+    (λ c. search needs)
     returns)

@@ -18,26 +18,11 @@ abbrev μ-loop : tie.MeasureT-loop
 loop-holds : tie.Need-loop-holds Inv-loop μ-loop
 loop-holds c = turning-start _ _ _ (c .before .before .before .pre .0) (c .before .before .before .pre .2) (c .before .before .before .pre .3)
 
-mul-index : tie.Need-mul-index Inv-loop μ-loop
-mul-index c = search needs
-
-shared-slice-read-index : tie.Need-shared-slice-read-index Inv-loop μ-loop
-shared-slice-read-index c = search needs
-
-index-requires : tie.Need-index-requires Inv-loop μ-loop
-index-requires c κs = search needs
-
 add-put-turned : tie.Need-add-put-turned Inv-loop μ-loop
 add-put-turned c = omega (arith, turning-fits (c .before .before .before .before .loop .inv) (omega arith) (c .before .index .ensures .0))
 
 mul-put-turned : tie.Need-mul-put-turned Inv-loop μ-loop
 mul-put-turned c = omega (arith, turning-fits (c .before .before .before .before .loop .inv) (omega arith) (c .before .index .ensures .0))
-
-sub-put-turned : tie.Need-sub-put-turned Inv-loop μ-loop
-sub-put-turned c = search needs
-
-part-put-turned-start : tie.Need-part-put-turned-start Inv-loop μ-loop
-part-put-turned-start c = search needs
 
 part-put-turned-end : tie.Need-part-put-turned-end Inv-loop μ-loop
 part-put-turned-end c = turning-fits (c .before .before .before .before .loop .inv) (omega arith) (c .before .index .ensures .0)
@@ -47,12 +32,6 @@ put-turned-requires c κs = turning-room (c .before .before .before .before .bef
 
 add-at : tie.Need-add-at Inv-loop μ-loop
 add-at c = omega (arith, turning-fits (c .before .before .before .before .before .before .before .before .loop .inv) (omega arith) (c .before .before .before .before .before .index .ensures .0))
-
-add-k : tie.Need-add-k Inv-loop μ-loop
-add-k c = search needs
-
-loop-less : tie.Need-loop-less Inv-loop μ-loop
-loop-less c = search needs
 
 loop-again : tie.Need-loop-again Inv-loop μ-loop
 loop-again c = turning-next (c .before .before .before .before .before .before .before .before .loop .inv) (omega arith) (c .before .before .before .before .before .index .ensures .0) _ (c .before .before .put-turned .ensures)
@@ -70,18 +49,18 @@ put-turned-uses-spec =
     Inv-loop
     μ-loop
     loop-holds
-    mul-index
-    shared-slice-read-index
-    index-requires
+    (λ c. search needs)
+    (λ c. search needs)
+    (λ c κs. search needs)
     add-put-turned
     mul-put-turned
-    sub-put-turned
-    part-put-turned-start
+    (λ c. search needs)
+    (λ c. search needs)
     part-put-turned-end
     put-turned-requires
     add-at
-    add-k
-    loop-less
+    (λ c. search needs)
+    (λ c. search needs)
     loop-again
     same-length
     returns)

@@ -12,32 +12,8 @@ use Rattle.listing.proofs.shown.Tie as tie
 part-long : (us : List ℕ) (start end : ℕ) → start ≤ end → end ≤ length us → length (take (end - start) (drop start us)) ≡ end - start
 part-long us start end h l = length-take-le (end - start) (drop start us) (omega (arith, length-drop start us))
 
-mul-result : tie.Need-mul-result
-mul-result c = search needs
-
-sub-result : tie.Need-sub-result
-sub-result c = search needs
-
-part-result-start : tie.Need-part-result-start
-part-result-start c = search needs
-
-part-result-end : tie.Need-part-result-end
-part-result-end c = search needs
-
 returns : tie.Need-returns
 returns c = (sym (rw (c .before .if1 .taken)), part-long (c .before .before .args .turned .now) (c .before .before .args .start) (c .before .before .args .end) (omega arith) (omega arith))
-
-mul-result-2 : tie.Need-mul-result-2
-mul-result-2 c = search needs
-
-sub-result-2 : tie.Need-sub-result-2
-sub-result-2 c = search needs
-
-part-result-start-2 : tie.Need-part-result-start-2
-part-result-start-2 c = search needs
-
-part-result-end-2 : tie.Need-part-result-end-2
-part-result-end-2 c = search needs
 
 returns-2 : tie.Need-returns-2
 returns-2 c = (sym (rw (c .before .if1 .left)), part-long (c .before .before .args .uses .now) (c .before .before .args .start) (c .before .before .args .end) (omega arith) (omega arith))
@@ -46,13 +22,13 @@ pub shown-spec : {M : Type 1} → statement M
 shown-spec =
     tie.close
     (tie.spec
-    mul-result
-    sub-result
-    part-result-start
-    part-result-end
+    (λ c. search needs)
+    (λ c. search needs)
+    (λ c. search needs)
+    (λ c. search needs)
     returns
-    mul-result-2
-    sub-result-2
-    part-result-start-2
-    part-result-end-2
+    (λ c. search needs)
+    (λ c. search needs)
+    (λ c. search needs)
+    (λ c. search needs)
     returns-2)

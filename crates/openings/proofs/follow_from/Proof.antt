@@ -21,12 +21,6 @@ look-up-requires c κs =
     let v = c .before .loop .inv in
     (v .inside, omega (arith, v .asked, v .all, c .before .before .before .before .before .before .pre .3))
 
-enum-told : tie.Need-enum-told Inv-loop μ-loop
-enum-told c = search needs
-
-enum-known-found : tie.Need-enum-known-found Inv-loop μ-loop
-enum-known-found c = search needs
-
 mul-out : tie.Need-mul-out Inv-loop μ-loop
 mul-out c =
     let h = room-at _ _ _ _ _ _ _ _ _ _ _ _ (c .before .before .before .before .before .before .before .loop .inv) (c .before .before .before .before .before .look-up .result .answer) _ _ (c .before .before .before .before .before .look-up .ensures .0) (c .before .before .before .before .before .look-up .ensures .1 .1 .1) (c .before .before .before .before .before .look-up .ensures .1 .1 .0) (c .before .found .given .0 .0) (c .before .found .given .1) (c .before .before .before .before .before .before .before .before .before .before .before .before .pre .2) in
@@ -68,8 +62,8 @@ follow-from-spec =
     μ-loop
     loop-holds
     look-up-requires
-    enum-told
-    enum-known-found
+    (λ c. search needs)
+    (λ c. search needs)
     mul-out
     slice-write-out
     add-m

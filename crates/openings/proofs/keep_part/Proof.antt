@@ -20,15 +20,6 @@ abbrev μ-loop : tie.MeasureT-loop
 loop-holds : tie.Need-loop-holds Inv-loop μ-loop
 loop-holds c = keeping-start _ _ _ _ _ (c .before .before .before .before .before .pre)
 
-mul-u : tie.Need-mul-u Inv-loop μ-loop
-mul-u c = search needs
-
-shared-slice-read-u : tie.Need-shared-slice-read-u Inv-loop μ-loop
-shared-slice-read-u c = search needs
-
-cast-e : tie.Need-cast-e Inv-loop μ-loop
-cast-e c = search needs
-
 shared-slice-read-if1 : tie.Need-shared-slice-read-if1 Inv-loop μ-loop
 shared-slice-read-if1 c = keeping-tally _ _ _ _ _ (c .before .before .before .before .before .before .before .before .before .pre) _ _ (c .before .before .before .loop .inv) _ (omega arith) refl
 
@@ -37,12 +28,6 @@ front-of-requires c κs = keeping-edge _ _ _ _ _ (c .before .before .before .bef
 
 keep-at-requires : tie.Need-keep-at-requires Inv-loop μ-loop
 keep-at-requires c κs = keeping-front _ _ _ _ _ (c .before .before .before .before .before .before .before .before .before .before .before .before .pre) _ _ (c .before .before .before .before .before .before .loop .inv) _ (omega arith) refl _ (c .before .front-of .ensures)
-
-add-i : tie.Need-add-i Inv-loop μ-loop
-add-i c = search needs
-
-loop-less : tie.Need-loop-less Inv-loop μ-loop
-loop-less c = search needs
 
 loop-again : tie.Need-loop-again Inv-loop μ-loop
 loop-again c =
@@ -68,14 +53,14 @@ keep-part-spec =
     Inv-loop
     μ-loop
     loop-holds
-    mul-u
-    shared-slice-read-u
-    cast-e
+    (λ c. search needs)
+    (λ c. search needs)
+    (λ c. search needs)
     shared-slice-read-if1
     front-of-requires
     keep-at-requires
-    add-i
-    loop-less
+    (λ c. search needs)
+    (λ c. search needs)
     loop-again
     same-length
     returns)

@@ -17,23 +17,11 @@ abbrev μ-loop : tie.MeasureT-loop
 loop-holds : tie.Need-loop-holds Inv-loop μ-loop
 loop-holds c = passing-start _ _ _ _ _ _ _ (c .before .before .before .before .before .before .pre .1)
 
-mul-walk-use : tie.Need-mul-walk-use Inv-loop μ-loop
-mul-walk-use c = search needs
-
-shared-slice-read-walk-use : tie.Need-shared-slice-read-walk-use Inv-loop μ-loop
-shared-slice-read-walk-use c = search needs
-
 walk-use-requires : tie.Need-walk-use-requires Inv-loop μ-loop
 walk-use-requires c κs =
     let l = c .before .before .before .before .loop-test .taken in
     let n = c .before .before .before .before .before .before .before .before .before .before .before .before .pre .0 in
     ((n .edge (c .before .before .before .before .before .loop .i) l, n .point (c .before .before .before .before .before .loop .i) l), c .before .before .before .before .before .loop .inv .ready)
-
-add-i : tie.Need-add-i Inv-loop μ-loop
-add-i c = search needs
-
-loop-less : tie.Need-loop-less Inv-loop μ-loop
-loop-less c = search needs
 
 loop-again : tie.Need-loop-again Inv-loop μ-loop
 loop-again c = passing-next _ _ _ _ _ _ _ _ _ _ _ _ (c .before .before .before .before .before .before .before .before .before .before .before .before .loop .inv) (c .before .before .before .before .before .before .before .before .before .before .before .loop-test .taken) _ _ _ _ (c .before .before .before .before .before .before .walk-use .ensures .0) (c .before .before .before .before .before .before .walk-use .ensures .1)
@@ -57,11 +45,11 @@ walk-part-spec =
     Inv-loop
     μ-loop
     loop-holds
-    mul-walk-use
-    shared-slice-read-walk-use
+    (λ c. search needs)
+    (λ c. search needs)
     walk-use-requires
-    add-i
-    loop-less
+    (λ c. search needs)
+    (λ c. search needs)
     loop-again
     same-length
     same-length-2

@@ -14,41 +14,17 @@ short : (c : tie.After-record-of)
     → (length (decimal (c .before .before .number-of .result)) ≤ 20) × (length (decimal (c .before .body-of .result)) ≤ 20) × (length (decimal (c .record-of .result)) ≤ 20)
 short c = (decimal-20 _ (omega arith), decimal-20 _ (omega arith), decimal-20 _ (omega arith))
 
-number-of-requires : tie.Need-number-of-requires
-number-of-requires c κs = search needs
-
-body-of-requires : tie.Need-body-of-requires
-body-of-requires c κs = search needs
-
-record-of-requires : tie.Need-record-of-requires
-record-of-requires c κs = search needs
-
-slice-aggregate-put-field : tie.Need-slice-aggregate-put-field
-slice-aggregate-put-field c = search needs
-
 put-field-requires : tie.Need-put-field-requires
 put-field-requires c κs = let s = short (c .before .before) in omega arith
-
-slice-aggregate-put-field-2 : tie.Need-slice-aggregate-put-field-2
-slice-aggregate-put-field-2 c = search needs
 
 put-field-requires-2 : tie.Need-put-field-requires-2
 put-field-requires-2 c κs = let s = short (c .before .before .before .before .before .before .before) in omega arith
 
-slice-aggregate-put-field-3 : tie.Need-slice-aggregate-put-field-3
-slice-aggregate-put-field-3 c = search needs
-
 put-field-requires-3 : tie.Need-put-field-requires-3
 put-field-requires-3 c κs = let s = short (c .before .before .before .before .before .before .before .before .before .before .before .before) in omega arith
 
-slice-aggregate-put-text : tie.Need-slice-aggregate-put-text
-slice-aggregate-put-text c = search needs
-
 put-text-requires : tie.Need-put-text-requires
 put-text-requires c κs = let s = short (c .before .before .before .before .before .before .before .before .before .before .before .before .before .before .before .before .before) in omega arith
-
-same-length : tie.Need-same-length
-same-length c = search needs
 
 returns : tie.Need-returns
 unfolding field
@@ -71,16 +47,16 @@ pub put-refusal-spec : {M : Type 1} → statement M
 put-refusal-spec =
     tie.close
     (tie.spec
-    number-of-requires
-    body-of-requires
-    record-of-requires
-    slice-aggregate-put-field
+    (λ c κs. search needs)
+    (λ c κs. search needs)
+    (λ c κs. search needs)
+    (λ c. search needs)
     put-field-requires
-    slice-aggregate-put-field-2
+    (λ c. search needs)
     put-field-requires-2
-    slice-aggregate-put-field-3
+    (λ c. search needs)
     put-field-requires-3
-    slice-aggregate-put-text
+    (λ c. search needs)
     put-text-requires
-    same-length
+    (λ c. search needs)
     returns)

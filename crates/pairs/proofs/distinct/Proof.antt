@@ -20,20 +20,8 @@ loop-holds c = pairing-start _ _ _ (c .before .before .before .pre .1) (c .befor
 slice-aggregate-add-pair : tie.Need-slice-aggregate-add-pair Inv-loop μ-loop
 slice-aggregate-add-pair c = sym (c .before .before .loop .inv .marked .long)
 
-mul-add-pair : tie.Need-mul-add-pair Inv-loop μ-loop
-mul-add-pair c = search needs
-
-shared-slice-read-add-pair : tie.Need-shared-slice-read-add-pair Inv-loop μ-loop
-shared-slice-read-add-pair c = search needs
-
 add-pair-requires : tie.Need-add-pair-requires Inv-loop μ-loop
 add-pair-requires c κs = (c .before .before .before .before .loop .inv .listed (c .before .before .before .before .loop .k) (omega arith), (c .before .before .before .before .loop .inv .marked .long, pairing-room (c .before .before .before .before .loop .inv) (omega arith)))
-
-add-k : tie.Need-add-k Inv-loop μ-loop
-add-k c = search needs
-
-loop-less : tie.Need-loop-less Inv-loop μ-loop
-loop-less c = search needs
 
 loop-again : tie.Need-loop-again Inv-loop μ-loop
 loop-again c = pairing-next (c .before .before .before .before .before .before .before .before .loop .inv) (omega arith) _ _ _ (c .before .before .before .add-pair .ensures .0) (c .before .before .before .add-pair .ensures .1 .0) (c .before .before .before .add-pair .ensures .1 .1)
@@ -52,11 +40,11 @@ distinct-spec =
     μ-loop
     loop-holds
     slice-aggregate-add-pair
-    mul-add-pair
-    shared-slice-read-add-pair
+    (λ c. search needs)
+    (λ c. search needs)
     add-pair-requires
-    add-k
-    loop-less
+    (λ c. search needs)
+    (λ c. search needs)
     loop-again
     same-length
     returns)

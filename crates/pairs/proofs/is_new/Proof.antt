@@ -4,15 +4,6 @@ use mathlib.Core.Path.{_∙_, sym}
 use Rattle.pairs.proofs.is_new.Statement.{statement}
 use Rattle.pairs.proofs.is_new.Tie as tie
 
-has-wires-requires : tie.Need-has-wires-requires
-has-wires-requires c κs = search needs
-
-mark-of-requires : tie.Need-mark-of-requires
-mark-of-requires c κs = search needs
-
-shared-slice-read-result : tie.Need-shared-slice-read-result
-shared-slice-read-result c = search needs
-
 returns : tie.Need-returns
 returns c = rw (sym (c .before .before .before .has-wires .ensures) ∙ c .before .before .if1 .taken, c .before .mark-of .ensures)
 
@@ -22,4 +13,4 @@ returns-2 c = c .if1 .left ∙ rw (sym (c .before .has-wires .ensures) ∙ c .if
 pub is-new-spec : {M : Type 1} → statement M
 is-new-spec =
     tie.close
-    (tie.spec has-wires-requires mark-of-requires shared-slice-read-result returns returns-2)
+    (tie.spec (λ c κs. search needs) (λ c κs. search needs) (λ c. search needs) returns returns-2)

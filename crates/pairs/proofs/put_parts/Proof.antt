@@ -16,23 +16,11 @@ abbrev μ-loop : tie.MeasureT-loop
 loop-holds : tie.Need-loop-holds Inv-loop μ-loop
 loop-holds c = laying-start _ _ _ _ _ (c .before .before .before .before .before .pre .0)
 
-mul-part-of : tie.Need-mul-part-of Inv-loop μ-loop
-mul-part-of c = search needs
-
-shared-slice-read-part-of : tie.Need-shared-slice-read-part-of Inv-loop μ-loop
-shared-slice-read-part-of c = search needs
-
 part-of-requires : tie.Need-part-of-requires Inv-loop μ-loop
 part-of-requires c κs = c .before .before .before .before .before .before .before .before .before .pre .1 .shows (c .before .before .before .loop .pair) (omega arith)
 
 put-part-requires : tie.Need-put-part-requires Inv-loop μ-loop
 put-part-requires c κs = laying-room _ _ _ _ (c .before .before .before .before .loop .inv) (omega arith) _ (c .part-of .ensures)
-
-add-pair : tie.Need-add-pair Inv-loop μ-loop
-add-pair c = search needs
-
-loop-less : tie.Need-loop-less Inv-loop μ-loop
-loop-less c = search needs
 
 loop-again : tie.Need-loop-again Inv-loop μ-loop
 loop-again c = laying-next _ _ _ _ (c .before .before .before .before .before .before .before .loop .inv) (omega arith) _ _ _ (c .before .before .before .part-of .ensures) (c .before .before .put-part .ensures .0) (c .before .before .put-part .ensures .1)
@@ -50,12 +38,12 @@ put-parts-spec =
     Inv-loop
     μ-loop
     loop-holds
-    mul-part-of
-    shared-slice-read-part-of
+    (λ c. search needs)
+    (λ c. search needs)
     part-of-requires
     put-part-requires
-    add-pair
-    loop-less
+    (λ c. search needs)
+    (λ c. search needs)
     loop-again
     same-length
     returns)

@@ -18,29 +18,11 @@ abbrev μ-loop : tie.MeasureT-loop
 loop-holds : tie.Need-loop-holds Inv-loop μ-loop
 loop-holds c = spanning-start _ _ _ _ _ (c .before .before .before .before .before .pre .0 .0) (c .before .before .before .before .before .pre .0 .1)
 
-mul-part-of : tie.Need-mul-part-of Inv-loop μ-loop
-mul-part-of c = search needs
-
-shared-slice-read-part-of : tie.Need-shared-slice-read-part-of Inv-loop μ-loop
-shared-slice-read-part-of c = search needs
-
 part-of-requires : tie.Need-part-of-requires Inv-loop μ-loop
 part-of-requires c κs = c .before .before .before .before .before .before .before .before .pre .1 .shows (c .before .before .loop .k) (omega arith)
 
 short-requires : tie.Need-short-requires Inv-loop μ-loop
 short-requires c κs = rw (c .part-of .ensures) (c .before .before .before .before .before .before .before .before .before .pre .1 .short (c .before .before .before .loop .k) (omega arith))
-
-mul-out : tie.Need-mul-out Inv-loop μ-loop
-mul-out c = search needs
-
-slice-write-out : tie.Need-slice-write-out Inv-loop μ-loop
-slice-write-out c = search needs
-
-add-k : tie.Need-add-k Inv-loop μ-loop
-add-k c = search needs
-
-loop-less : tie.Need-loop-less Inv-loop μ-loop
-loop-less c = search needs
 
 loop-again : tie.Need-loop-again Inv-loop μ-loop
 loop-again c = spanning-next _ _ _ _ (c .before .before .before .before .loop .inv) (omega arith) _ _ (c .before .part-of .ensures) (c .short .ensures)
@@ -58,14 +40,14 @@ put-spans-spec =
     Inv-loop
     μ-loop
     loop-holds
-    mul-part-of
-    shared-slice-read-part-of
+    (λ c. search needs)
+    (λ c. search needs)
     part-of-requires
     short-requires
-    mul-out
-    slice-write-out
-    add-k
-    loop-less
+    (λ c. search needs)
+    (λ c. search needs)
+    (λ c. search needs)
+    (λ c. search needs)
     loop-again
     same-length
     returns)

@@ -11,23 +11,11 @@ use Rattle.pairs.proofs.shell_pairs.Tie as tie
 distinct-requires : tie.Need-distinct-requires
 distinct-requires c κs = let w = c .before .before .before .before .before .before .before .before .before .before .before .before .pre in (omega (arith, w .0 .few, ap length (w .1 .0), length-replicate {A = ℕ} 512 0), showing-listed (w .0))
 
-sub-put-spans : tie.Need-sub-put-spans
-sub-put-spans c = search needs
-
-part-put-spans-start : tie.Need-part-put-spans-start
-part-put-spans-start c = search needs
-
 part-put-spans-end : tie.Need-part-put-spans-end
 part-put-spans-end c = let w = c .before .before .before .before .before .before .before .before .before .before .before .before .before .before .before .before .pre in let d = c .before .before .before .distinct .ensures in first-end (w .0) (w .1 .0) (d .0) (d .1)
 
 put-spans-requires : tie.Need-put-spans-requires
 put-spans-requires c κs = let w = c .before .before .before .before .before .before .before .before .before .before .before .before .before .before .before .before .before .before .pre in let d = c .before .before .before .before .before .distinct .ensures in ((first-few (w .0) (w .1 .0) (d .0) (d .1), w .1 .1), wires-parted (w .0) (w .1 .0) (d .0) (d .1))
-
-sub-put-spans-2 : tie.Need-sub-put-spans-2
-sub-put-spans-2 c = search needs
-
-part-put-spans-start-2 : tie.Need-part-put-spans-start-2
-part-put-spans-start-2 c = search needs
 
 part-put-spans-end-2 : tie.Need-part-put-spans-end-2
 part-put-spans-end-2 c = let w = c .before .before .before .before .before .before .before .before .before .before .before .before .before .before .before .before .before .before .before .before .before .before .pre in let d = c .before .before .before .before .before .before .before .before .before .distinct .ensures in first-end (w .0) (w .1 .0) (d .0) (d .1)
@@ -35,44 +23,17 @@ part-put-spans-end-2 c = let w = c .before .before .before .before .before .befo
 put-spans-requires-2 : tie.Need-put-spans-requires-2
 put-spans-requires-2 c κs = let w = c .before .before .before .before .before .before .before .before .before .before .before .before .before .before .before .before .before .before .before .before .before .before .before .before .pre in let d = c .before .before .before .before .before .before .before .before .before .before .before .distinct .ensures in ((first-few (w .0) (w .1 .0) (d .0) (d .1), w .1 .2), uses-parted (w .0) (w .1 .0) (d .0) (d .1))
 
-sub-put-parts : tie.Need-sub-put-parts
-sub-put-parts c = search needs
-
-part-put-parts-start : tie.Need-part-put-parts-start
-part-put-parts-start c = search needs
-
 part-put-parts-end : tie.Need-part-put-parts-end
 part-put-parts-end c = let w = c .before .before .before .before .before .before .before .before .before .before .before .before .before .before .before .before .before .before .before .before .before .before .before .before .before .before .before .before .pre in let d = c .before .before .before .before .before .before .before .before .before .before .before .before .before .before .before .distinct .ensures in first-end (w .0) (w .1 .0) (d .0) (d .1)
 
 put-parts-requires : tie.Need-put-parts-requires
 put-parts-requires c κs = let w = c .before .before .before .before .before .before .before .before .before .before .before .before .before .before .before .before .before .before .before .before .before .before .before .before .before .before .before .before .before .before .pre in let d = c .before .before .before .before .before .before .before .before .before .before .before .before .before .before .before .before .before .distinct .ensures in (wires-fit (w .0) (w .1 .0) (d .0) (d .1) _ (w .1 .3), wires-parted (w .0) (w .1 .0) (d .0) (d .1))
 
-sub-put-parts-2 : tie.Need-sub-put-parts-2
-sub-put-parts-2 c = search needs
-
-part-put-parts-start-2 : tie.Need-part-put-parts-start-2
-part-put-parts-start-2 c = search needs
-
 part-put-parts-end-2 : tie.Need-part-put-parts-end-2
 part-put-parts-end-2 c = let w = c .before .before .before .before .before .before .before .before .before .before .before .before .before .before .before .before .before .before .before .before .before .before .before .before .before .before .before .before .before .before .before .before .before .before .pre in let d = c .before .before .before .before .before .before .before .before .before .before .before .before .before .before .before .before .before .before .before .before .before .distinct .ensures in first-end (w .0) (w .1 .0) (d .0) (d .1)
 
 put-parts-requires-2 : tie.Need-put-parts-requires-2
 put-parts-requires-2 c κs = let w = c .before .before .before .before .before .before .before .before .before .before .before .before .before .before .before .before .before .before .before .before .before .before .before .before .before .before .before .before .before .before .before .before .before .before .before .before .pre in let d = c .before .before .before .before .before .before .before .before .before .before .before .before .before .before .before .before .before .before .before .before .before .before .before .distinct .ensures in (uses-fit (w .0) (w .1 .0) (d .0) (d .1) _ (w .1 .4), uses-parted (w .0) (w .1 .0) (d .0) (d .1))
-
-same-length : tie.Need-same-length
-same-length c = search needs
-
-same-length-2 : tie.Need-same-length-2
-same-length-2 c = search needs
-
-same-length-3 : tie.Need-same-length-3
-same-length-3 c = search needs
-
-same-length-4 : tie.Need-same-length-4
-same-length-4 c = search needs
-
-same-length-5 : tie.Need-same-length-5
-same-length-5 c = search needs
 
 returns : tie.Need-returns
 returns c = let w = c .before .before .before .before .before .before .before .before .before .before .before .before .before .before .before .before .before .before .before .before .before .before .before .before .before .before .before .before .before .before .before .before .before .before .before .before .before .before .before .pre in let d = c .before .before .before .before .before .before .before .before .before .before .before .before .before .before .before .before .before .before .before .before .before .before .before .before .before .before .distinct .ensures in let l = c .before .before .before .before .before .before .before .before .put-parts .ensures in let u = c .before .before .put-parts2 .ensures in built (w .0) (w .1 .0) (d .0) (d .1) (w .1 .3) (w .1 .4) (c .before .before .before .before .before .before .before .before .before .before .before .before .before .before .before .before .before .before .before .before .put-spans .ensures) (c .before .before .before .before .before .before .before .before .before .before .before .before .before .before .put-spans2 .ensures) (l .0) (l .1) (u .0) (u .1)
@@ -82,25 +43,25 @@ shell-pairs-spec =
     tie.close
     (tie.spec
     distinct-requires
-    sub-put-spans
-    part-put-spans-start
+    (λ c. search needs)
+    (λ c. search needs)
     part-put-spans-end
     put-spans-requires
-    sub-put-spans-2
-    part-put-spans-start-2
+    (λ c. search needs)
+    (λ c. search needs)
     part-put-spans-end-2
     put-spans-requires-2
-    sub-put-parts
-    part-put-parts-start
+    (λ c. search needs)
+    (λ c. search needs)
     part-put-parts-end
     put-parts-requires
-    sub-put-parts-2
-    part-put-parts-start-2
+    (λ c. search needs)
+    (λ c. search needs)
     part-put-parts-end-2
     put-parts-requires-2
-    same-length
-    same-length-2
-    same-length-3
-    same-length-4
-    same-length-5
+    (λ c. search needs)
+    (λ c. search needs)
+    (λ c. search needs)
+    (λ c. search needs)
+    (λ c. search needs)
     returns)

@@ -71,26 +71,8 @@ s7 c = s6 (c .before .before .before .before .before)
 stage7 : (c : tie.After-put-u16s4) → Up (s7 c) 7 (c .put-u16s4 .last .0)
 stage7 c = stage-next 6 (stage6 (c .before .before .before .before .before)) _ (omega arith) (c .put-u16s4 .ensures)
 
-starts-of-requires : tie.Need-starts-of-requires
-starts-of-requires c κs = search needs
-
-put-table-requires : tie.Need-put-table-requires
-put-table-requires c κs = search needs
-
-array-read-put-points : tie.Need-array-read-put-points
-array-read-put-points c = search needs
-
-array-read-put-points-2 : tie.Need-array-read-put-points-2
-array-read-put-points-2 c = search needs
-
 put-points-requires : tie.Need-put-points-requires
 put-points-requires c κs = let s = stage0 (c .before .before .before .before) in (stage-room 0 s (omega arith), enough _ _ (s .ready .held .points))
-
-array-read-put-bytes : tie.Need-array-read-put-bytes
-array-read-put-bytes c = search needs
-
-array-read-put-bytes-2 : tie.Need-array-read-put-bytes-2
-array-read-put-bytes-2 c = search needs
 
 mul-put-bytes : tie.Need-mul-put-bytes
 mul-put-bytes c = let h = stage1 (c .before .before .before .before) .ready .held in let l = limited _ (h .seven) (h .few) .edges in search needs
@@ -98,29 +80,11 @@ mul-put-bytes c = let h = stage1 (c .before .before .before .before) .ready .hel
 put-bytes-requires : tie.Need-put-bytes-requires
 put-bytes-requires c κs = let s = stage1 (c .before .before .before .before) in (stage-room 1 s (omega arith), enough _ _ (s .ready .held .edges))
 
-array-read-put-u16s : tie.Need-array-read-put-u16s
-array-read-put-u16s c = search needs
-
-array-read-put-u16s-2 : tie.Need-array-read-put-u16s-2
-array-read-put-u16s-2 c = search needs
-
 put-u16s-requires : tie.Need-put-u16s-requires
 put-u16s-requires c κs = let s = stage2 (c .before .before .before .before) in (stage-room 2 s (omega arith), enough _ _ (s .ready .held .uses))
 
-array-read-put-u16s-3 : tie.Need-array-read-put-u16s-3
-array-read-put-u16s-3 c = search needs
-
-array-read-put-u16s-4 : tie.Need-array-read-put-u16s-4
-array-read-put-u16s-4 c = search needs
-
 put-u16s-requires-2 : tie.Need-put-u16s-requires-2
 put-u16s-requires-2 c κs = let s = stage3 (c .before .before .before .before) in (stage-room 3 s (omega arith), enough _ _ (s .ready .held .wires))
-
-array-read-put-bytes-3 : tie.Need-array-read-put-bytes-3
-array-read-put-bytes-3 c = search needs
-
-array-read-put-bytes-4 : tie.Need-array-read-put-bytes-4
-array-read-put-bytes-4 c = search needs
 
 mul-put-bytes-2 : tie.Need-mul-put-bytes-2
 mul-put-bytes-2 c = let h = stage4 (c .before .before .before .before) .ready .held in let l = limited _ (h .seven) (h .few) .faces in search needs
@@ -128,26 +92,11 @@ mul-put-bytes-2 c = let h = stage4 (c .before .before .before .before) .ready .h
 put-bytes-requires-2 : tie.Need-put-bytes-requires-2
 put-bytes-requires-2 c κs = let s = stage4 (c .before .before .before .before) in (stage-room 4 s (omega arith), enough _ _ (s .ready .held .faces))
 
-array-read-put-u16s-5 : tie.Need-array-read-put-u16s-5
-array-read-put-u16s-5 c = search needs
-
-array-read-put-u16s-6 : tie.Need-array-read-put-u16s-6
-array-read-put-u16s-6 c = search needs
-
 put-u16s-requires-3 : tie.Need-put-u16s-requires-3
 put-u16s-requires-3 c κs = let s = stage5 (c .before .before .before .before) in (stage-room 5 s (omega arith), enough _ _ (s .ready .held .shells))
 
-array-read-put-u16s-7 : tie.Need-array-read-put-u16s-7
-array-read-put-u16s-7 c = search needs
-
-array-read-put-u16s-8 : tie.Need-array-read-put-u16s-8
-array-read-put-u16s-8 c = search needs
-
 put-u16s-requires-4 : tie.Need-put-u16s-requires-4
 put-u16s-requires-4 c κs = let s = stage6 (c .before .before .before .before) in (stage-room 6 s (omega arith), enough _ _ (s .ready .held .listings))
-
-array-read-result : tie.Need-array-read-result
-array-read-result c = search needs
 
 same-length : tie.Need-same-length
 same-length c = stage-long 7 (stage7 (c .before .before))
@@ -159,31 +108,31 @@ pub put-file-spec : {M : Type 1} → statement M
 put-file-spec =
     tie.close
     (tie.spec
-    starts-of-requires
-    put-table-requires
-    array-read-put-points
-    array-read-put-points-2
+    (λ c κs. search needs)
+    (λ c κs. search needs)
+    (λ c. search needs)
+    (λ c. search needs)
     put-points-requires
-    array-read-put-bytes
-    array-read-put-bytes-2
+    (λ c. search needs)
+    (λ c. search needs)
     mul-put-bytes
     put-bytes-requires
-    array-read-put-u16s
-    array-read-put-u16s-2
+    (λ c. search needs)
+    (λ c. search needs)
     put-u16s-requires
-    array-read-put-u16s-3
-    array-read-put-u16s-4
+    (λ c. search needs)
+    (λ c. search needs)
     put-u16s-requires-2
-    array-read-put-bytes-3
-    array-read-put-bytes-4
+    (λ c. search needs)
+    (λ c. search needs)
     mul-put-bytes-2
     put-bytes-requires-2
-    array-read-put-u16s-5
-    array-read-put-u16s-6
+    (λ c. search needs)
+    (λ c. search needs)
     put-u16s-requires-3
-    array-read-put-u16s-7
-    array-read-put-u16s-8
+    (λ c. search needs)
+    (λ c. search needs)
     put-u16s-requires-4
-    array-read-result
+    (λ c. search needs)
     same-length
     returns)

@@ -6,15 +6,6 @@ use Rattle.pattern.specs.Checks.{contentFaults, countFaults}
 use Rattle.pattern.specs.Contents.{content}
 use Rattle.pattern.proofs.check.Tie as tie
 
-check-counts-requires : tie.Need-check-counts-requires
-check-counts-requires c κs = search needs
-
-enum-known-answer : tie.Need-enum-known-answer
-enum-known-answer c = search needs
-
-enum-told : tie.Need-enum-told
-enum-told c = search needs
-
 check-content-requires : tie.Need-check-content-requires
 check-content-requires c κs = accepted-none (countFaults (c .before .before .before .before .args .p .counts)) (sym (c .before .before .check-counts .ensures) ∙ c .enum-told .given .1)
 
@@ -30,9 +21,9 @@ pub check-spec : {M : Type 1} → statement M
 check-spec =
     tie.close
     (tie.spec
-    check-counts-requires
-    enum-known-answer
-    enum-told
+    (λ c κs. search needs)
+    (λ c. search needs)
+    (λ c. search needs)
     check-content-requires
     returns
     returns-2)

@@ -6,33 +6,6 @@ use Rattle.pattern.proofs.Columns.{columns-faces, columns-named, column
 use Rattle.pattern.proofs.check_columns.Statement.{statement}
 use Rattle.pattern.proofs.check_columns.Tie as tie
 
-array-read-ecount : tie.Need-array-read-ecount
-array-read-ecount c = search needs
-
-array-read-ucount : tie.Need-array-read-ucount
-array-read-ucount c = search needs
-
-array-read-wcount : tie.Need-array-read-wcount
-array-read-wcount c = search needs
-
-array-read-fcount : tie.Need-array-read-fcount
-array-read-fcount c = search needs
-
-array-read-scount : tie.Need-array-read-scount
-array-read-scount c = search needs
-
-array-read-lcount : tie.Need-array-read-lcount
-array-read-lcount c = search needs
-
-check-lists-requires : tie.Need-check-lists-requires
-check-lists-requires c κs = search needs
-
-enum-known-records : tie.Need-enum-known-records
-enum-known-records c = search needs
-
-enum-told : tie.Need-enum-told
-enum-told c = search needs
-
 check-tables-requires : tie.Need-check-tables-requires
 check-tables-requires c κs =
     let s = c .before .before .before .before .before .before .before .before .before .before .pre in
@@ -49,15 +22,15 @@ pub check-columns-spec : {M : Type 1} → statement M
 check-columns-spec =
     tie.close
     (tie.spec
-    array-read-ecount
-    array-read-ucount
-    array-read-wcount
-    array-read-fcount
-    array-read-scount
-    array-read-lcount
-    check-lists-requires
-    enum-known-records
-    enum-told
+    (λ c. search needs)
+    (λ c. search needs)
+    (λ c. search needs)
+    (λ c. search needs)
+    (λ c. search needs)
+    (λ c. search needs)
+    (λ c κs. search needs)
+    (λ c. search needs)
+    (λ c. search needs)
     check-tables-requires
     returns
     returns-2)

@@ -19,23 +19,8 @@ Inv-loop counts lay b₀ b = (length counts ≡ 7) × ((lay ≡ layout) × Passe
 abbrev μ-loop : tie.MeasureT-loop
 μ-loop counts lay b₀ b = 7 - b
 
-file-layout-requires : tie.Need-file-layout-requires Inv-loop μ-loop
-file-layout-requires c κs = search needs
-
 loop-holds : tie.Need-loop-holds Inv-loop μ-loop
 loop-holds c = (search needs, (c .file-layout .ensures, passed-start limitFaults 0 _ 0))
-
-mul-if1 : tie.Need-mul-if1 Inv-loop μ-loop
-mul-if1 c = search needs
-
-array-read-if1 : tie.Need-array-read-if1 Inv-loop μ-loop
-array-read-if1 c = search needs
-
-mul-if1-2 : tie.Need-mul-if1-2 Inv-loop μ-loop
-mul-if1-2 c = search needs
-
-element-copy-out-if1 : tie.Need-element-copy-out-if1 Inv-loop μ-loop
-element-copy-out-if1 c = search needs
 
 returns : tie.Need-returns Inv-loop μ-loop
 returns c =
@@ -43,12 +28,6 @@ returns c =
     let b = c .before .before .before .loop .b in
     let n = getD (c .before .before .before .before .before .args .t1) b 0 in
     sym (passed-stop limitFaults 0 (c .before .before .before .before .before .args .t1) 0 b b n (v .1 .1) (omega (arith, v .0)) refl (omega arith) (Limit b) (over-limit b n (rw (v .1 .0) at (c .if1 .taken))))
-
-add-b : tie.Need-add-b Inv-loop μ-loop
-add-b c = search needs
-
-loop-less : tie.Need-loop-less Inv-loop μ-loop
-loop-less c = search needs
 
 loop-again : tie.Need-loop-again Inv-loop μ-loop
 loop-again c =
@@ -68,14 +47,14 @@ check-counts-spec =
     (tie.spec
     Inv-loop
     μ-loop
-    file-layout-requires
+    (λ c κs. search needs)
     loop-holds
-    mul-if1
-    array-read-if1
-    mul-if1-2
-    element-copy-out-if1
+    (λ c. search needs)
+    (λ c. search needs)
+    (λ c. search needs)
+    (λ c. search needs)
     returns
-    add-b
-    loop-less
+    (λ c. search needs)
+    (λ c. search needs)
     loop-again
     returns-2)

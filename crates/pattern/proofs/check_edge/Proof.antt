@@ -7,15 +7,6 @@ use Rattle.pattern.proofs.Laws.{good-edge, no-back, no-front, no-span, 
 use Rattle.pattern.proofs.check_edge.Statement.{statement}
 use Rattle.pattern.proofs.check_edge.Tie as tie
 
-index-requires : tie.Need-index-requires
-index-requires c κs = search needs
-
-index-requires-2 : tie.Need-index-requires-2
-index-requires-2 c κs = search needs
-
-is-span-requires : tie.Need-is-span-requires
-is-span-requires c κs = search needs
-
 returns : tie.Need-returns
 returns c = let a = c .before .before .before .before .before .args in no-front (a .points) (a .k) (a .e) (omega arith)
 
@@ -39,9 +30,9 @@ pub check-edge-spec : {M : Type 1} → statement M
 check-edge-spec =
     tie.close
     (tie.spec
-    index-requires
-    index-requires-2
-    is-span-requires
+    (λ c κs. search needs)
+    (λ c κs. search needs)
+    (λ c κs. search needs)
     returns
     returns-2
     returns-3

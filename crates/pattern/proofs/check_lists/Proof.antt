@@ -5,33 +5,6 @@ use Rattle.pattern.proofs.Counts.{lists-first}
 use Rattle.pattern.proofs.check_lists.Statement.{statement}
 use Rattle.pattern.proofs.check_lists.Tie as tie
 
-check-names-requires : tie.Need-check-names-requires
-check-names-requires c κs = search needs
-
-check-sum-requires : tie.Need-check-sum-requires
-check-sum-requires c κs = search needs
-
-and-then-requires : tie.Need-and-then-requires
-and-then-requires c κs = search needs
-
-check-sum-requires-2 : tie.Need-check-sum-requires-2
-check-sum-requires-2 c κs = search needs
-
-and-then-requires-2 : tie.Need-and-then-requires-2
-and-then-requires-2 c κs = search needs
-
-check-sum-requires-3 : tie.Need-check-sum-requires-3
-check-sum-requires-3 c κs = search needs
-
-and-then-requires-3 : tie.Need-and-then-requires-3
-and-then-requires-3 c κs = search needs
-
-check-names-requires-2 : tie.Need-check-names-requires-2
-check-names-requires-2 c κs = search needs
-
-and-then-requires-4 : tie.Need-and-then-requires-4
-and-then-requires-4 c κs = search needs
-
 returns : tie.Need-returns
 returns c =
     let s = c .before .before .before .before .before .before .before .before .before .before .before .before .before .before in
@@ -45,13 +18,13 @@ pub check-lists-spec : {M : Type 1} → statement M
 check-lists-spec =
     tie.close
     (tie.spec
-    check-names-requires
-    check-sum-requires
-    and-then-requires
-    check-sum-requires-2
-    and-then-requires-2
-    check-sum-requires-3
-    and-then-requires-3
-    check-names-requires-2
-    and-then-requires-4
+    (λ c κs. search needs)
+    (λ c κs. search needs)
+    (λ c κs. search needs)
+    (λ c κs. search needs)
+    (λ c κs. search needs)
+    (λ c κs. search needs)
+    (λ c κs. search needs)
+    (λ c κs. search needs)
+    (λ c κs. search needs)
     returns)

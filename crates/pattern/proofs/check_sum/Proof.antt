@@ -7,9 +7,6 @@ use Rattle.lists.specs.Lists.{sum}
 use Rattle.pattern.proofs.check_sum.Statement.{statement}
 use Rattle.pattern.proofs.check_sum.Tie as tie
 
-sum-of-requires : tie.Need-sum-of-requires
-sum-of-requires c κs = search needs
-
 returns : tie.Need-returns
 returns c = rw (eq-eqb _ _ (sym (c .before .sum-of .ensures) ∙ c .if1 .taken))
 
@@ -19,4 +16,4 @@ returns-2 c =
     rw (ne-eqb (sum (take (a .n) (a .ns .now))) (a .total) (λ (h : sum (take (a .n) (a .ns .now)) ≡ a .total). c .if1 .left (c .before .sum-of .ensures ∙ h)), length-take-le (a .n) (a .ns .now) (c .before .before .before .pre .0))
 
 pub check-sum-spec : {M : Type 1} → statement M
-check-sum-spec = tie.close (tie.spec sum-of-requires returns returns-2)
+check-sum-spec = tie.close (tie.spec (λ c κs. search needs) returns returns-2)

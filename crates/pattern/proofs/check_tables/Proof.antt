@@ -6,42 +6,6 @@ use borrow.Author.Needs.{needs}
 use Rattle.pattern.proofs.check_tables.Statement.{statement}
 use Rattle.pattern.proofs.check_tables.Tie as tie
 
-sub-check-faces : tie.Need-sub-check-faces
-sub-check-faces c = search needs
-
-part-check-faces-start : tie.Need-part-check-faces-start
-part-check-faces-start c = search needs
-
-part-check-faces-end : tie.Need-part-check-faces-end
-part-check-faces-end c = search needs
-
-sub-check-faces-2 : tie.Need-sub-check-faces-2
-sub-check-faces-2 c = search needs
-
-part-check-faces-start-2 : tie.Need-part-check-faces-start-2
-part-check-faces-start-2 c = search needs
-
-part-check-faces-end-2 : tie.Need-part-check-faces-end-2
-part-check-faces-end-2 c = search needs
-
-sub-check-faces-3 : tie.Need-sub-check-faces-3
-sub-check-faces-3 c = search needs
-
-part-check-faces-start-3 : tie.Need-part-check-faces-start-3
-part-check-faces-start-3 c = search needs
-
-part-check-faces-end-3 : tie.Need-part-check-faces-end-3
-part-check-faces-end-3 c = search needs
-
-sub-check-faces-4 : tie.Need-sub-check-faces-4
-sub-check-faces-4 c = search needs
-
-part-check-faces-start-4 : tie.Need-part-check-faces-start-4
-part-check-faces-start-4 c = search needs
-
-part-check-faces-end-4 : tie.Need-part-check-faces-end-4
-part-check-faces-end-4 c = search needs
-
 check-faces-requires : tie.Need-check-faces-requires
 check-faces-requires c κs =
     let a = c .before .before .before .before .before .before .before .before .before .args in
@@ -60,17 +24,17 @@ pub check-tables-spec : {M : Type 1} → statement M
 check-tables-spec =
     tie.close
     (tie.spec
-    sub-check-faces
-    part-check-faces-start
-    part-check-faces-end
-    sub-check-faces-2
-    part-check-faces-start-2
-    part-check-faces-end-2
-    sub-check-faces-3
-    part-check-faces-start-3
-    part-check-faces-end-3
-    sub-check-faces-4
-    part-check-faces-start-4
-    part-check-faces-end-4
+    (λ c. search needs)
+    (λ c. search needs)
+    (λ c. search needs)
+    (λ c. search needs)
+    (λ c. search needs)
+    (λ c. search needs)
+    (λ c. search needs)
+    (λ c. search needs)
+    (λ c. search needs)
+    (λ c. search needs)
+    (λ c. search needs)
+    (λ c. search needs)
     check-faces-requires
     returns)

@@ -35,20 +35,8 @@ limits c =
     limited (c .before .before .before .args .t1 .counts) (search needs)
     (none-left (countFaults (c .before .before .before .args .t1 .counts)) (contentFaults (content (c .before .before .before .args .t1))) (passed c))
 
-check-requires : tie.Need-check-requires
-check-requires c κs = search needs
-
-enum-known-answer : tie.Need-enum-known-answer
-enum-known-answer c = search needs
-
 returns : tie.Need-returns
 returns c = place-refused (patternFaults (c .before .before .before .before .args .t1)) (content (c .before .before .before .before .args .t1)) (c .before .before .before .before .args .w) _ (sym (c .before .before .before .check .ensures) ∙ c .before .answer .given .1)
-
-enum-told : tie.Need-enum-told
-enum-told c = search needs
-
-element-copy-out-wires : tie.Need-element-copy-out-wires
-element-copy-out-wires c = search needs
 
 returns-2 : tie.Need-returns-2
 returns-2 c = no-wire (c .before .before .before .before .before .args .t1) (passed (c .before .before)) (limits (c .before .before)) (full (c .before .before .before .before .before)) (c .before .before .before .before .before .args .w) (c .if1 .taken)
@@ -62,9 +50,6 @@ mul-index c = record { fits = omega (arith, limits (c .before .before .before .b
 element-copy-out-index : tie.Need-element-copy-out-index
 element-copy-out-index c = omega (arith, limits (c .before .before .before .before .before .before) .wires)
 
-index-requires : tie.Need-index-requires
-index-requires c κs = search needs
-
 returns-3 : tie.Need-returns-3
 returns-3 c =
     rw (c .before .before .sum-of .ensures, c .index .ensures .0)
@@ -74,14 +59,14 @@ pub wire-place-spec : {M : Type 1} → statement M
 wire-place-spec =
     tie.close
     (tie.spec
-    check-requires
-    enum-known-answer
+    (λ c κs. search needs)
+    (λ c. search needs)
     returns
-    enum-told
-    element-copy-out-wires
+    (λ c. search needs)
+    (λ c. search needs)
     returns-2
     sum-of-requires
     mul-index
     element-copy-out-index
-    index-requires
+    (λ c κs. search needs)
     returns-3)

@@ -20,32 +20,14 @@ ends c =
     omega (arith, five (c .before .before .before .before .before .before .before .before .before .before .before .before .before .before .before .before .args .k) (c .before .before .before .before .before .before .before .before .before .before .before .before .before .before .before .before .pre .1), five (c .before .before .before .before .before .before .before .index .result) (c .before .before .before .before .before .before .before .index .ensures .1), five (c .before .index2 .result) (c .before .index2 .ensures .1)) in
     (short, omega (arith, c .before .before .before .before .before .before .before .before .before .before .before .before .before .before .before .before .pre .0, c .put-field3 .kept .0, c .before .before .before .before .before .before .put-field2 .kept .0, c .before .before .before .before .before .before .before .before .before .before .before .before .put-field .kept .0))
 
-slice-aggregate-put-field : tie.Need-slice-aggregate-put-field
-slice-aggregate-put-field c = search needs
-
 put-field-requires : tie.Need-put-field-requires
 put-field-requires c κs = omega (arith, five (c .before .before .before .args .k) (c .before .before .before .pre .1))
-
-slice-aggregate-put-field-2 : tie.Need-slice-aggregate-put-field-2
-slice-aggregate-put-field-2 c = search needs
-
-index-requires : tie.Need-index-requires
-index-requires c κs = search needs
 
 put-field-requires-2 : tie.Need-put-field-requires-2
 put-field-requires-2 c κs = omega (arith, five (c .before .before .before .before .before .before .before .before .before .args .k) (c .before .before .before .before .before .before .before .before .before .pre .1), five (c .index .result) (c .index .ensures .1))
 
-slice-aggregate-put-field-3 : tie.Need-slice-aggregate-put-field-3
-slice-aggregate-put-field-3 c = search needs
-
-index-requires-2 : tie.Need-index-requires-2
-index-requires-2 c κs = search needs
-
 put-field-requires-3 : tie.Need-put-field-requires-3
 put-field-requires-3 c κs = omega (arith, five (c .before .before .before .before .before .before .before .before .before .before .before .before .before .before .before .args .k) (c .before .before .before .before .before .before .before .before .before .before .before .before .before .before .before .pre .1), five (c .before .before .before .before .before .before .index .result) (c .before .before .before .before .before .before .index .ensures .1), five (c .index2 .result) (c .index2 .ensures .1))
-
-slice-aggregate-put-text : tie.Need-slice-aggregate-put-text
-slice-aggregate-put-text c = search needs
 
 put-text-requires : tie.Need-put-text-requires
 put-text-requires c κs = omega (arith, ends (c .before .before .before .before))
@@ -53,17 +35,11 @@ put-text-requires c κs = omega (arith, ends (c .before .before .before .before)
 put-real-requires : tie.Need-put-real-requires
 put-real-requires c κs = omega (arith, ends (c .before .before .before .before .before .before .before .before))
 
-slice-aggregate-put-text-2 : tie.Need-slice-aggregate-put-text-2
-slice-aggregate-put-text-2 c = search needs
-
 put-text-requires-2 : tie.Need-put-text-requires-2
 put-text-requires-2 c κs = omega (arith, ends (c .before .before .before .before .before .before .before .before .before .before .before .before .before))
 
 put-real-requires-2 : tie.Need-put-real-requires-2
 put-real-requires-2 c κs = omega (arith, ends (c .before .before .before .before .before .before .before .before .before .before .before .before .before .before .before .before .before), c .before .before .before .put-text2 .kept .0, c .before .before .before .before .before .before .before .before .put-real .kept .0, c .before .before .before .before .before .before .before .before .before .before .before .before .put-text .kept .0)
-
-slice-aggregate-put-text-3 : tie.Need-slice-aggregate-put-text-3
-slice-aggregate-put-text-3 c = search needs
 
 put-text-requires-3 : tie.Need-put-text-requires-3
 put-text-requires-3 c κs = omega (arith, ends (c .before .before .before .before .before .before .before .before .before .before .before .before .before .before .before .before .before .before .before .before .before .before), c .before .before .before .before .put-real2 .kept .0, c .before .before .before .before .before .before .before .before .put-text2 .kept .0, c .before .before .before .before .before .before .before .before .before .before .before .before .before .put-real .kept .0, c .before .before .before .before .before .before .before .before .before .before .before .before .before .before .before .before .before .put-text .kept .0)
@@ -97,21 +73,21 @@ pub put-edge-spec : {M : Type 1} → statement M
 put-edge-spec =
     tie.close
     (tie.spec
-    slice-aggregate-put-field
+    (λ c. search needs)
     put-field-requires
-    slice-aggregate-put-field-2
-    index-requires
+    (λ c. search needs)
+    (λ c κs. search needs)
     put-field-requires-2
-    slice-aggregate-put-field-3
-    index-requires-2
+    (λ c. search needs)
+    (λ c κs. search needs)
     put-field-requires-3
-    slice-aggregate-put-text
+    (λ c. search needs)
     put-text-requires
     put-real-requires
-    slice-aggregate-put-text-2
+    (λ c. search needs)
     put-text-requires-2
     put-real-requires-2
-    slice-aggregate-put-text-3
+    (λ c. search needs)
     put-text-requires-3
     same-length
     returns)

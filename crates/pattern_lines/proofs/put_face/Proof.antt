@@ -12,17 +12,8 @@ use borrow.Author.Needs.{needs}
 use Rattle.pattern_lines.proofs.put_face.Statement.{statement}
 use Rattle.pattern_lines.proofs.put_face.Tie as tie
 
-slice-aggregate-put-field : tie.Need-slice-aggregate-put-field
-slice-aggregate-put-field c = search needs
-
 put-field-requires : tie.Need-put-field-requires
 put-field-requires c κs = omega (arith, five (c .before .before .before .before .before .args .k) (c .before .before .before .before .before .pre .1))
-
-slice-aggregate-put-field-2 : tie.Need-slice-aggregate-put-field-2
-slice-aggregate-put-field-2 c = search needs
-
-index-requires : tie.Need-index-requires
-index-requires c κs = search needs
 
 put-field-requires-2 : tie.Need-put-field-requires-2
 put-field-requires-2 c κs = omega (arith, five (c .before .before .before .before .before .before .before .before .before .before .before .args .k) (c .before .before .before .before .before .before .before .before .before .before .before .pre .1), five (c .index .result) (c .index .ensures .1))
@@ -31,14 +22,8 @@ put-wires-requires : tie.Need-put-wires-requires
 put-wires-requires c κs =
     (c .before .before .before .before .before .before .before .before .before .before .before .before .before .before .before .pre .0, omega (arith, five (c .before .before .before .before .before .before .before .before .before .before .before .before .before .before .before .args .k) (c .before .before .before .before .before .before .before .before .before .before .before .before .before .before .before .pre .1), five (c .before .before .before .before .index .result) (c .before .before .before .before .index .ensures .1), wires-short (c .before .before .before .before .before .before .before .before .before .before .before .before .before .before .before .args .lens .now) (c .before .before .before .before .before .before .before .before .before .before .before .before .before .before .before .args .us .now)))
 
-slice-aggregate-put-text : tie.Need-slice-aggregate-put-text
-slice-aggregate-put-text c = search needs
-
 put-text-requires : tie.Need-put-text-requires
 put-text-requires c κs = omega (arith, five (c .before .before .before .before .before .before .before .before .before .before .before .before .before .before .before .before .before .before .before .before .args .k) (c .before .before .before .before .before .before .before .before .before .before .before .before .before .before .before .before .before .before .before .before .pre .1), five (c .before .before .before .before .before .before .before .before .before .index .result) (c .before .before .before .before .before .before .before .before .before .index .ensures .1), wires-short (c .before .before .before .before .before .before .before .before .before .before .before .before .before .before .before .before .before .before .before .before .args .lens .now) (c .before .before .before .before .before .before .before .before .before .before .before .before .before .before .before .before .before .before .before .before .args .us .now))
-
-same-length : tie.Need-same-length
-same-length c = search needs
 
 returns : tie.Need-returns
 unfolding faceLine field
@@ -57,13 +42,13 @@ pub put-face-spec : {M : Type 1} → statement M
 put-face-spec =
     tie.close
     (tie.spec
-    slice-aggregate-put-field
+    (λ c. search needs)
     put-field-requires
-    slice-aggregate-put-field-2
-    index-requires
+    (λ c. search needs)
+    (λ c κs. search needs)
     put-field-requires-2
     put-wires-requires
-    slice-aggregate-put-text
+    (λ c. search needs)
     put-text-requires
-    same-length
+    (λ c. search needs)
     returns)

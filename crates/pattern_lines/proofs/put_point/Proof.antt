@@ -11,20 +11,11 @@ use borrow.Author.Needs.{needs}
 use Rattle.pattern_lines.proofs.put_point.Statement.{statement}
 use Rattle.pattern_lines.proofs.put_point.Tie as tie
 
-slice-aggregate-put-field : tie.Need-slice-aggregate-put-field
-slice-aggregate-put-field c = search needs
-
 put-field-requires : tie.Need-put-field-requires
 put-field-requires c κs = omega (arith, five (c .before .before .before .args .k) (c .before .before .before .pre .1))
 
-slice-aggregate-put-number : tie.Need-slice-aggregate-put-number
-slice-aggregate-put-number c = search needs
-
 put-number-requires : tie.Need-put-number-requires
 put-number-requires c κs = omega (arith, five (c .before .before .before .before .before .before .before .before .args .k) (c .before .before .before .before .before .before .before .before .pre .1), label-short (c .before .before .before .before .before .before .before .before .args .label) (omega arith))
-
-same-length : tie.Need-same-length
-same-length c = search needs
 
 returns : tie.Need-returns
 unfolding pointLine numberLine field
@@ -37,9 +28,9 @@ pub put-point-spec : {M : Type 1} → statement M
 put-point-spec =
     tie.close
     (tie.spec
-    slice-aggregate-put-field
+    (λ c. search needs)
     put-field-requires
-    slice-aggregate-put-number
+    (λ c. search needs)
     put-number-requires
-    same-length
+    (λ c. search needs)
     returns)

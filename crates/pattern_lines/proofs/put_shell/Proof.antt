@@ -12,14 +12,8 @@ use borrow.Author.Needs.{needs}
 use Rattle.pattern_lines.proofs.put_shell.Statement.{statement}
 use Rattle.pattern_lines.proofs.put_shell.Tie as tie
 
-slice-aggregate-put-field : tie.Need-slice-aggregate-put-field
-slice-aggregate-put-field c = search needs
-
 put-field-requires : tie.Need-put-field-requires
 put-field-requires c κs = omega (arith, five (c .before .before .before .before .args .k) (c .before .before .before .before .pre .0))
-
-slice-aggregate-put-text : tie.Need-slice-aggregate-put-text
-slice-aggregate-put-text c = search needs
 
 put-text-requires : tie.Need-put-text-requires
 put-text-requires c κs = omega (arith, five (c .before .before .before .before .before .before .before .before .before .args .k) (c .before .before .before .before .before .before .before .before .before .pre .0))
@@ -27,14 +21,8 @@ put-text-requires c κs = omega (arith, five (c .before .before .before .before 
 put-items-requires : tie.Need-put-items-requires
 put-items-requires c κs = omega (arith, five (c .before .before .before .before .before .before .before .before .before .before .before .before .before .args .k) (c .before .before .before .before .before .before .before .before .before .before .before .before .before .pre .0), items-short (c .before .before .before .before .before .before .before .before .before .before .before .before .before .args .listings .now))
 
-slice-aggregate-put-text-2 : tie.Need-slice-aggregate-put-text-2
-slice-aggregate-put-text-2 c = search needs
-
 put-text-requires-2 : tie.Need-put-text-requires-2
 put-text-requires-2 c κs = omega (arith, five (c .before .before .before .before .before .before .before .before .before .before .before .before .before .before .before .before .before .before .args .k) (c .before .before .before .before .before .before .before .before .before .before .before .before .before .before .before .before .before .before .pre .0), items-short (c .before .before .before .before .before .before .before .before .before .before .before .before .before .before .before .before .before .before .args .listings .now))
-
-same-length : tie.Need-same-length
-same-length c = search needs
 
 returns : tie.Need-returns
 unfolding shellLine field
@@ -51,12 +39,12 @@ pub put-shell-spec : {M : Type 1} → statement M
 put-shell-spec =
     tie.close
     (tie.spec
-    slice-aggregate-put-field
+    (λ c. search needs)
     put-field-requires
-    slice-aggregate-put-text
+    (λ c. search needs)
     put-text-requires
     put-items-requires
-    slice-aggregate-put-text-2
+    (λ c. search needs)
     put-text-requires-2
-    same-length
+    (λ c. search needs)
     returns)

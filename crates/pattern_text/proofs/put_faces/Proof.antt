@@ -43,9 +43,6 @@ mul-index c = omega (arith, there c)
 shared-slice-read-index : tie.Need-shared-slice-read-index Inv-loop μ-loop
 shared-slice-read-index c = there (c .before) .0
 
-index-requires : tie.Need-index-requires Inv-loop μ-loop
-index-requires c κs = search needs
-
 add-last : tie.Need-add-last Inv-loop μ-loop
 add-last c = omega (arith, fits c)
 
@@ -54,9 +51,6 @@ mul-lens c = omega (arith, fits c)
 
 sub-lens : tie.Need-sub-lens Inv-loop μ-loop
 sub-lens c = omega arith
-
-part-lens-start : tie.Need-part-lens-start Inv-loop μ-loop
-part-lens-start c = search needs
 
 part-lens-end : tie.Need-part-lens-end Inv-loop μ-loop
 part-lens-end c = fits c .0
@@ -85,12 +79,6 @@ add-put-face c = omega (arith, fits-uses (c .before .before))
 mul-put-face : tie.Need-mul-put-face Inv-loop μ-loop
 mul-put-face c = omega (arith, fits-uses (c .before .before))
 
-sub-put-face : tie.Need-sub-put-face Inv-loop μ-loop
-sub-put-face c = search needs
-
-part-put-face-start : tie.Need-part-put-face-start Inv-loop μ-loop
-part-put-face-start c = search needs
-
 part-put-face-end : tie.Need-part-put-face-end Inv-loop μ-loop
 part-put-face-end c = fits-uses (c .before .before) .0
 
@@ -108,9 +96,6 @@ add-first c = omega (arith, fits-uses (c .before .before .before .before .before
 
 add-k : tie.Need-add-k Inv-loop μ-loop
 add-k c = omega (arith, there (c .before .before .before .before .before .before .before .before .before .before))
-
-loop-less : tie.Need-loop-less Inv-loop μ-loop
-loop-less c = search needs
 
 loop-again : tie.Need-loop-again Inv-loop μ-loop
 loop-again c =
@@ -135,11 +120,11 @@ put-faces-spec =
     loop-holds
     mul-index
     shared-slice-read-index
-    index-requires
+    (λ c κs. search needs)
     add-last
     mul-lens
     sub-lens
-    part-lens-start
+    (λ c. search needs)
     part-lens-end
     sub-sum-of
     sum-of-requires
@@ -149,13 +134,13 @@ put-faces-spec =
     u16-at-requires
     add-put-face
     mul-put-face
-    sub-put-face
-    part-put-face-start
+    (λ c. search needs)
+    (λ c. search needs)
     part-put-face-end
     put-face-requires
     add-first
     add-k
-    loop-less
+    (λ c. search needs)
     loop-again
     same-length
     returns)

@@ -35,34 +35,16 @@ starts-of-requires c κs =
     let f = c .before .before .before .before .before .before .before .before .args .file .now in
     ap countFaults (c .counts-of .ensures) ∙ table-counts f (table-right f (c .before .before .before .before .before .before .before .before .pre .0))
 
-array-read-put-points : tie.Need-array-read-put-points
-array-read-put-points c = search needs
-
-array-read-put-points-2 : tie.Need-array-read-put-points-2
-array-read-put-points-2 c = search needs
-
 put-points-requires : tie.Need-put-points-requires
 put-points-requires c κs =
     let n = body (c .before) 0 (omega arith) in
     (c .before .before .before .before .before .before .before .before .before .before .pre .0, n .0, n .1, omega (arith, n .2, c .before .before .before .before .before .before .before .before .before .before .pre .6))
-
-array-read-put-edges : tie.Need-array-read-put-edges
-array-read-put-edges c = search needs
-
-array-read-put-edges-2 : tie.Need-array-read-put-edges-2
-array-read-put-edges-2 c = search needs
 
 put-edges-requires : tie.Need-put-edges-requires
 put-edges-requires c κs =
     let n = body (c .before .before .before .before .before) 1 (omega arith) in
     let p = points-end (c .before .before .before) in
     (c .before .before .before .before .before .before .before .before .before .before .before .before .before .before .pre .0, n .0, n .1, omega (arith, n .2, p .0, p .1))
-
-array-read-put-faces : tie.Need-array-read-put-faces
-array-read-put-faces c = search needs
-
-array-read-put-faces-2 : tie.Need-array-read-put-faces-2
-array-read-put-faces-2 c = search needs
 
 put-faces-requires : tie.Need-put-faces-requires
 put-faces-requires c κs =
@@ -71,18 +53,12 @@ put-faces-requires c κs =
     let p = edges-end (c .before .before .before) in
     (r .0, n .0, n .1, r .1, r .2, r .3, omega (arith, p .0, p .1))
 
-array-read-put-shells : tie.Need-array-read-put-shells
-array-read-put-shells c = search needs
-
 put-shells-requires : tie.Need-put-shells-requires
 put-shells-requires c κs =
     let n = body (c .before .before .before .before .before .before .before .before .before .before .before .before .before) 5 (omega arith) in
     let r = c .before .before .before .before .before .before .before .before .before .before .before .before .before .before .before .before .before .before .before .before .before .before .pre in
     let p = edges-end (c .before .before .before .before .before .before .before) in
     (r .0, n .1, r .4, r .5, omega (arith, p .0, p .1, c .before .before .before .put-faces .ensures .2, c .before .before .before .put-faces .kept))
-
-same-length : tie.Need-same-length
-same-length c = search needs
 
 returns : tie.Need-returns
 unfolding patternText
@@ -106,16 +82,16 @@ put-records-spec =
     (tie.spec
     counts-of-requires
     starts-of-requires
-    array-read-put-points
-    array-read-put-points-2
+    (λ c. search needs)
+    (λ c. search needs)
     put-points-requires
-    array-read-put-edges
-    array-read-put-edges-2
+    (λ c. search needs)
+    (λ c. search needs)
     put-edges-requires
-    array-read-put-faces
-    array-read-put-faces-2
+    (λ c. search needs)
+    (λ c. search needs)
     put-faces-requires
-    array-read-put-shells
+    (λ c. search needs)
     put-shells-requires
-    same-length
+    (λ c. search needs)
     returns)

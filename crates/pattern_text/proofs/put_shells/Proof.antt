@@ -30,20 +30,11 @@ mul-index c = omega (arith, there c)
 shared-slice-read-index : tie.Need-shared-slice-read-index Inv-loop μ-loop
 shared-slice-read-index c = there (c .before) .0
 
-index-requires : tie.Need-index-requires Inv-loop μ-loop
-index-requires c κs = search needs
-
 add-put-shell : tie.Need-add-put-shell Inv-loop μ-loop
 add-put-shell c = omega (arith, fits (c .before))
 
 mul-put-shell : tie.Need-mul-put-shell Inv-loop μ-loop
 mul-put-shell c = omega (arith, fits (c .before))
-
-sub-put-shell : tie.Need-sub-put-shell Inv-loop μ-loop
-sub-put-shell c = search needs
-
-part-put-shell-start : tie.Need-part-put-shell-start Inv-loop μ-loop
-part-put-shell-start c = search needs
 
 part-put-shell-end : tie.Need-part-put-shell-end Inv-loop μ-loop
 part-put-shell-end c = fits (c .before) .0
@@ -57,9 +48,6 @@ add-first c = omega (arith, fits (c .before .before .before .before .before))
 
 add-k : tie.Need-add-k Inv-loop μ-loop
 add-k c = omega (arith, there (c .before .before .before .before .before .before .before))
-
-loop-less : tie.Need-loop-less Inv-loop μ-loop
-loop-less c = search needs
 
 loop-again : tie.Need-loop-again Inv-loop μ-loop
 loop-again c =
@@ -81,16 +69,16 @@ put-shells-spec =
     loop-holds
     mul-index
     shared-slice-read-index
-    index-requires
+    (λ c κs. search needs)
     add-put-shell
     mul-put-shell
-    sub-put-shell
-    part-put-shell-start
+    (λ c. search needs)
+    (λ c. search needs)
     part-put-shell-end
     put-shell-requires
     add-first
     add-k
-    loop-less
+    (λ c. search needs)
     loop-again
     same-length
     returns)

@@ -11,54 +11,6 @@ use Rattle.pattern_text.proofs.show.Tie as tie
 right : (c : tie.After-enum-told) → fileFaults (c .before .before .before .before .before .before .before .before .before .before .before .before .before .before .before .before .before .before .args .file .now) ≡ []
 right c = accepted-none (fileFaults (c .before .before .before .before .before .before .before .before .before .before .before .before .before .before .before .before .before .before .args .file .now)) (sym (c .before .before .before .before .before .before .before .before .before .read-file .ensures .0) ∙ c .enum-told .given .1)
 
-slice-aggregate-read-file : tie.Need-slice-aggregate-read-file
-slice-aggregate-read-file c = search needs
-
-slice-aggregate-read-file-2 : tie.Need-slice-aggregate-read-file-2
-slice-aggregate-read-file-2 c = search needs
-
-slice-aggregate-read-file-3 : tie.Need-slice-aggregate-read-file-3
-slice-aggregate-read-file-3 c = search needs
-
-slice-aggregate-read-file-4 : tie.Need-slice-aggregate-read-file-4
-slice-aggregate-read-file-4 c = search needs
-
-slice-aggregate-read-file-5 : tie.Need-slice-aggregate-read-file-5
-slice-aggregate-read-file-5 c = search needs
-
-slice-aggregate-read-file-6 : tie.Need-slice-aggregate-read-file-6
-slice-aggregate-read-file-6 c = search needs
-
-slice-aggregate-read-file-7 : tie.Need-slice-aggregate-read-file-7
-slice-aggregate-read-file-7 c = search needs
-
-read-file-requires : tie.Need-read-file-requires
-read-file-requires c κs = search needs
-
-enum-known-checked : tie.Need-enum-known-checked
-enum-known-checked c = search needs
-
-put-refusal-requires : tie.Need-put-refusal-requires
-put-refusal-requires c κs = search needs
-
-enum-told : tie.Need-enum-told
-enum-told c = search needs
-
-slice-aggregate-put-records : tie.Need-slice-aggregate-put-records
-slice-aggregate-put-records c = search needs
-
-slice-aggregate-put-records-2 : tie.Need-slice-aggregate-put-records-2
-slice-aggregate-put-records-2 c = search needs
-
-slice-aggregate-put-records-3 : tie.Need-slice-aggregate-put-records-3
-slice-aggregate-put-records-3 c = search needs
-
-slice-aggregate-put-records-4 : tie.Need-slice-aggregate-put-records-4
-slice-aggregate-put-records-4 c = search needs
-
-slice-aggregate-put-records-5 : tie.Need-slice-aggregate-put-records-5
-slice-aggregate-put-records-5 c = search needs
-
 put-records-requires : tie.Need-put-records-requires
 put-records-requires c κs =
     let ok = right (c .before .before .before .before .before .before) in
@@ -79,22 +31,22 @@ pub show-spec : {M : Type 1} → statement M
 show-spec =
     tie.close
     (tie.spec
-    slice-aggregate-read-file
-    slice-aggregate-read-file-2
-    slice-aggregate-read-file-3
-    slice-aggregate-read-file-4
-    slice-aggregate-read-file-5
-    slice-aggregate-read-file-6
-    slice-aggregate-read-file-7
-    read-file-requires
-    enum-known-checked
-    put-refusal-requires
-    enum-told
-    slice-aggregate-put-records
-    slice-aggregate-put-records-2
-    slice-aggregate-put-records-3
-    slice-aggregate-put-records-4
-    slice-aggregate-put-records-5
+    (λ c. search needs)
+    (λ c. search needs)
+    (λ c. search needs)
+    (λ c. search needs)
+    (λ c. search needs)
+    (λ c. search needs)
+    (λ c. search needs)
+    (λ c κs. search needs)
+    (λ c. search needs)
+    (λ c κs. search needs)
+    (λ c. search needs)
+    (λ c. search needs)
+    (λ c. search needs)
+    (λ c. search needs)
+    (λ c. search needs)
+    (λ c. search needs)
     put-records-requires
     returns
     returns-2)

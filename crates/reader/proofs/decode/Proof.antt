@@ -20,77 +20,23 @@ counts-of-requires c κs = table-long (c .before .args .s .now) (c .before .pre)
 starts-of-requires : tie.Need-starts-of-requires
 starts-of-requires c κs = rw (c .counts-of .ensures) (table-counts (c .before .before .args .s .now) (c .before .before .pre))
 
-array-read-read-points : tie.Need-array-read-read-points
-array-read-read-points c = search needs
-
-array-read-read-points-2 : tie.Need-array-read-read-points-2
-array-read-read-points-2 c = search needs
-
 read-points-requires : tie.Need-read-points-requires
 read-points-requires c κs = room c 0 (omega arith)
-
-array-read-read-edges : tie.Need-array-read-read-edges
-array-read-read-edges c = search needs
-
-array-read-read-edges-2 : tie.Need-array-read-read-edges-2
-array-read-read-edges-2 c = search needs
 
 read-edges-requires : tie.Need-read-edges-requires
 read-edges-requires c κs = room (c .before) 1 (omega arith)
 
-array-read-read-u16s : tie.Need-array-read-read-u16s
-array-read-read-u16s c = search needs
-
-array-read-read-u16s-2 : tie.Need-array-read-read-u16s-2
-array-read-read-u16s-2 c = search needs
-
-slice-aggregate-read-u16s : tie.Need-slice-aggregate-read-u16s
-slice-aggregate-read-u16s c = search needs
-
 read-u16s-requires : tie.Need-read-u16s-requires
 read-u16s-requires c κs = let r = room (c .before .before .before) 2 (omega arith) in (omega (arith, r .0), r .1)
-
-array-read-read-u16s-3 : tie.Need-array-read-read-u16s-3
-array-read-read-u16s-3 c = search needs
-
-array-read-read-u16s-4 : tie.Need-array-read-read-u16s-4
-array-read-read-u16s-4 c = search needs
-
-slice-aggregate-read-u16s-2 : tie.Need-slice-aggregate-read-u16s-2
-slice-aggregate-read-u16s-2 c = search needs
 
 read-u16s-requires-2 : tie.Need-read-u16s-requires-2
 read-u16s-requires-2 c κs = let r = room (c .before .before .before .before .before .before) 3 (omega arith) in (omega (arith, r .0), r .1)
 
-array-read-read-faces : tie.Need-array-read-read-faces
-array-read-read-faces c = search needs
-
-array-read-read-faces-2 : tie.Need-array-read-read-faces-2
-array-read-read-faces-2 c = search needs
-
 read-faces-requires : tie.Need-read-faces-requires
 read-faces-requires c κs = room (c .before .before .before .before .before .before .before .before) 4 (omega arith)
 
-array-read-read-u16s-5 : tie.Need-array-read-read-u16s-5
-array-read-read-u16s-5 c = search needs
-
-array-read-read-u16s-6 : tie.Need-array-read-read-u16s-6
-array-read-read-u16s-6 c = search needs
-
-slice-aggregate-read-u16s-3 : tie.Need-slice-aggregate-read-u16s-3
-slice-aggregate-read-u16s-3 c = search needs
-
 read-u16s-requires-3 : tie.Need-read-u16s-requires-3
 read-u16s-requires-3 c κs = let r = room (c .before .before .before .before .before .before .before .before .before .before) 5 (omega arith) in (omega (arith, r .0), r .1)
-
-array-read-read-u16s-7 : tie.Need-array-read-read-u16s-7
-array-read-read-u16s-7 c = search needs
-
-array-read-read-u16s-8 : tie.Need-array-read-read-u16s-8
-array-read-read-u16s-8 c = search needs
-
-slice-aggregate-read-u16s-4 : tie.Need-slice-aggregate-read-u16s-4
-slice-aggregate-read-u16s-4 c = search needs
 
 read-u16s-requires-4 : tie.Need-read-u16s-requires-4
 read-u16s-requires-4 c κs = let r = room (c .before .before .before .before .before .before .before .before .before .before .before .before .before) 6 (omega arith) in (omega (arith, r .0), r .1)
@@ -106,29 +52,29 @@ decode-spec =
     (tie.spec
     counts-of-requires
     starts-of-requires
-    array-read-read-points
-    array-read-read-points-2
+    (λ c. search needs)
+    (λ c. search needs)
     read-points-requires
-    array-read-read-edges
-    array-read-read-edges-2
+    (λ c. search needs)
+    (λ c. search needs)
     read-edges-requires
-    array-read-read-u16s
-    array-read-read-u16s-2
-    slice-aggregate-read-u16s
+    (λ c. search needs)
+    (λ c. search needs)
+    (λ c. search needs)
     read-u16s-requires
-    array-read-read-u16s-3
-    array-read-read-u16s-4
-    slice-aggregate-read-u16s-2
+    (λ c. search needs)
+    (λ c. search needs)
+    (λ c. search needs)
     read-u16s-requires-2
-    array-read-read-faces
-    array-read-read-faces-2
+    (λ c. search needs)
+    (λ c. search needs)
     read-faces-requires
-    array-read-read-u16s-5
-    array-read-read-u16s-6
-    slice-aggregate-read-u16s-3
+    (λ c. search needs)
+    (λ c. search needs)
+    (λ c. search needs)
     read-u16s-requires-3
-    array-read-read-u16s-7
-    array-read-read-u16s-8
-    slice-aggregate-read-u16s-4
+    (λ c. search needs)
+    (λ c. search needs)
+    (λ c. search needs)
     read-u16s-requires-4
     returns)

@@ -5,9 +5,6 @@ use Rattle.reader.proofs.Laws.{nan-bits, no-nan-bits}
 use Rattle.reader.proofs.f64_at.Statement.{statement}
 use Rattle.reader.proofs.f64_at.Tie as tie
 
-u64-at-requires : tie.Need-u64-at-requires
-u64-at-requires c κs = search needs
-
 returns : tie.Need-returns
 unfolding div ofBits
 returns c = sym (nan-bits _ (rw (c .before .u64-at .ensures) at (c .if1 .taken)))
@@ -19,4 +16,4 @@ returns-2 : tie.Need-returns-2
 returns-2 c = ap (ofBits binary64) (c .before .u64-at .ensures)
 
 pub f64-at-spec : {M : Type 1} → statement M
-f64-at-spec = tie.close (tie.spec u64-at-requires returns float-from-bits-result returns-2)
+f64-at-spec = tie.close (tie.spec (λ c κs. search needs) returns float-from-bits-result returns-2)

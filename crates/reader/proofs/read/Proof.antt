@@ -26,32 +26,11 @@ module _ (s : List ℕ) (ok : first (tableFaults s) ≡ Accepted) (p : Pattern) 
       passed-first (tableFaults s) (contentFaults (fileContent s)) ok
       ∙ ap (λ (c : Content). first (contentFaults c)) (sym (ap content e ∙ content-of-stored (fileContent s)))
 
-check-table-requires : tie.Need-check-table-requires
-check-table-requires c κs = search needs
-
-enum-known-table : tie.Need-enum-known-table
-enum-known-table c = search needs
-
-refused-requires : tie.Need-refused-requires
-refused-requires c κs = search needs
-
-enum-told : tie.Need-enum-told
-enum-told c = search needs
-
 decode-requires : tie.Need-decode-requires
 decode-requires c κs = accepted-none (tableFaults (c .before .before .before .before .args .s .now)) (sym (c .before .before .check-table .ensures) ∙ c .enum-told .given .1)
 
 check-content-requires : tie.Need-check-content-requires
 check-content-requires c κs = counts-pass (c .before .before .before .before .before .args .s .now) (sym (c .before .before .before .check-table .ensures) ∙ c .before .enum-told .given .1) (c .decode .result) (c .decode .ensures)
-
-enum-known-answer : tie.Need-enum-known-answer
-enum-known-answer c = search needs
-
-refused-requires-2 : tie.Need-refused-requires-2
-refused-requires-2 c κs = search needs
-
-enum-told-2 : tie.Need-enum-told-2
-enum-told-2 c = search needs
 
 returns : tie.Need-returns
 returns c =
@@ -78,15 +57,15 @@ pub read-spec : {M : Type 1} → statement M
 read-spec =
     tie.close
     (tie.spec
-    check-table-requires
-    enum-known-table
-    refused-requires
-    enum-told
+    (λ c κs. search needs)
+    (λ c. search needs)
+    (λ c κs. search needs)
+    (λ c. search needs)
     decode-requires
     check-content-requires
-    enum-known-answer
-    refused-requires-2
-    enum-told-2
+    (λ c. search needs)
+    (λ c κs. search needs)
+    (λ c. search needs)
     returns
     returns-2
     returns-3)

@@ -16,32 +16,8 @@ Inv-loop s at n out₀ k₀ out k = (k ≤ n) × Filling (λ (j : ℕ). edgeAt s
 abbrev μ-loop : tie.MeasureT-loop
 μ-loop s at n out₀ k₀ out k = n - k
 
-new-unchecked-requires : tie.Need-new-unchecked-requires Inv-loop μ-loop
-new-unchecked-requires c κs = search needs
-
 loop-holds : tie.Need-loop-holds Inv-loop μ-loop
 loop-holds c = (omega arith, filling-over _ 1024 zeroEdge (c .new-unchecked .result) (c .new-unchecked .ensures))
-
-mul-edge-at : tie.Need-mul-edge-at Inv-loop μ-loop
-mul-edge-at c = search needs
-
-add-edge-at : tie.Need-add-edge-at Inv-loop μ-loop
-add-edge-at c = search needs
-
-edge-at-requires : tie.Need-edge-at-requires Inv-loop μ-loop
-edge-at-requires c κs = search needs
-
-mul-out : tie.Need-mul-out Inv-loop μ-loop
-mul-out c = search needs
-
-array-set-from-out : tie.Need-array-set-from-out Inv-loop μ-loop
-array-set-from-out c = search needs
-
-add-k : tie.Need-add-k Inv-loop μ-loop
-add-k c = search needs
-
-loop-less : tie.Need-loop-less Inv-loop μ-loop
-loop-less c = search needs
 
 loop-again : tie.Need-loop-again Inv-loop μ-loop
 loop-again c = (omega arith, filling-next _ zeroEdge _ _ _ _ (c .before .before .loop .inv .1) (omega arith) (c .edge-at .ensures))
@@ -55,14 +31,14 @@ read-edges-spec =
     (tie.spec
     Inv-loop
     μ-loop
-    new-unchecked-requires
+    (λ c κs. search needs)
     loop-holds
-    mul-edge-at
-    add-edge-at
-    edge-at-requires
-    mul-out
-    array-set-from-out
-    add-k
-    loop-less
+    (λ c. search needs)
+    (λ c. search needs)
+    (λ c κs. search needs)
+    (λ c. search needs)
+    (λ c. search needs)
+    (λ c. search needs)
+    (λ c. search needs)
     loop-again
     returns)

@@ -19,27 +19,6 @@ abbrev μ-loop : tie.MeasureT-loop
 loop-holds : tie.Need-loop-holds Inv-loop μ-loop
 loop-holds c = (omega arith, filling-start _ _)
 
-mul-face-at : tie.Need-mul-face-at Inv-loop μ-loop
-mul-face-at c = search needs
-
-add-face-at : tie.Need-add-face-at Inv-loop μ-loop
-add-face-at c = search needs
-
-face-at-requires : tie.Need-face-at-requires Inv-loop μ-loop
-face-at-requires c κs = search needs
-
-mul-out : tie.Need-mul-out Inv-loop μ-loop
-mul-out c = search needs
-
-array-set-from-out : tie.Need-array-set-from-out Inv-loop μ-loop
-array-set-from-out c = search needs
-
-add-k : tie.Need-add-k Inv-loop μ-loop
-add-k c = search needs
-
-loop-less : tie.Need-loop-less Inv-loop μ-loop
-loop-less c = search needs
-
 loop-again : tie.Need-loop-again Inv-loop μ-loop
 loop-again c = (omega arith, filling-next _ zeroFace _ _ _ _ (c .before .before .loop .inv .1) (omega arith) (c .face-at .ensures))
 
@@ -53,12 +32,12 @@ read-faces-spec =
     Inv-loop
     μ-loop
     loop-holds
-    mul-face-at
-    add-face-at
-    face-at-requires
-    mul-out
-    array-set-from-out
-    add-k
-    loop-less
+    (λ c. search needs)
+    (λ c. search needs)
+    (λ c κs. search needs)
+    (λ c. search needs)
+    (λ c. search needs)
+    (λ c. search needs)
+    (λ c. search needs)
     loop-again
     returns)

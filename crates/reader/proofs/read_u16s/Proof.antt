@@ -27,17 +27,8 @@ add-u16-at c = omega (arith, step-inside _ _ _ _ _ (c .loop-test .taken) (c .bef
 u16-at-requires : tie.Need-u16-at-requires Inv-loop μ-loop
 u16-at-requires c κs = omega (arith, step-inside _ _ _ _ _ (c .loop-test .taken) (c .before .before .before .before .pre .0))
 
-mul-out : tie.Need-mul-out Inv-loop μ-loop
-mul-out c = search needs
-
 slice-write-out : tie.Need-slice-write-out Inv-loop μ-loop
 slice-write-out c = omega (arith, filling-long _ _ _ _ (c .before .before .loop .inv .1))
-
-add-k : tie.Need-add-k Inv-loop μ-loop
-add-k c = search needs
-
-loop-less : tie.Need-loop-less Inv-loop μ-loop
-loop-less c = search needs
 
 loop-again : tie.Need-loop-again Inv-loop μ-loop
 loop-again c = (omega arith, filling-next _ 0 _ _ _ _ (c .before .before .loop .inv .1) (omega arith) (c .u16-at .ensures))
@@ -58,10 +49,10 @@ read-u16s-spec =
     mul-u16-at
     add-u16-at
     u16-at-requires
-    mul-out
+    (λ c. search needs)
     slice-write-out
-    add-k
-    loop-less
+    (λ c. search needs)
+    (λ c. search needs)
     loop-again
     same-length
     returns)

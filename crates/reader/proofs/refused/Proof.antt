@@ -10,9 +10,6 @@ use Rattle.reader.specs.Reading.{refusal}
 use Rattle.wire.specs.Wires.{points}
 use Rattle.reader.proofs.refused.Tie as tie
 
-new-unchecked-requires : tie.Need-new-unchecked-requires
-new-unchecked-requires c κs = search needs
-
 returns : tie.Need-returns
 unfolding refusal
 returns c =
@@ -33,4 +30,4 @@ returns c =
     (c .new-unchecked .ensures)
 
 pub refused-spec : {M : Type 1} → statement M
-refused-spec = tie.close (tie.spec new-unchecked-requires returns)
+refused-spec = tie.close (tie.spec (λ c κs. search needs) returns)

@@ -17,26 +17,11 @@ mul-index c = let s = c .before .before .before .before .before .before .before 
 shared-slice-read-index : tie.Need-shared-slice-read-index
 shared-slice-read-index c = let s = c .before .before .before .before .before .before .before .before .before in omega (arith, s .pre .1, shells-room (s .pre .0 .0) _ _ _ _ (s .pre .0 .1 .listed) .1)
 
-index-requires : tie.Need-index-requires
-index-requires c κs = search needs
-
 add-end : tie.Need-add-end
 add-end c = let s = c .before .before .before .before .before .before .before .before .before .before in
     let p = s .pre .0 .0 in
     let l = s .pre .0 .1 .listed in
     omega (arith, part-listed p _ _ _ _ l (s .args .n) (s .pre .1) _ _ (c .before .before .sum-of .ensures) (c .index .ensures .0), listings-room p _ _ _ _ l .0)
-
-array-read-ending-in : tie.Need-array-read-ending-in
-array-read-ending-in c = search needs
-
-array-read-ending-in-2 : tie.Need-array-read-ending-in-2
-array-read-ending-in-2 c = search needs
-
-array-read-ending-in-3 : tie.Need-array-read-ending-in-3
-array-read-ending-in-3 c = search needs
-
-array-read-ending-in-4 : tie.Need-array-read-ending-in-4
-array-read-ending-in-4 c = search needs
 
 ending-in-requires : tie.Need-ending-in-requires
 ending-in-requires c κs = let s = c .before .before .before .before .before .before .before .before .before .before in
@@ -63,11 +48,11 @@ ending-at-spec =
     sum-of-requires
     mul-index
     shared-slice-read-index
-    index-requires
+    (λ c κs. search needs)
     add-end
-    array-read-ending-in
-    array-read-ending-in-2
-    array-read-ending-in-3
-    array-read-ending-in-4
+    (λ c. search needs)
+    (λ c. search needs)
+    (λ c. search needs)
+    (λ c. search needs)
     ending-in-requires
     returns)

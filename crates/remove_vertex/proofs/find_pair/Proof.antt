@@ -22,21 +22,12 @@ endingIn p n v = endingOf (endingWires (content p) n v)
 abbrev lastIn : Pattern → ℕ → ℕ → Corner
 lastIn p n v = cornerIn (content p) v (lastWire (endingWires (content p) n v))
 
-array-read-if1 : tie.Need-array-read-if1
-array-read-if1 c = search needs
-
 returns : tie.Need-returns
 returns c = (
   λ p l. let a = c .before .before .before .before .before .before .before .before .args in
       no-shell (content p) (a .n) (a .v .0) _ _ (points-are p _ _ _ _ _ _ _ _ l) (shells-are p _ _ _ _ _ _ _ _ l) (lastIn p (a .n) (a .v .0)) (endingIn p (a .n) (a .v .0)) (c .if1 .taken),
   refl,
 )
-
-index-requires : tie.Need-index-requires
-index-requires c κs = search needs
-
-array-read-if2 : tie.Need-array-read-if2
-array-read-if2 c = search needs
 
 returns-2 : tie.Need-returns-2
 returns-2 c = (
@@ -45,18 +36,12 @@ returns-2 c = (
   refl,
 )
 
-mark-wires-requires : tie.Need-mark-wires-requires
-mark-wires-requires c κs = search needs
-
 returns-3 : tie.Need-returns-3
 returns-3 c = (
   λ p l. let a = c .before .before .before .before .before .before .before .before .before .before .before .before .args in
       is-shared (content p) (a .n) (a .v .0) _ _ (points-are p _ _ _ _ _ _ _ _ l) (shells-are p _ _ _ _ _ _ _ _ l) (lastIn p (a .n) (a .v .0)) (endingIn p (a .n) (a .v .0)) (omega (arith, c .before .before .before .before .if1 .left)) (omega (arith, c .before .before .if2 .left, c .before .before .before .index .ensures .0)) (sym (ap (λ (m : Marks). m .shared) (c .before .mark-wires .ensures p (l .listed))) ∙ c .if3 .taken),
   refl,
 )
-
-ending-at-requires : tie.Need-ending-at-requires
-ending-at-requires c κs = search needs
 
 returns-4 : tie.Need-returns-4
 returns-4 c = (
@@ -88,14 +73,14 @@ pub find-pair-spec : {M : Type 1} → statement M
 find-pair-spec =
     tie.close
     (tie.spec
-    array-read-if1
+    (λ c. search needs)
     returns
-    index-requires
-    array-read-if2
+    (λ c κs. search needs)
+    (λ c. search needs)
     returns-2
-    mark-wires-requires
+    (λ c κs. search needs)
     returns-3
-    ending-at-requires
+    (λ c κs. search needs)
     returns-4
     returns-5
     match-pair-requires

@@ -6,15 +6,6 @@ use Rattle.remove_vertex.proofs.Removals.{removal-joins, removal-not}
 use Rattle.remove_vertex.proofs.join_pair.Statement.{statement}
 use Rattle.remove_vertex.proofs.join_pair.Tie as tie
 
-judge-join-requires : tie.Need-judge-join-requires
-judge-join-requires c κs = search needs
-
-enum-known-made : tie.Need-enum-known-made
-enum-known-made c = search needs
-
-enum-known-made-2 : tie.Need-enum-known-made-2
-enum-known-made-2 c = search needs
-
 returns : tie.Need-returns
 returns c = let s = c .before .before .before .before .args in
     removal-not (endFaults (s .a) (s .k .ending) (s .b) (s .k .next) (s .edges)) (joinedEnds (s .a) (s .k .ending) (s .b) (s .k .next)) (c .before .before .before .before .args .e) (sym (c .before .before .before .judge-join .ensures) ∙ c .before .made .given .1)
@@ -25,4 +16,4 @@ returns-2 c = let s = c .before .before .before .before .args in
 
 pub join-pair-spec : {M : Type 1} → statement M
 join-pair-spec =
-    tie.close (tie.spec judge-join-requires enum-known-made enum-known-made-2 returns returns-2)
+    tie.close (tie.spec (λ c κs. search needs) (λ c. search needs) (λ c. search needs) returns returns-2)

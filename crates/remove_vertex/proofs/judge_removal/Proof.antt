@@ -54,56 +54,14 @@ lent c = record {
 inside : (c : tie.After-found2) → (edgeNumber (c .found2 .given .0 .1 .0 .ending) < getD (c .before .before .before .before .before .before .before .before .before .before .before .before .before .before .before .before .before .before .before .before .before .args .t1 .counts) 1 0) × (edgeNumber (c .found2 .given .0 .1 .0 .next) < getD (c .before .before .before .before .before .before .before .before .before .before .before .before .before .before .before .before .before .before .before .before .before .args .t1 .counts) 1 0)
 inside c = of-edges (getD (c .before .before .before .before .before .before .before .before .before .before .before .before .before .before .before .before .before .before .before .before .before .args .t1 .counts) 1 0) (c .found2 .given .1) (c .before .before .find-pair .ensures .1)
 
-fronts-of-requires : tie.Need-fronts-of-requires
-fronts-of-requires c κs = search needs
-
-backs-of-requires : tie.Need-backs-of-requires
-backs-of-requires c κs = search needs
-
-wire-counts-requires : tie.Need-wire-counts-requires
-wire-counts-requires c κs = search needs
-
-slice-aggregate-find-pair : tie.Need-slice-aggregate-find-pair
-slice-aggregate-find-pair c = search needs
-
-slice-aggregate-find-pair-2 : tie.Need-slice-aggregate-find-pair-2
-slice-aggregate-find-pair-2 c = search needs
-
-slice-aggregate-find-pair-3 : tie.Need-slice-aggregate-find-pair-3
-slice-aggregate-find-pair-3 c = search needs
-
 find-pair-requires : tie.Need-find-pair-requires
 find-pair-requires c κs = (c .before .before .before .before .before .before .before .before .before .before .before .before .before .before .before .before .before .before .args .t1, lent (c .before .before .before .before .before .before .before .before .before .before .before .before))
-
-enum-known-found : tie.Need-enum-known-found
-enum-known-found c = search needs
-
-enum-known-found-2 : tie.Need-enum-known-found-2
-enum-known-found-2 c = search needs
-
-index-requires : tie.Need-index-requires
-index-requires c κs = search needs
-
-mul-a : tie.Need-mul-a
-mul-a c = search needs
 
 element-copy-out-a : tie.Need-element-copy-out-a
 element-copy-out-a c = omega (arith, inside (c .before .before .before) .0, good (c .before .before .before .before .before .before .before .before .before .before .before .before .before .before .before .before .before .before .before .before .before .before .before .before) .limits .edges, c .index .ensures .0)
 
-index-requires-2 : tie.Need-index-requires-2
-index-requires-2 c κs = search needs
-
-mul-b : tie.Need-mul-b
-mul-b c = search needs
-
 element-copy-out-b : tie.Need-element-copy-out-b
 element-copy-out-b c = omega (arith, inside (c .before .before .before .before .before .before) .1, good (c .before .before .before .before .before .before .before .before .before .before .before .before .before .before .before .before .before .before .before .before .before .before .before .before .before .before .before) .limits .edges, c .index2 .ensures .0)
-
-array-read-join-pair : tie.Need-array-read-join-pair
-array-read-join-pair c = search needs
-
-join-pair-requires : tie.Need-join-pair-requires
-join-pair-requires c κs = search needs
 
 returns : tie.Need-returns
 returns c = let s = c .before .before .before .before .before .before .before .before .before .before .before .before .before .before .before .before .before .before .before .before .before .before in
@@ -118,22 +76,22 @@ pub judge-removal-spec : {M : Type 1} → statement M
 judge-removal-spec =
     tie.close
     (tie.spec
-    fronts-of-requires
-    backs-of-requires
-    wire-counts-requires
-    slice-aggregate-find-pair
-    slice-aggregate-find-pair-2
-    slice-aggregate-find-pair-3
+    (λ c κs. search needs)
+    (λ c κs. search needs)
+    (λ c κs. search needs)
+    (λ c. search needs)
+    (λ c. search needs)
+    (λ c. search needs)
     find-pair-requires
-    enum-known-found
-    enum-known-found-2
-    index-requires
-    mul-a
+    (λ c. search needs)
+    (λ c. search needs)
+    (λ c κs. search needs)
+    (λ c. search needs)
     element-copy-out-a
-    index-requires-2
-    mul-b
+    (λ c κs. search needs)
+    (λ c. search needs)
     element-copy-out-b
-    array-read-join-pair
-    join-pair-requires
+    (λ c. search needs)
+    (λ c κs. search needs)
     returns
     returns-2)

@@ -56,12 +56,6 @@ few c =
     let p = s .args .t1 in
     omega (arith, edges-counted p (limits (c .before .before .before)) (full s), removal-room (content p) (s .args .n) (s .args .v .0) (joined c .0))
 
-check-requires : tie.Need-check-requires
-check-requires c κs = search needs
-
-enum-known-checked : tie.Need-enum-known-checked
-enum-known-checked c = search needs
-
 returns : tie.Need-returns
 returns c =
     let p = c .before .before .before .before .args .t1 in
@@ -70,20 +64,8 @@ returns c =
     let e = sym (c .before .before .before .check .ensures) ∙ c .before .checked .given .1 in
     (judged-refused es Refused Not (Joined (nextEdge p 0)) (patternFaults p) e, (judged-refused es (λ f. p) (λ f. p) (storedIn p (removeContent k (c .before .before .before .before .args .n) (c .before .before .before .before .args .v .0))) (patternFaults p) e, λ fine. fine))
 
-enum-told : tie.Need-enum-told
-enum-told c = search needs
-
 judge-removal-requires : tie.Need-judge-removal-requires
 judge-removal-requires c κs = passed (c)
-
-enum-known-judged : tie.Need-enum-known-judged
-enum-known-judged c = search needs
-
-enum-known-judged-2 : tie.Need-enum-known-judged-2
-enum-known-judged-2 c = search needs
-
-element-copy-out-edges : tie.Need-element-copy-out-edges
-element-copy-out-edges c = search needs
 
 write-removal-requires : tie.Need-write-removal-requires
 write-removal-requires c κs = (passed (c .before .before .before .before .before), few (c .before .before))
@@ -125,14 +107,14 @@ pub remove-vertex-by-concat-edges-spec : {M : Type 1} → statement M
 remove-vertex-by-concat-edges-spec =
     tie.close
     (tie.spec
-    check-requires
-    enum-known-checked
+    (λ c κs. search needs)
+    (λ c. search needs)
     returns
-    enum-told
+    (λ c. search needs)
     judge-removal-requires
-    enum-known-judged
-    enum-known-judged-2
-    element-copy-out-edges
+    (λ c. search needs)
+    (λ c. search needs)
+    (λ c. search needs)
     write-removal-requires
     cast-t23
     returns-2

@@ -47,44 +47,11 @@ lent c = record {
   wires-are = refl;
 }
 
-element-copy-out-ecount : tie.Need-element-copy-out-ecount
-element-copy-out-ecount c = search needs
-
-element-copy-out-ucount : tie.Need-element-copy-out-ucount
-element-copy-out-ucount c = search needs
-
-element-copy-out-wcount : tie.Need-element-copy-out-wcount
-element-copy-out-wcount c = search needs
-
-fronts-of-requires : tie.Need-fronts-of-requires
-fronts-of-requires c κs = search needs
-
-backs-of-requires : tie.Need-backs-of-requires
-backs-of-requires c κs = search needs
-
-slice-aggregate-put-tables : tie.Need-slice-aggregate-put-tables
-slice-aggregate-put-tables c = search needs
-
-slice-aggregate-put-tables-2 : tie.Need-slice-aggregate-put-tables-2
-slice-aggregate-put-tables-2 c = search needs
-
-slice-aggregate-put-tables-3 : tie.Need-slice-aggregate-put-tables-3
-slice-aggregate-put-tables-3 c = search needs
-
-slice-aggregate-put-tables-4 : tie.Need-slice-aggregate-put-tables-4
-slice-aggregate-put-tables-4 c = search needs
-
 put-tables-requires : tie.Need-put-tables-requires
 put-tables-requires c κs =
     let s = c .before .before .before .before .before .before .before .before .before .before .before .before .before .before .before .before .before in
     let g = good s in
     (tables (s .args .t1) _ _ _ _ _ _ _ _ (lent (c .before .before .before .before .before .before .before .before .before .before .before)), (omega (arith, g .limits .wires, full s .wires), omega (arith, g .limits .uses, full s .uses), s .pre .1))
-
-append-edge-requires : tie.Need-append-edge-requires
-append-edge-requires c κs = search needs
-
-element-write-q : tie.Need-element-write-q
-element-write-q c = search needs
 
 returns : tie.Need-returns
 returns c =
@@ -96,16 +63,16 @@ pub write-removal-spec : {M : Type 1} → statement M
 write-removal-spec =
     tie.close
     (tie.spec
-    element-copy-out-ecount
-    element-copy-out-ucount
-    element-copy-out-wcount
-    fronts-of-requires
-    backs-of-requires
-    slice-aggregate-put-tables
-    slice-aggregate-put-tables-2
-    slice-aggregate-put-tables-3
-    slice-aggregate-put-tables-4
+    (λ c. search needs)
+    (λ c. search needs)
+    (λ c. search needs)
+    (λ c κs. search needs)
+    (λ c κs. search needs)
+    (λ c. search needs)
+    (λ c. search needs)
+    (λ c. search needs)
+    (λ c. search needs)
     put-tables-requires
-    append-edge-requires
-    element-write-q
+    (λ c κs. search needs)
+    (λ c. search needs)
     returns)

@@ -21,23 +21,14 @@ loop-holds c = writing-start
 shell-text-requires : tie.Need-shell-text-requires Inv-loop μ-loop
 shell-text-requires c κs = (writing-here (c .before .before .loop .inv) (c .before .before .before .before .before .before .before .before .before .before .before .before .before .pre .0) (c .before .loop-test .taken), writing-room (c .before .before .loop .inv) (c .before .before .before .before .before .before .before .before .before .before .before .before .before .pre .0) (c .before .before .before .before .before .before .before .before .before .before .before .before .before .pre .1) (c .before .loop-test .taken))
 
-and-shell-requires : tie.Need-and-shell-requires Inv-loop μ-loop
-and-shell-requires c κs = search needs
-
 add-n : tie.Need-add-n Inv-loop μ-loop
 add-n c = omega (arith, writing-room (c .before .before .before .before .before .before .loop .inv) (c .before .before .before .before .before .before .before .before .before .before .before .before .before .before .before .before .before .pre .0) (c .before .before .before .before .before .before .before .before .before .before .before .before .before .before .before .before .before .pre .1) (c .before .before .before .before .before .loop-test .taken) .0)
-
-loop-less : tie.Need-loop-less Inv-loop μ-loop
-loop-less c = search needs
 
 loop-again : tie.Need-loop-again Inv-loop μ-loop
 loop-again c = writing-next (c .before .before .before .before .before .before .loop .inv) (c .before .before .before .before .before .before .before .before .before .before .before .before .before .before .before .before .before .pre .0) (c .before .before .before .before .before .loop-test .taken) _ (c .before .before .before .shell-text .result) _ (search needs) (c .before .before .before .shell-text .ensures .0) (c .before .before .before .shell-text .ensures .1) (c .and-shell .ensures)
 
 solid-text-requires : tie.Need-solid-text-requires Inv-loop μ-loop
 solid-text-requires c κs = writing-end (c .before .before .loop .inv) (c .before .before .before .before .before .before .before .before .before .before .before .before .before .pre .0) (c .before .before .before .before .before .before .before .before .before .before .before .before .before .pre .1)
-
-same-length : tie.Need-same-length Inv-loop μ-loop
-same-length c = search needs
 
 returns : tie.Need-returns Inv-loop μ-loop
 returns c = writing-all (c .before .before .before .before .before .loop .inv) (c .before .before .before .before .before .before .before .before .before .before .before .before .before .before .before .before .pre .0) (omega arith) _ _ (c .before .before .solid-text .ensures)
@@ -50,10 +41,10 @@ columns-text-spec =
     μ-loop
     loop-holds
     shell-text-requires
-    and-shell-requires
+    (λ c κs. search needs)
     add-n
-    loop-less
+    (λ c. search needs)
     loop-again
     solid-text-requires
-    same-length
+    (λ c. search needs)
     returns)

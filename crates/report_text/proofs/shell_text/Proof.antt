@@ -8,68 +8,17 @@ use Rattle.reports.specs.Figures.{lent}
 use Rattle.report_text.proofs.shell_text.Statement.{statement}
 use Rattle.report_text.proofs.shell_text.Tie as tie
 
-mul-first : tie.Need-mul-first
-mul-first c = search needs
-
 shared-slice-read-first : tie.Need-shared-slice-read-first
 shared-slice-read-first c = let a = c .before .before .before .before .before .before .before .before .before .before .before .args in let w = c .before .before .before .before .before .before .before .before .before .before .before .pre .0 in let k : Columns = lent (a .points) (a .edges) (a .uses .now) (a .turned .now) (a .starts .now) (a .wires .now) (a .firsts .now) (a .fronts .now) (a .backs .now) (a .places .now) (a .listings .now) in omega (arith, places-inside k (a .n) (w .pattern) (w .sound) (w .columns) (w .here))
 
-add-end : tie.Need-add-end
-add-end c = search needs
-
-mul-end : tie.Need-mul-end
-mul-end c = search needs
-
 shared-slice-read-end : tie.Need-shared-slice-read-end
 shared-slice-read-end c = let a = c .before .before .before .before .before .before .before .before .before .before .before .before .args in let w = c .before .before .before .before .before .before .before .before .before .before .before .before .pre .0 in let k : Columns = lent (a .points) (a .edges) (a .uses .now) (a .turned .now) (a .starts .now) (a .wires .now) (a .firsts .now) (a .fronts .now) (a .backs .now) (a .places .now) (a .listings .now) in omega (arith, places-inside k (a .n) (w .pattern) (w .sound) (w .columns) (w .here))
-
-slice-aggregate-put-openings : tie.Need-slice-aggregate-put-openings
-slice-aggregate-put-openings c = search needs
-
-slice-aggregate-put-openings-2 : tie.Need-slice-aggregate-put-openings-2
-slice-aggregate-put-openings-2 c = search needs
-
-put-openings-requires : tie.Need-put-openings-requires
-put-openings-requires c κs = search needs
-
-slice-aggregate-put-groups : tie.Need-slice-aggregate-put-groups
-slice-aggregate-put-groups c = search needs
-
-slice-aggregate-put-groups-2 : tie.Need-slice-aggregate-put-groups-2
-slice-aggregate-put-groups-2 c = search needs
-
-slice-aggregate-put-groups-3 : tie.Need-slice-aggregate-put-groups-3
-slice-aggregate-put-groups-3 c = search needs
-
-put-groups-requires : tie.Need-put-groups-requires
-put-groups-requires c κs = search needs
-
-slice-aggregate-put-figures : tie.Need-slice-aggregate-put-figures
-slice-aggregate-put-figures c = search needs
-
-slice-aggregate-put-figures-2 : tie.Need-slice-aggregate-put-figures-2
-slice-aggregate-put-figures-2 c = search needs
-
-slice-aggregate-put-figures-3 : tie.Need-slice-aggregate-put-figures-3
-slice-aggregate-put-figures-3 c = search needs
-
-slice-aggregate-put-figures-4 : tie.Need-slice-aggregate-put-figures-4
-slice-aggregate-put-figures-4 c = search needs
-
-slice-aggregate-put-figures-5 : tie.Need-slice-aggregate-put-figures-5
-slice-aggregate-put-figures-5 c = search needs
 
 put-figures-requires : tie.Need-put-figures-requires
 put-figures-requires c κs = let a = c .before .before .before .before .before .before .before .before .before .before .before .before .before .before .before .before .before .before .before .before .before .before .before .before .before .before .before .before .before .before .args in let w = c .before .before .before .before .before .before .before .before .before .before .before .before .before .before .before .before .before .before .before .before .before .before .before .before .before .before .before .before .before .before .pre .0 in let k : Columns = lent (a .points) (a .edges) (a .uses .now) (a .turned .now) (a .starts .now) (a .wires .now) (a .firsts .now) (a .fronts .now) (a .backs .now) (a .places .now) (a .listings .now) in let o = c .before .before .before .before .before .before .before .before .before .before .before .before .before .before .before .put-openings in let g = c .before .before .before .before .before .before .before .before .before .put-groups in let eo = o .ensures .0 (w .pattern) (w .sound) (w .columns) (w .here) in let eg = g .ensures (w .pattern) (w .sound) (w .columns) (w .here) in (figures-inside (w .pattern) (w .sound) (a .n) (w .here) _ _ eo eg (o .ensures .1), figures-fit (w .pattern) (w .sound) (a .n) (w .here) _ _ eo eg (o .ensures .1) _ (a .at) (c .before .before .before .before .before .before .before .before .before .before .before .before .before .before .before .before .before .before .before .before .before .before .before .before .before .before .before .before .before .before .pre .1 .0) (c .before .before .before .before .before .before .before .before .before .before .before .before .before .before .before .before .before .before .before .before .before .before .before .before .before .before .before .before .before .before .pre .1 .1))
 
 sub-check-shell : tie.Need-sub-check-shell
 sub-check-shell c = let a = c .before .before .before .before .before .before .before .before .before .before .before .before .before .before .before .before .before .before .before .before .before .before .before .before .before .before .before .before .before .before .before .before .before .args in let w = c .before .before .before .before .before .before .before .before .before .before .before .before .before .before .before .before .before .before .before .before .before .before .before .before .before .before .before .before .before .before .before .before .before .pre .0 in let k : Columns = lent (a .points) (a .edges) (a .uses .now) (a .turned .now) (a .starts .now) (a .wires .now) (a .firsts .now) (a .fronts .now) (a .backs .now) (a .places .now) (a .listings .now) in in-places k (a .n) (w .pattern) (w .sound) (w .columns) (w .here) .0
-
-check-shell-requires : tie.Need-check-shell-requires
-check-shell-requires c κs = search needs
-
-same-length : tie.Need-same-length
-same-length c = search needs
 
 returns : tie.Need-returns
 returns c = let a = c .before .before .before .before .before .before .before .before .before .before .before .before .before .before .before .before .before .before .before .before .before .before .before .before .before .before .before .before .before .before .before .before .before .before .args in let k : Columns = lent (a .points) (a .edges) (a .uses .now) (a .turned .now) (a .starts .now) (a .wires .now) (a .firsts .now) (a .fronts .now) (a .backs .now) (a .places .now) (a .listings .now) in let o = c .before .before .before .before .before .before .before .before .before .before .before .before .before .before .before .before .before .before .before .put-openings in let g = c .before .before .before .before .before .before .before .before .before .before .before .before .before .put-groups in let f = c .before .before .before .put-figures .ensures in (λ p t e h. shelled p t (a .n) h _ _ (o .ensures .0 p t e h) (g .ensures p t e h) (o .ensures .1) k e _ _ (a .at) _ _ f (c .check-shell .ensures), f .2)
@@ -78,25 +27,25 @@ pub shell-text-spec : {M : Type 1} → statement M
 shell-text-spec =
     tie.close
     (tie.spec
-    mul-first
+    (λ c. search needs)
     shared-slice-read-first
-    add-end
-    mul-end
+    (λ c. search needs)
+    (λ c. search needs)
     shared-slice-read-end
-    slice-aggregate-put-openings
-    slice-aggregate-put-openings-2
-    put-openings-requires
-    slice-aggregate-put-groups
-    slice-aggregate-put-groups-2
-    slice-aggregate-put-groups-3
-    put-groups-requires
-    slice-aggregate-put-figures
-    slice-aggregate-put-figures-2
-    slice-aggregate-put-figures-3
-    slice-aggregate-put-figures-4
-    slice-aggregate-put-figures-5
+    (λ c. search needs)
+    (λ c. search needs)
+    (λ c κs. search needs)
+    (λ c. search needs)
+    (λ c. search needs)
+    (λ c. search needs)
+    (λ c κs. search needs)
+    (λ c. search needs)
+    (λ c. search needs)
+    (λ c. search needs)
+    (λ c. search needs)
+    (λ c. search needs)
     put-figures-requires
     sub-check-shell
-    check-shell-requires
-    same-length
+    (λ c κs. search needs)
+    (λ c. search needs)
     returns)

@@ -9,17 +9,8 @@ use Rattle.reports.specs.Figures.{lent}
 use Rattle.reports.proofs.put_groups.Statement.{statement}
 use Rattle.reports.proofs.put_groups.Tie as tie
 
-mul-first : tie.Need-mul-first
-mul-first c = search needs
-
 shared-slice-read-first : tie.Need-shared-slice-read-first
 shared-slice-read-first c = let a = c .before .before .before .before .before .before .before .before .before .before .before .before .before .args in let w = c .before .before .before .before .before .before .before .before .before .before .before .before .before .pre .0 in let k : Columns = lent (a .points) (a .edges) (a .uses .now) (a .turned .now) (a .starts .now) (a .wires .now) (a .firsts .now) (a .fronts .now) (a .backs .now) (a .places .now) (a .listings .now) in omega (arith, places-inside k (a .n) (w .pattern) (w .sound) (w .columns) (w .here))
-
-add-end : tie.Need-add-end
-add-end c = search needs
-
-mul-end : tie.Need-mul-end
-mul-end c = search needs
 
 shared-slice-read-end : tie.Need-shared-slice-read-end
 shared-slice-read-end c = let a = c .before .before .before .before .before .before .before .before .before .before .before .before .before .before .args in let w = c .before .before .before .before .before .before .before .before .before .before .before .before .before .before .pre .0 in let k : Columns = lent (a .points) (a .edges) (a .uses .now) (a .turned .now) (a .starts .now) (a .wires .now) (a .firsts .now) (a .fronts .now) (a .backs .now) (a .places .now) (a .listings .now) in omega (arith, places-inside k (a .n) (w .pattern) (w .sound) (w .columns) (w .here))
@@ -36,68 +27,17 @@ part-shell-pairs-start c = let a = c .before .before .before .before .before .be
 part-shell-pairs-end : tie.Need-part-shell-pairs-end
 part-shell-pairs-end c = let a = c .before .before .before .before .before .before .before .before .before .before .before .before .before .before .args in let w = c .before .before .before .before .before .before .before .before .before .before .before .before .before .before .pre .0 in let k : Columns = lent (a .points) (a .edges) (a .uses .now) (a .turned .now) (a .starts .now) (a .wires .now) (a .firsts .now) (a .fronts .now) (a .backs .now) (a .places .now) (a .listings .now) in let i = in-places k (a .n) (w .pattern) (w .sound) (w .columns) (w .here) in omega (arith, i .0, i .1)
 
-slice-aggregate-shell-pairs : tie.Need-slice-aggregate-shell-pairs
-slice-aggregate-shell-pairs c = search needs
-
-slice-aggregate-shell-pairs-2 : tie.Need-slice-aggregate-shell-pairs-2
-slice-aggregate-shell-pairs-2 c = search needs
-
-slice-aggregate-shell-pairs-3 : tie.Need-slice-aggregate-shell-pairs-3
-slice-aggregate-shell-pairs-3 c = search needs
-
-slice-aggregate-shell-pairs-4 : tie.Need-slice-aggregate-shell-pairs-4
-slice-aggregate-shell-pairs-4 c = search needs
-
-slice-aggregate-shell-pairs-5 : tie.Need-slice-aggregate-shell-pairs-5
-slice-aggregate-shell-pairs-5 c = search needs
-
 shell-pairs-requires : tie.Need-shell-pairs-requires
 shell-pairs-requires c κs = let a = c .before .before .before .before .before .before .before .before .before .before .before .before .before .before .before .before .before .before .before .before .args in let w = c .before .before .before .before .before .before .before .before .before .before .before .before .before .before .before .before .before .before .before .before .pre .0 in let k : Columns = lent (a .points) (a .edges) (a .uses .now) (a .turned .now) (a .starts .now) (a .wires .now) (a .firsts .now) (a .fronts .now) (a .backs .now) (a .places .now) (a .listings .now) in (k-showing k (a .n) (w .pattern) (w .sound) (w .columns) (w .here), (refl, refl, refl, refl, refl))
 
-slice-aggregate-put-figures : tie.Need-slice-aggregate-put-figures
-slice-aggregate-put-figures c = search needs
-
-slice-aggregate-put-figures-2 : tie.Need-slice-aggregate-put-figures-2
-slice-aggregate-put-figures-2 c = search needs
-
-slice-aggregate-put-figures-3 : tie.Need-slice-aggregate-put-figures-3
-slice-aggregate-put-figures-3 c = search needs
-
-slice-aggregate-put-figures-4 : tie.Need-slice-aggregate-put-figures-4
-slice-aggregate-put-figures-4 c = search needs
-
-slice-aggregate-put-figures-5 : tie.Need-slice-aggregate-put-figures-5
-slice-aggregate-put-figures-5 c = search needs
-
-sub-put-figures : tie.Need-sub-put-figures
-sub-put-figures c = search needs
-
-part-put-figures-start : tie.Need-part-put-figures-start
-part-put-figures-start c = search needs
-
 part-put-figures-end : tie.Need-part-put-figures-end
 part-put-figures-end c = let a = c .before .before .before .before .before .before .before .before .before .before .before .before .before .before .before .before .before .before .before .before .before .before .before .before .before .before .before .before .before .before .before .args in let w = c .before .before .before .before .before .before .before .before .before .before .before .before .before .before .before .before .before .before .before .before .before .before .before .before .before .before .before .before .before .before .before .pre .0 in let k : Columns = lent (a .points) (a .edges) (a .uses .now) (a .turned .now) (a .starts .now) (a .wires .now) (a .firsts .now) (a .fronts .now) (a .backs .now) (a .places .now) (a .listings .now) in edges-inside k (a .n) (w .pattern) (w .sound) (w .columns) (w .here) .0
-
-sub-put-figures-2 : tie.Need-sub-put-figures-2
-sub-put-figures-2 c = search needs
-
-part-put-figures-start-2 : tie.Need-part-put-figures-start-2
-part-put-figures-start-2 c = search needs
 
 part-put-figures-end-2 : tie.Need-part-put-figures-end-2
 part-put-figures-end-2 c = let a = c .before .before .before .before .before .before .before .before .before .before .before .before .before .before .before .before .before .before .before .before .before .before .before .before .before .before .before .before .before .before .before .before .args in let w = c .before .before .before .before .before .before .before .before .before .before .before .before .before .before .before .before .before .before .before .before .before .before .before .before .before .before .before .before .before .before .before .before .pre .0 in let k : Columns = lent (a .points) (a .edges) (a .uses .now) (a .turned .now) (a .starts .now) (a .wires .now) (a .firsts .now) (a .fronts .now) (a .backs .now) (a .places .now) (a .listings .now) in edges-inside k (a .n) (w .pattern) (w .sound) (w .columns) (w .here) .1
 
 put-figures-requires : tie.Need-put-figures-requires
 put-figures-requires c κs = let a = c .before .before .before .before .before .before .before .before .before .before .before .before .before .before .before .before .before .before .before .before .before .before .before .before .before .before .before .before .before .before .before .before .before .before .before .before .args in let w = c .before .before .before .before .before .before .before .before .before .before .before .before .before .before .before .before .before .before .before .before .before .before .before .before .before .before .before .before .before .before .before .before .before .before .before .before .pre .0 in let k : Columns = lent (a .points) (a .edges) (a .uses .now) (a .turned .now) (a .starts .now) (a .wires .now) (a .firsts .now) (a .fronts .now) (a .backs .now) (a .places .now) (a .listings .now) in (rw (sub-zero (a .edges)) (k-figured k (a .n) (w .pattern) (w .sound) (w .columns) (w .here) _ (c .before .before .before .before .before .before .before .before .before .before .before .before .before .before .before .shell-pairs .ensures)), c .before .before .before .before .before .before .before .before .before .before .before .before .before .before .before .before .before .before .before .before .before .before .before .before .before .before .before .before .before .before .before .before .before .before .before .before .pre .1)
-
-same-length : tie.Need-same-length
-same-length c = search needs
-
-same-length-2 : tie.Need-same-length-2
-same-length-2 c = search needs
-
-same-length-3 : tie.Need-same-length-3
-same-length-3 c = search needs
 
 returns : tie.Need-returns
 returns c = let a = c .before .before .before .before .before .before .before .before .before .before .before .before .before .before .before .before .before .before .before .before .before .before .before .before .before .before .before .before .before .before .before .before .before .before .before .before .before .before .before .before .before .before .before .args in let k : Columns = lent (a .points) (a .edges) (a .uses .now) (a .turned .now) (a .starts .now) (a .wires .now) (a .firsts .now) (a .fronts .now) (a .backs .now) (a .places .now) (a .listings .now) in λ p t e h. k-groups k (a .n) p t e h _ (c .before .before .before .before .before .before .before .before .before .before .before .before .before .before .before .before .before .before .before .before .before .before .shell-pairs .ensures) _ (rw (sub-zero (a .edges)) at (c .before .before .before .before .before .before .put-figures .ensures))
@@ -106,34 +46,34 @@ pub put-groups-spec : {M : Type 1} → statement M
 put-groups-spec =
     tie.close
     (tie.spec
-    mul-first
+    (λ c. search needs)
     shared-slice-read-first
-    add-end
-    mul-end
+    (λ c. search needs)
+    (λ c. search needs)
     shared-slice-read-end
     mul-shell-pairs
     sub-shell-pairs
     part-shell-pairs-start
     part-shell-pairs-end
-    slice-aggregate-shell-pairs
-    slice-aggregate-shell-pairs-2
-    slice-aggregate-shell-pairs-3
-    slice-aggregate-shell-pairs-4
-    slice-aggregate-shell-pairs-5
+    (λ c. search needs)
+    (λ c. search needs)
+    (λ c. search needs)
+    (λ c. search needs)
+    (λ c. search needs)
     shell-pairs-requires
-    slice-aggregate-put-figures
-    slice-aggregate-put-figures-2
-    slice-aggregate-put-figures-3
-    slice-aggregate-put-figures-4
-    slice-aggregate-put-figures-5
-    sub-put-figures
-    part-put-figures-start
+    (λ c. search needs)
+    (λ c. search needs)
+    (λ c. search needs)
+    (λ c. search needs)
+    (λ c. search needs)
+    (λ c. search needs)
+    (λ c. search needs)
     part-put-figures-end
-    sub-put-figures-2
-    part-put-figures-start-2
+    (λ c. search needs)
+    (λ c. search needs)
     part-put-figures-end-2
     put-figures-requires
-    same-length
-    same-length-2
-    same-length-3
+    (λ c. search needs)
+    (λ c. search needs)
+    (λ c. search needs)
     returns)

@@ -11,17 +11,8 @@ use Rattle.reports.specs.Figures.{lent}
 use Rattle.reports.proofs.put_openings.Statement.{statement}
 use Rattle.reports.proofs.put_openings.Tie as tie
 
-mul-first : tie.Need-mul-first
-mul-first c = search needs
-
 shared-slice-read-first : tie.Need-shared-slice-read-first
 shared-slice-read-first c = let a = c .before .before .before .before .before .before .before .before .before .before .before .before .args in let w = c .before .before .before .before .before .before .before .before .before .before .before .before .pre .0 in let k : Columns = lent (a .points) (a .edges) (a .uses .now) (a .turned .now) (a .starts .now) (a .wires .now) (a .firsts .now) (a .fronts .now) (a .backs .now) (a .places .now) (a .listings .now) in omega (arith, places-inside k (a .n) (w .pattern) (w .sound) (w .columns) (w .here))
-
-add-end : tie.Need-add-end
-add-end c = search needs
-
-mul-end : tie.Need-mul-end
-mul-end c = search needs
 
 shared-slice-read-end : tie.Need-shared-slice-read-end
 shared-slice-read-end c = let a = c .before .before .before .before .before .before .before .before .before .before .before .before .before .args in let w = c .before .before .before .before .before .before .before .before .before .before .before .before .before .pre .0 in let k : Columns = lent (a .points) (a .edges) (a .uses .now) (a .turned .now) (a .starts .now) (a .wires .now) (a .firsts .now) (a .fronts .now) (a .backs .now) (a .places .now) (a .listings .now) in omega (arith, places-inside k (a .n) (w .pattern) (w .sound) (w .columns) (w .here))
@@ -38,17 +29,8 @@ returns c = let a = c .before .before .before .before .before .before .before .b
 odd-of-requires : tie.Need-odd-of-requires
 odd-of-requires c κs = let a = c .before .before .before .before .before .before .before .before .before .before .before .before .before .before .before .before .before .args in let w = c .before .before .before .before .before .before .before .before .before .before .before .before .before .before .before .before .before .pre .0 in let k : Columns = lent (a .points) (a .edges) (a .uses .now) (a .turned .now) (a .starts .now) (a .wires .now) (a .firsts .now) (a .fronts .now) (a .backs .now) (a .places .now) (a .listings .now) in edges-few k (a .n) (w .pattern) (w .sound) (w .columns) (w .here)
 
-slice-aggregate-openings-between : tie.Need-slice-aggregate-openings-between
-slice-aggregate-openings-between c = search needs
-
 openings-between-requires : tie.Need-openings-between-requires
 openings-between-requires c κs = let a = c .before .before .before .before .before .before .before .before .before .before .before .before .before .before .before .before .before .before .before .before .before .args in let w = c .before .before .before .before .before .before .before .before .before .before .before .before .before .before .before .before .before .before .before .before .before .pre .0 in let k : Columns = lent (a .points) (a .edges) (a .uses .now) (a .turned .now) (a .starts .now) (a .wires .now) (a .firsts .now) (a .fronts .now) (a .backs .now) (a .places .now) (a .listings .now) in let i = in-places k (a .n) (w .pattern) (w .sound) (w .columns) (w .here) in let j = edges-inside k (a .n) (w .pattern) (w .sound) (w .columns) (w .here) in let z = c .before .before .before .before .before .before .before .before .before .before .before .before .before .before .before .before .before .before .before .before .before .pre .1 in ((i .0, i .1, j .0, j .1), (k-walk k (a .n) (w .pattern) (w .sound) (w .columns) (w .here), k-extractable k (a .n) (w .pattern) (w .sound) (w .columns) (w .here) (c .before .before .before .before .before .before .before .tally-between .result) (c .before .before .before .before .before .before .before .tally-between .ensures) _ _ _ (c .before .before .before .odd-of .ensures) (ap length (z .0) ∙ length-replicate {A = ℕ} 2048 0) (ap length (z .1) ∙ length-replicate {A = ℕ} 2048 0)))
-
-same-length : tie.Need-same-length
-same-length c = search needs
-
-same-length-2 : tie.Need-same-length-2
-same-length-2 c = search needs
 
 returns-2 : tie.Need-returns-2
 returns-2 c = let a = c .before .before .before .before .before .before .before .before .before .before .before .before .before .before .before .before .before .before .before .before .before .before .before .before .before .before .args in let z = c .before .before .before .before .before .before .before .before .before .before .before .before .before .before .before .before .before .before .before .before .before .before .before .before .before .before .pre .1 in let k : Columns = lent (a .points) (a .edges) (a .uses .now) (a .turned .now) (a .starts .now) (a .wires .now) (a .firsts .now) (a .fronts .now) (a .backs .now) (a .places .now) (a .listings .now) in let o = c .before .before .before .before .openings-between .ensures in (λ p t e h. k-openings k (a .n) p t e h (c .before .before .before .before .before .before .before .before .before .before .before .before .tally-between .result) (c .before .before .before .before .before .before .before .before .before .before .before .before .tally-between .ensures) _ (c .before .before .before .before .before .before .before .before .before .before .before .condition-of .ensures) _ _ (z .0) (z .1) _ _ _ o, o .few)
@@ -57,17 +39,17 @@ pub put-openings-spec : {M : Type 1} → statement M
 put-openings-spec =
     tie.close
     (tie.spec
-    mul-first
+    (λ c. search needs)
     shared-slice-read-first
-    add-end
-    mul-end
+    (λ c. search needs)
+    (λ c. search needs)
     shared-slice-read-end
     tally-between-requires
     condition-of-requires
     returns
     odd-of-requires
-    slice-aggregate-openings-between
+    (λ c. search needs)
     openings-between-requires
-    same-length
-    same-length-2
+    (λ c. search needs)
+    (λ c. search needs)
     returns-2)

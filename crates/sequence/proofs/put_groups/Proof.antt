@@ -18,23 +18,8 @@ abbrev μ-loop : tie.MeasureT-loop
 loop-holds : tie.Need-loop-holds Inv-loop μ-loop
 loop-holds c = placing-start _ _ _ _ _ _ (c .before .before .before .before .before .before .pre .0) (c .before .before .before .before .before .before .pre .1 .0) (c .before .before .before .before .before .before .pre .1 .1 .0) (c .before .before .before .before .before .before .pre .1 .1 .1 .0) (c .before .before .before .before .before .before .pre .1 .1 .1 .1)
 
-mul-index : tie.Need-mul-index Inv-loop μ-loop
-mul-index c = search needs
-
-shared-slice-read-index : tie.Need-shared-slice-read-index Inv-loop μ-loop
-shared-slice-read-index c = search needs
-
-index-requires : tie.Need-index-requires Inv-loop μ-loop
-index-requires c κs = search needs
-
-mul-index-2 : tie.Need-mul-index-2 Inv-loop μ-loop
-mul-index-2 c = search needs
-
 shared-slice-read-index-2 : tie.Need-shared-slice-read-index-2 Inv-loop μ-loop
 shared-slice-read-index-2 c = placing-key _ _ _ _ _ _ _ _ _ _ _ (c .before .before .before .before .loop .inv) (omega arith) _ (c .before .index .ensures .0)
-
-index-requires-2 : tie.Need-index-requires-2 Inv-loop μ-loop
-index-requires-2 c κs = search needs
 
 put-group-requires : tie.Need-put-group-requires Inv-loop μ-loop
 put-group-requires c κs = placing-writable _ _ _ _ _ _ _ _ _ _ _ (c .before .before .before .before .before .before .before .loop .inv) (omega arith) _ (c .before .before .before .before .index .ensures .0) _ (c .before .before .index2 .ensures .0) (c .before .if1 .taken)
@@ -53,12 +38,6 @@ slice-write-lens c = placing-count _ _ _ _ _ _ _ _ _ _ _ (c .before .before .bef
 
 add-count : tie.Need-add-count Inv-loop μ-loop
 add-count c = omega (arith, placing-few _ _ _ _ _ _ _ _ _ _ _ (c .before .before .before .before .before .before .before .before .before .before .loop .inv))
-
-add-i : tie.Need-add-i Inv-loop μ-loop
-add-i c = search needs
-
-loop-less : tie.Need-loop-less Inv-loop μ-loop
-loop-less c = search needs
 
 loop-again : tie.Need-loop-again Inv-loop μ-loop
 loop-again c = ⊎-elim (λ w. rw (w .5, w .6, w .7, w .8) (placing-first _ _ _ _ _ _ _ _ _ _ _ (c .before .before .before .before .before .before .loop .inv) (omega arith) _ (c .before .before .before .index .ensures .0) _ (c .before .index2 .ensures .0) (w .0 .taken) _ _ _ (w .2 .ensures .0) (w .2 .ensures .1) refl)) (λ w. rw (w .1, w .2, w .3, w .4) (placing-other _ _ _ _ _ _ _ _ _ _ _ (c .before .before .before .before .before .before .loop .inv) (omega arith) _ (c .before .before .before .index .ensures .0) _ (c .before .index2 .ensures .0) (w .0 .left))) (c .if1 .came)
@@ -79,20 +58,20 @@ put-groups-spec =
     Inv-loop
     μ-loop
     loop-holds
-    mul-index
-    shared-slice-read-index
-    index-requires
-    mul-index-2
+    (λ c. search needs)
+    (λ c. search needs)
+    (λ c κs. search needs)
+    (λ c. search needs)
     shared-slice-read-index-2
-    index-requires-2
+    (λ c κs. search needs)
     put-group-requires
     sub-lens
     cast-lens
     mul-lens
     slice-write-lens
     add-count
-    add-i
-    loop-less
+    (λ c. search needs)
+    (λ c. search needs)
     loop-again
     same-length
     same-length-2

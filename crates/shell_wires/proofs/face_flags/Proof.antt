@@ -16,23 +16,8 @@ abbrev μ-loop : tie.MeasureT-loop
 loop-holds : tie.Need-loop-holds Inv-loop μ-loop
 loop-holds c = flagging-start (c .before .args .listings .now)
 
-mul-index : tie.Need-mul-index Inv-loop μ-loop
-mul-index c = search needs
-
-shared-slice-read-index : tie.Need-shared-slice-read-index Inv-loop μ-loop
-shared-slice-read-index c = search needs
-
-index-requires : tie.Need-index-requires Inv-loop μ-loop
-index-requires c κs = search needs
-
 array-write-out : tie.Need-array-write-out Inv-loop μ-loop
 array-write-out c = omega (arith, c .index .ensures .0, c .before .before .before .before .before .pre (c .before .before .before .loop .k) (omega arith))
-
-add-k : tie.Need-add-k Inv-loop μ-loop
-add-k c = search needs
-
-loop-less : tie.Need-loop-less Inv-loop μ-loop
-loop-less c = search needs
 
 loop-again : tie.Need-loop-again Inv-loop μ-loop
 loop-again c = flagging-next _ _ _ (c .before .before .before .loop .inv) _ (omega arith) (c .index .ensures .0) (omega (arith, c .index .ensures .0, c .before .before .before .before .before .pre (c .before .before .before .loop .k) (omega arith)))
@@ -47,11 +32,11 @@ face-flags-spec =
     Inv-loop
     μ-loop
     loop-holds
-    mul-index
-    shared-slice-read-index
-    index-requires
+    (λ c. search needs)
+    (λ c. search needs)
+    (λ c κs. search needs)
     array-write-out
-    add-k
-    loop-less
+    (λ c. search needs)
+    (λ c. search needs)
     loop-again
     returns)

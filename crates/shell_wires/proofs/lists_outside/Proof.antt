@@ -5,32 +5,11 @@ use Rattle.shell_wires.proofs.Laws.{names-part, outside-first, outside-
 use Rattle.shell_wires.proofs.lists_outside.Statement.{statement}
 use Rattle.shell_wires.proofs.lists_outside.Tie as tie
 
-sub-lists-flagged : tie.Need-sub-lists-flagged
-sub-lists-flagged c = search needs
-
-part-lists-flagged-start : tie.Need-part-lists-flagged-start
-part-lists-flagged-start c = search needs
-
-part-lists-flagged-end : tie.Need-part-lists-flagged-end
-part-lists-flagged-end c = search needs
-
 lists-flagged-requires : tie.Need-lists-flagged-requires
 lists-flagged-requires c κs = (names-part (c .before .before .before .args .listings .now) (c .before .before .before .args .n) 0 (c .before .before .before .args .first) (omega arith) (omega (arith, c .before .before .before .pre .0)) (c .before .before .before .pre .0 .2) (c .before .before .before .pre .1 .0), c .before .before .before .pre .1 .1)
 
 returns : tie.Need-returns
 returns c = outside-first _ (c .before .before .before .before .before .args .listings .now) (c .before .before .before .before .before .args .n) (c .before .before .before .before .before .args .first) (c .before .before .before .before .before .args .end) _ (c .before .lists-flagged .ensures) (c .if1 .taken)
-
-mul-lists-flagged : tie.Need-mul-lists-flagged
-mul-lists-flagged c = search needs
-
-sub-lists-flagged-2 : tie.Need-sub-lists-flagged-2
-sub-lists-flagged-2 c = search needs
-
-part-lists-flagged-start-2 : tie.Need-part-lists-flagged-start-2
-part-lists-flagged-start-2 c = search needs
-
-part-lists-flagged-end-2 : tie.Need-part-lists-flagged-end-2
-part-lists-flagged-end-2 c = search needs
 
 lists-flagged-requires-2 : tie.Need-lists-flagged-requires-2
 lists-flagged-requires-2 c κs = (names-part (c .before .before .before .before .before .before .args .listings .now) (c .before .before .before .before .before .before .args .n) (c .before .before .before .before .before .before .args .end) (c .before .before .before .before .before .before .args .n) (c .before .before .before .before .before .before .pre .0 .1) (omega arith) (c .before .before .before .before .before .before .pre .0 .2) (c .before .before .before .before .before .before .pre .1 .0), c .before .before .before .before .before .before .pre .1 .1)
@@ -42,14 +21,14 @@ pub lists-outside-spec : {M : Type 1} → statement M
 lists-outside-spec =
     tie.close
     (tie.spec
-    sub-lists-flagged
-    part-lists-flagged-start
-    part-lists-flagged-end
+    (λ c. search needs)
+    (λ c. search needs)
+    (λ c. search needs)
     lists-flagged-requires
     returns
-    mul-lists-flagged
-    sub-lists-flagged-2
-    part-lists-flagged-start-2
-    part-lists-flagged-end-2
+    (λ c. search needs)
+    (λ c. search needs)
+    (λ c. search needs)
+    (λ c. search needs)
     lists-flagged-requires-2
     returns-2)

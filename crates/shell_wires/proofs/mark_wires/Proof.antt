@@ -21,9 +21,6 @@ mul-index c = let s = c .before .before .before .before in omega (arith, s .pre 
 shared-slice-read-index : tie.Need-shared-slice-read-index
 shared-slice-read-index c = let s = c .before .before .before .before .before in omega (arith, s .pre .1, shells-room (s .pre .0 .0) _ _ _ _ (s .pre .0 .1) .1)
 
-index-requires : tie.Need-index-requires
-index-requires c κs = search needs
-
 add-end : tie.Need-add-end
 add-end c = let s = c .before .before .before .before .before .before in
     omega (arith, part-listed (s .pre .0 .0) _ _ _ _ (s .pre .0 .1) (s .args .n) (s .pre .1) _ _ (c .before .before .sum-of .ensures) (c .index .ensures .0), listings-room (s .pre .0 .0) _ _ _ _ (s .pre .0 .1) .0)
@@ -35,24 +32,12 @@ flags-between-requires c κs = let s = c .before .before .before .before .before
       part-named (s .pre .0 .0) _ _ _ _ (s .pre .0 .1) (s .args .n) (s .pre .1) _ _ (c .before .before .sum-of .ensures) (c .index .ensures .0),
     )
 
-array-read-lists-outside : tie.Need-array-read-lists-outside
-array-read-lists-outside c = search needs
-
-slice-aggregate-lists-outside : tie.Need-slice-aggregate-lists-outside
-slice-aggregate-lists-outside c = search needs
-
 lists-outside-requires : tie.Need-lists-outside-requires
 lists-outside-requires c κs = let s = c .before .before .before .before .before .before .before .before in
     let inside = part-listed (s .pre .0 .0) _ _ _ _ (s .pre .0 .1) (s .args .n) (s .pre .1) _ _ (c .before .before .before .before .sum-of .ensures) (c .before .before .index .ensures .0) in (
       (omega arith, inside, listings-room (s .pre .0 .0) _ _ _ _ (s .pre .0 .1) .1),
       (listings-named (s .pre .0 .0) _ _ _ _ (s .pre .0 .1), flags-long (c .before)),
     )
-
-slice-aggregate-wire-flags : tie.Need-slice-aggregate-wire-flags
-slice-aggregate-wire-flags c = search needs
-
-array-read-wire-flags : tie.Need-array-read-wire-flags
-array-read-wire-flags c = search needs
 
 wire-flags-requires : tie.Need-wire-flags-requires
 wire-flags-requires c κs = let s = c .before .before .before .before .before .before .before .before .before .before in
@@ -69,13 +54,13 @@ mark-wires-spec =
     sum-of-requires
     mul-index
     shared-slice-read-index
-    index-requires
+    (λ c κs. search needs)
     add-end
     flags-between-requires
-    array-read-lists-outside
-    slice-aggregate-lists-outside
+    (λ c. search needs)
+    (λ c. search needs)
     lists-outside-requires
-    slice-aggregate-wire-flags
-    array-read-wire-flags
+    (λ c. search needs)
+    (λ c. search needs)
     wire-flags-requires
     returns)

@@ -15,17 +15,8 @@ abbrev μ-loop : tie.MeasureT-loop
 loop-holds : tie.Need-loop-holds Inv-loop μ-loop
 loop-holds c = putting-start (c .args .out .now) (c .args .at) (c .args .n) (c .args .flag) (c .pre)
 
-add-out : tie.Need-add-out Inv-loop μ-loop
-add-out c = search needs
-
 slice-write-out : tie.Need-slice-write-out Inv-loop μ-loop
 slice-write-out c = omega (arith, putting-long _ _ _ _ _ _ (c .before .loop .inv), c .before .loop .inv .room)
-
-add-k : tie.Need-add-k Inv-loop μ-loop
-add-k c = search needs
-
-loop-less : tie.Need-loop-less Inv-loop μ-loop
-loop-less c = search needs
 
 loop-again : tie.Need-loop-again Inv-loop μ-loop
 loop-again c = putting-next _ _ _ _ _ _ (c .before .loop .inv) (omega arith)
@@ -43,10 +34,10 @@ put-flags-spec =
     Inv-loop
     μ-loop
     loop-holds
-    add-out
+    (λ c. search needs)
     slice-write-out
-    add-k
-    loop-less
+    (λ c. search needs)
+    (λ c. search needs)
     loop-again
     same-length
     returns)

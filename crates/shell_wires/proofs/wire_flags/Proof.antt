@@ -16,32 +16,14 @@ abbrev μ-loop : tie.MeasureT-loop
 loop-holds : tie.Need-loop-holds Inv-loop μ-loop
 loop-holds c = spreading-start (c .before .before .args .flags .now) (c .before .before .args .counts .now) (c .before .before .args .n) (c .before .before .pre .1) (c .before .before .pre .2)
 
-mul-index : tie.Need-mul-index Inv-loop μ-loop
-mul-index c = search needs
-
-shared-slice-read-index : tie.Need-shared-slice-read-index Inv-loop μ-loop
-shared-slice-read-index c = search needs
-
-index-requires : tie.Need-index-requires Inv-loop μ-loop
-index-requires c κs = search needs
-
 slice-aggregate-put-flags : tie.Need-slice-aggregate-put-flags Inv-loop μ-loop
 slice-aggregate-put-flags c = sym (spreading-long _ _ _ _ _ _ (c .before .before .before .before .loop .inv))
-
-shared-slice-read-put-flags : tie.Need-shared-slice-read-put-flags Inv-loop μ-loop
-shared-slice-read-put-flags c = search needs
 
 put-flags-requires : tie.Need-put-flags-requires Inv-loop μ-loop
 put-flags-requires c κs = omega (arith, spreading-room _ _ _ _ _ _ (c .before .before .before .before .before .loop .inv) _ (omega arith) (c .before .before .index .ensures .0), spreading-long _ _ _ _ _ _ (c .before .before .before .before .before .loop .inv))
 
 add-at : tie.Need-add-at Inv-loop μ-loop
 add-at c = omega (arith, spreading-room _ _ _ _ _ _ (c .before .before .before .before .before .before .before .loop .inv) _ (omega arith) (c .before .before .before .before .index .ensures .0))
-
-add-f : tie.Need-add-f Inv-loop μ-loop
-add-f c = search needs
-
-loop-less : tie.Need-loop-less Inv-loop μ-loop
-loop-less c = search needs
 
 loop-again : tie.Need-loop-again Inv-loop μ-loop
 loop-again c = spreading-next _ _ _ _ _ _ (c .before .before .before .before .before .before .before .loop .inv) _ (omega arith) (c .before .before .before .before .index .ensures .0) _ (c .before .put-flags .ensures)
@@ -56,14 +38,14 @@ wire-flags-spec =
     Inv-loop
     μ-loop
     loop-holds
-    mul-index
-    shared-slice-read-index
-    index-requires
+    (λ c. search needs)
+    (λ c. search needs)
+    (λ c κs. search needs)
     slice-aggregate-put-flags
-    shared-slice-read-put-flags
+    (λ c. search needs)
     put-flags-requires
     add-at
-    add-f
-    loop-less
+    (λ c. search needs)
+    (λ c. search needs)
     loop-again
     returns)

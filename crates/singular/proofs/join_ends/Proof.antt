@@ -7,26 +7,14 @@ use Rattle.singular.proofs.Singular.{ends-forest, ends-joined}
 use Rattle.singular.proofs.join_ends.Statement.{statement}
 use Rattle.singular.proofs.join_ends.Tie as tie
 
-slice-aggregate-start : tie.Need-slice-aggregate-start
-slice-aggregate-start c = search needs
-
-mul-start : tie.Need-mul-start
-mul-start c = search needs
-
 start-requires : tie.Need-start-requires
 start-requires c κs = let p = c .before .before .before .before .before .pre in rw (p .1) (omega (arith, p .0 .few-edges, length-replicate {A = ℕ} 2048 0), (omega (arith, p .0 .few-edges, length-replicate {A = ℕ} 2048 0), omega (arith, p .0 .few-edges, length-replicate {A = ℕ} 2048 0)))
-
-slice-aggregate-join-wires : tie.Need-slice-aggregate-join-wires
-slice-aggregate-join-wires c = search needs
 
 join-wires-requires : tie.Need-join-wires-requires
 join-wires-requires c κs =
     let a = c .before .before .before .before .before .before .before .before .before .before .before .args in
     let p = c .before .before .before .before .before .before .before .before .before .before .before .pre in
     (ends-forest (a .uses .now) (a .lens .now) (a .edges) (p .0) (a .parents .now) (replicate 2048 0) (c .before .before .before .before .before .start .ensures), p .0)
-
-same-length : tie.Need-same-length
-same-length c = search needs
 
 returns : tie.Need-returns
 returns c =
@@ -38,10 +26,10 @@ pub join-ends-spec : {M : Type 1} → statement M
 join-ends-spec =
     tie.close
     (tie.spec
-    slice-aggregate-start
-    mul-start
+    (λ c. search needs)
+    (λ c. search needs)
     start-requires
-    slice-aggregate-join-wires
+    (λ c. search needs)
     join-wires-requires
-    same-length
+    (λ c. search needs)
     returns)

@@ -20,49 +20,16 @@ abbrev μ-loop : tie.MeasureT-loop
 loop-holds : tie.Need-loop-holds Inv-loop μ-loop
 loop-holds c = joins-start _ _ _ _ _ (c .before .before .before .pre .0)
 
-mul-last-end : tie.Need-mul-last-end Inv-loop μ-loop
-mul-last-end c = search needs
-
-shared-slice-read-last-end : tie.Need-shared-slice-read-last-end Inv-loop μ-loop
-shared-slice-read-last-end c = search needs
-
-last-end-requires : tie.Need-last-end-requires Inv-loop μ-loop
-last-end-requires c κs = search needs
-
-index-requires : tie.Need-index-requires Inv-loop μ-loop
-index-requires c κs = search needs
-
-next-use-requires : tie.Need-next-use-requires Inv-loop μ-loop
-next-use-requires c κs = search needs
-
-first-end-requires : tie.Need-first-end-requires Inv-loop μ-loop
-first-end-requires c κs = search needs
-
-index-requires-2 : tie.Need-index-requires-2 Inv-loop μ-loop
-index-requires-2 c κs = search needs
-
 join-requires : tie.Need-join-requires Inv-loop μ-loop
 join-requires c κs =
     let a = c .before .before .before .before .before .before .before .before .before .before .before .before .before .args in
     let e = corner-ends (a .edges) (a .wire .now) (c .before .before .before .before .before .before .before .before .before .before .before .before .before .pre .1) (c .before .before .before .before .before .before .before .before .before .loop .i) (omega arith) (c .before .before .before .before .before .before .last-end .ensures) (c .before .before .before .before .before .index .ensures .0) (c .before .before .before .first-end .ensures ∙ ap firstEnd (c .before .before .before .before .next-use .ensures)) (c .before .before .index2 .ensures .0) in
     ready _ _ _ (c .before .before .before .before .before .before .before .before .before .loop .inv .forest) _ _ (e .0) (e .1)
 
-add-i : tie.Need-add-i Inv-loop μ-loop
-add-i c = search needs
-
-loop-less : tie.Need-loop-less Inv-loop μ-loop
-loop-less c = search needs
-
 loop-again : tie.Need-loop-again Inv-loop μ-loop
 loop-again c =
     let a = c .before .before .before .before .before .before .before .before .before .before .before .before .before .before .before .before .before .before .args in
     cornering-next (a .edges) (a .wire .now) _ _ _ _ (c .before .before .before .before .before .before .before .before .before .before .before .before .before .before .loop .i) (c .before .before .before .before .before .before .before .before .before .before .before .before .before .before .before .before .before .before .pre .1) (c .before .before .before .before .before .before .before .before .before .before .before .before .before .before .loop .inv) (omega arith) (c .before .before .before .before .before .before .before .before .before .before .before .last-end .ensures) (c .before .before .before .before .before .before .before .before .before .before .index .ensures .0) (c .before .before .before .before .before .before .before .before .first-end .ensures ∙ ap firstEnd (c .before .before .before .before .before .before .before .before .before .next-use .ensures)) (c .before .before .before .before .before .before .before .index2 .ensures .0) (c .before .before .before .before .join .ensures)
-
-same-length : tie.Need-same-length Inv-loop μ-loop
-same-length c = search needs
-
-same-length-2 : tie.Need-same-length-2 Inv-loop μ-loop
-same-length-2 c = search needs
 
 returns : tie.Need-returns Inv-loop μ-loop
 returns c = cornering-all (c .before .before .before .before .before .args .edges) (c .before .before .before .before .before .args .wire .now) _ _ _ _ (c .before .loop .i) (c .before .before .before .before .before .pre .1) (c .before .loop .inv) (omega arith)
@@ -74,17 +41,17 @@ join-wire-spec =
     Inv-loop
     μ-loop
     loop-holds
-    mul-last-end
-    shared-slice-read-last-end
-    last-end-requires
-    index-requires
-    next-use-requires
-    first-end-requires
-    index-requires-2
+    (λ c. search needs)
+    (λ c. search needs)
+    (λ c κs. search needs)
+    (λ c κs. search needs)
+    (λ c κs. search needs)
+    (λ c κs. search needs)
+    (λ c κs. search needs)
     join-requires
-    add-i
-    loop-less
+    (λ c. search needs)
+    (λ c. search needs)
     loop-again
-    same-length
-    same-length-2
+    (λ c. search needs)
+    (λ c. search needs)
     returns)

@@ -18,26 +18,11 @@ abbrev μ-loop : tie.MeasureT-loop
 loop-holds : tie.Need-loop-holds Inv-loop μ-loop
 loop-holds c = part-joins-start corners _ _ _ _ _ (c .before .before .before .before .pre .0) (omega (arith, c .before .before .before .before .pre .1 .summed))
 
-mul-index : tie.Need-mul-index Inv-loop μ-loop
-mul-index c = search needs
-
-shared-slice-read-index : tie.Need-shared-slice-read-index Inv-loop μ-loop
-shared-slice-read-index c = search needs
-
-index-requires : tie.Need-index-requires Inv-loop μ-loop
-index-requires c κs = search needs
-
 add-join-wire : tie.Need-add-join-wire Inv-loop μ-loop
 add-join-wire c = omega (arith, part-joins-fits corners (c .before .before .before .before .before .loop .inv) (omega arith) (c .before .before .index .ensures .0))
 
 mul-join-wire : tie.Need-mul-join-wire Inv-loop μ-loop
 mul-join-wire c = omega (arith, part-joins-fits corners (c .before .before .before .before .before .loop .inv) (omega arith) (c .before .before .index .ensures .0))
-
-sub-join-wire : tie.Need-sub-join-wire Inv-loop μ-loop
-sub-join-wire c = search needs
-
-part-join-wire-start : tie.Need-part-join-wire-start Inv-loop μ-loop
-part-join-wire-start c = search needs
 
 part-join-wire-end : tie.Need-part-join-wire-end Inv-loop μ-loop
 part-join-wire-end c = part-joins-fits corners (c .before .before .before .before .before .loop .inv) (omega arith) (c .before .before .index .ensures .0)
@@ -48,20 +33,8 @@ join-wire-requires c κs = (c .before .before .before .before .before .before .l
 add-at : tie.Need-add-at Inv-loop μ-loop
 add-at c = omega (arith, part-joins-fits corners (c .before .before .before .before .before .before .before .before .before .before .before .loop .inv) (omega arith) (c .before .before .before .before .before .before .before .before .index .ensures .0))
 
-add-k : tie.Need-add-k Inv-loop μ-loop
-add-k c = search needs
-
-loop-less : tie.Need-loop-less Inv-loop μ-loop
-loop-less c = search needs
-
 loop-again : tie.Need-loop-again Inv-loop μ-loop
 loop-again c = part-joins-next corners (c .before .before .before .before .before .before .before .before .before .before .before .loop .inv) (omega arith) (c .before .before .before .before .before .before .before .before .index .ensures .0) (corners-below _ _ (below-part (c .before .before .before .before .before .before .before .before .before .before .before .before .before .before .before .before .args .edges) (c .before .before .before .before .before .before .before .before .before .before .before .before .before .before .before .before .args .uses .now) (c .before .before .before .before .before .before .before .before .before .before .before .loop .at) (c .before .before .before .before .before .before .before .before .before .before .before .loop .at + c .before .before .before .before .before .before .before .before .index .result - c .before .before .before .before .before .before .before .before .before .before .before .loop .at) (c .before .before .before .before .before .before .before .before .before .before .before .before .before .before .before .before .pre .1 .edge))) (c .before .before .before .before .join-wire .ensures)
-
-same-length : tie.Need-same-length Inv-loop μ-loop
-same-length c = search needs
-
-same-length-2 : tie.Need-same-length-2 Inv-loop μ-loop
-same-length-2 c = search needs
 
 returns : tie.Need-returns Inv-loop μ-loop
 returns c = part-joins-all corners (c .before .loop .inv) (omega arith)
@@ -73,19 +46,19 @@ join-wires-spec =
     Inv-loop
     μ-loop
     loop-holds
-    mul-index
-    shared-slice-read-index
-    index-requires
+    (λ c. search needs)
+    (λ c. search needs)
+    (λ c κs. search needs)
     add-join-wire
     mul-join-wire
-    sub-join-wire
-    part-join-wire-start
+    (λ c. search needs)
+    (λ c. search needs)
     part-join-wire-end
     join-wire-requires
     add-at
-    add-k
-    loop-less
+    (λ c. search needs)
+    (λ c. search needs)
     loop-again
-    same-length
-    same-length-2
+    (λ c. search needs)
+    (λ c. search needs)
     returns)

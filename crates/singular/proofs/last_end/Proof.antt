@@ -5,20 +5,11 @@ use borrow.Author.Tests.{le-leb, lt-leb}
 use Rattle.singular.proofs.last_end.Statement.{statement}
 use Rattle.singular.proofs.last_end.Tie as tie
 
-mul-result : tie.Need-mul-result
-mul-result c = search needs
-
 returns : tie.Need-returns
 returns c = rw (le-leb 32768 (c .before .args .u) (c .if1 .taken))
-
-mul-result-2 : tie.Need-mul-result-2
-mul-result-2 c = search needs
-
-add-result : tie.Need-add-result
-add-result c = search needs
 
 returns-2 : tie.Need-returns-2
 returns-2 c = rw (lt-leb 32768 (c .before .args .u) (omega arith))
 
 pub last-end-spec : {M : Type 1} → statement M
-last-end-spec = tie.close (tie.spec mul-result returns mul-result-2 add-result returns-2)
+last-end-spec = tie.close (tie.spec (λ c. search needs) returns (λ c. search needs) (λ c. search needs) returns-2)

@@ -7,41 +7,17 @@ use Rattle.singular.proofs.Noting.{two-ends}
 use Rattle.singular.proofs.note_use.Statement.{statement}
 use Rattle.singular.proofs.note_use.Tie as tie
 
-first-end-requires : tie.Need-first-end-requires
-first-end-requires c κs = search needs
-
-index-requires : tie.Need-index-requires
-index-requires c κs = search needs
-
 find-requires : tie.Need-find-requires
 find-requires c κs = rw (c .index .ensures .0 ∙ c .before .first-end .ensures) (c .before .before .before .before .before .pre .first)
 
 cast-first : tie.Need-cast-first
 cast-first c = omega (arith, c .find .ensures ∙ ap (rootOf (c .before .before .before .before .before .before .args .parents .now)) (c .before .index .ensures .0 ∙ c .before .before .first-end .ensures), c .before .before .before .before .before .before .pre .first-low)
 
-last-end-requires : tie.Need-last-end-requires
-last-end-requires c κs = search needs
-
-index-requires-2 : tie.Need-index-requires-2
-index-requires-2 c κs = search needs
-
 find-requires-2 : tie.Need-find-requires-2
 find-requires-2 c κs = rw (c .index2 .ensures .0 ∙ c .before .last-end .ensures) (c .before .before .before .before .before .before .before .before .pre .last)
 
 cast-last : tie.Need-cast-last
 cast-last c = omega (arith, c .find2 .ensures ∙ ap (rootOf (c .before .before .before .before .before .before .before .before .before .args .parents .now)) (c .before .index2 .ensures .0 ∙ c .before .before .last-end .ensures), c .before .before .before .before .before .before .before .before .before .pre .last-low)
-
-front-of-requires : tie.Need-front-of-requires
-front-of-requires c κs = search needs
-
-note-requires : tie.Need-note-requires
-note-requires c κs = search needs
-
-back-of-requires : tie.Need-back-of-requires
-back-of-requires c κs = search needs
-
-note-requires-2 : tie.Need-note-requires-2
-note-requires-2 c κs = search needs
 
 returns : tie.Need-returns
 returns c =
@@ -59,16 +35,16 @@ pub note-use-spec : {M : Type 1} → statement M
 note-use-spec =
     tie.close
     (tie.spec
-    first-end-requires
-    index-requires
+    (λ c κs. search needs)
+    (λ c κs. search needs)
     find-requires
     cast-first
-    last-end-requires
-    index-requires-2
+    (λ c κs. search needs)
+    (λ c κs. search needs)
     find-requires-2
     cast-last
-    front-of-requires
-    note-requires
-    back-of-requires
-    note-requires-2
+    (λ c κs. search needs)
+    (λ c κs. search needs)
+    (λ c κs. search needs)
+    (λ c κs. search needs)
     returns)

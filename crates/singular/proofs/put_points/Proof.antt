@@ -16,17 +16,8 @@ abbrev μ-loop : tie.MeasureT-loop
 loop-holds : tie.Need-loop-holds Inv-loop μ-loop
 loop-holds c = listed-start _ _ _
 
-element-copy-out-put-point : tie.Need-element-copy-out-put-point Inv-loop μ-loop
-element-copy-out-put-point c = search needs
-
 put-point-requires : tie.Need-put-point-requires Inv-loop μ-loop
 put-point-requires c κs = let s = c .before .before .before .loop .inv in (omega (arith, c .before .before .before .before .before .pre .0), omega (arith, s .few, listed-long s, c .before .before .before .before .before .pre .1))
-
-add-p : tie.Need-add-p Inv-loop μ-loop
-add-p c = search needs
-
-loop-less : tie.Need-loop-less Inv-loop μ-loop
-loop-less c = search needs
 
 loop-again : tie.Need-loop-again Inv-loop μ-loop
 loop-again c = listed-next (c .before .before .before .before .before .before .loop .inv) (omega arith) (c .before .before .put-point .ensures .0) (c .before .before .put-point .ensures .1)
@@ -44,10 +35,10 @@ put-points-spec =
     Inv-loop
     μ-loop
     loop-holds
-    element-copy-out-put-point
+    (λ c. search needs)
     put-point-requires
-    add-p
-    loop-less
+    (λ c. search needs)
+    (λ c. search needs)
     loop-again
     same-length
     returns)

@@ -16,20 +16,8 @@ abbrev μ-loop : tie.MeasureT-loop
 loop-holds : tie.Need-loop-holds Inv-loop μ-loop
 loop-holds c = noting-start _ _ _ _ (c .before .before .before .before .pre .1)
 
-mul-note-use : tie.Need-mul-note-use Inv-loop μ-loop
-mul-note-use c = search needs
-
-shared-slice-read-note-use : tie.Need-shared-slice-read-note-use Inv-loop μ-loop
-shared-slice-read-note-use c = search needs
-
 note-use-requires : tie.Need-note-use-requires Inv-loop μ-loop
 note-use-requires c κs = c .before .before .before .before .before .before .before .before .before .pre .0 (c .before .before .before .before .loop .i) (c .before .before .before .loop-test .taken)
-
-add-i : tie.Need-add-i Inv-loop μ-loop
-add-i c = search needs
-
-loop-less : tie.Need-loop-less Inv-loop μ-loop
-loop-less c = search needs
 
 loop-again : tie.Need-loop-again Inv-loop μ-loop
 loop-again c = noting-next _ _ _ _ (c .before .before .before .before .before .loop .inv) (c .before .before .before .before .loop-test .taken) (c .note-use .ensures)
@@ -44,10 +32,10 @@ several-roots-spec =
     Inv-loop
     μ-loop
     loop-holds
-    mul-note-use
-    shared-slice-read-note-use
+    (λ c. search needs)
+    (λ c. search needs)
     note-use-requires
-    add-i
-    loop-less
+    (λ c. search needs)
+    (λ c. search needs)
     loop-again
     returns)

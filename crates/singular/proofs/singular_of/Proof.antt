@@ -7,15 +7,6 @@ use Rattle.singular.proofs.Singular.{noteable, singular-marked, singula
 use Rattle.singular.proofs.singular_of.Statement.{statement}
 use Rattle.singular.proofs.singular_of.Tie as tie
 
-slice-aggregate-join-ends : tie.Need-slice-aggregate-join-ends
-slice-aggregate-join-ends c = search needs
-
-join-ends-requires : tie.Need-join-ends-requires
-join-ends-requires c κs = search needs
-
-slice-aggregate-several-roots : tie.Need-slice-aggregate-several-roots
-slice-aggregate-several-roots c = search needs
-
 several-roots-requires : tie.Need-several-roots-requires
 several-roots-requires c κs =
     let a = c .before .before .before .before .before .before .before .before .before .before .args in
@@ -27,12 +18,6 @@ returns c =
     let n = c .before .several-roots .ensures in
     rw (singular-none (a .uses .now) (a .lens .now) (a .fronts .now) (a .backs .now) (a .points) (a .out .now) (c .before .before .before .before .before .before .before .before .before .before .before .before .pre) (c .before .before .before .before .before .join-ends .ensures) (n .0) (n .1 (not-true _ (c .if1 .taken)))) ((refl, refl), omega arith)
 
-put-points-requires : tie.Need-put-points-requires
-put-points-requires c κs = search needs
-
-same-length : tie.Need-same-length
-same-length c = search needs
-
 returns-2 : tie.Need-returns-2
 returns-2 c =
     let a = c .before .before .before .before .before .before .before .before .before .before .before .before .before .before .before .before .before .args in
@@ -43,11 +28,11 @@ pub singular-of-spec : {M : Type 1} → statement M
 singular-of-spec =
     tie.close
     (tie.spec
-    slice-aggregate-join-ends
-    join-ends-requires
-    slice-aggregate-several-roots
+    (λ c. search needs)
+    (λ c κs. search needs)
+    (λ c. search needs)
     several-roots-requires
     returns
-    put-points-requires
-    same-length
+    (λ c κs. search needs)
+    (λ c. search needs)
     returns-2)

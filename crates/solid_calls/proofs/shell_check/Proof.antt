@@ -5,35 +5,11 @@ use Rattle.solid_calls.proofs.Solids.{errors-found}
 use Rattle.solid_calls.proofs.shell_check.Statement.{statement}
 use Rattle.solid_calls.proofs.shell_check.Tie as tie
 
-add-listings : tie.Need-add-listings
-add-listings c = search needs
-
-mul-listings : tie.Need-mul-listings
-mul-listings c = search needs
-
-element-copy-out-listings : tie.Need-element-copy-out-listings
-element-copy-out-listings c = search needs
-
-mul-listings-2 : tie.Need-mul-listings-2
-mul-listings-2 c = search needs
-
-element-copy-out-listings-2 : tie.Need-element-copy-out-listings-2
-element-copy-out-listings-2 c = search needs
-
 sub-listings : tie.Need-sub-listings
 sub-listings c =
     let s = c .before .before in
     let w = s .pre in
     in-places (s .args .t1) (s .args .n) (w .pattern) (w .sound) (w .columns) (w .here) .0
-
-shell-openings-requires : tie.Need-shell-openings-requires
-shell-openings-requires c κs = search needs
-
-shell-groups-requires : tie.Need-shell-groups-requires
-shell-groups-requires c κs = search needs
-
-check-shell-requires : tie.Need-check-shell-requires
-check-shell-requires c κs = search needs
 
 returns : tie.Need-returns
 returns c p s e h =
@@ -46,13 +22,13 @@ pub shell-check-spec : {M : Type 1} → statement M
 shell-check-spec =
     tie.close
     (tie.spec
-    add-listings
-    mul-listings
-    element-copy-out-listings
-    mul-listings-2
-    element-copy-out-listings-2
+    (λ c. search needs)
+    (λ c. search needs)
+    (λ c. search needs)
+    (λ c. search needs)
+    (λ c. search needs)
     sub-listings
-    shell-openings-requires
-    shell-groups-requires
-    check-shell-requires
+    (λ c κs. search needs)
+    (λ c κs. search needs)
+    (λ c κs. search needs)
     returns)

@@ -18,15 +18,6 @@ loop-holds c = checking-start (c .args .k) (c .args .shells) (c .pre)
 shell-check-requires : tie.Need-shell-check-requires Inv-loop μ-loop
 shell-check-requires c κs = checking-here _ _ _ _ (c .before .loop .inv) (c .loop-test .taken)
 
-and-shell-requires : tie.Need-and-shell-requires Inv-loop μ-loop
-and-shell-requires c κs = search needs
-
-add-n : tie.Need-add-n Inv-loop μ-loop
-add-n c = search needs
-
-loop-less : tie.Need-loop-less Inv-loop μ-loop
-loop-less c = search needs
-
 loop-again : tie.Need-loop-again Inv-loop μ-loop
 loop-again c = checking-next _ _ _ _ (c .before .before .before .loop .inv) (c .before .before .loop-test .taken) _ _ (c .before .shell-check .ensures) (c .and-shell .ensures)
 
@@ -41,8 +32,8 @@ solid-of-spec =
     μ-loop
     loop-holds
     shell-check-requires
-    and-shell-requires
-    add-n
-    loop-less
+    (λ c κs. search needs)
+    (λ c. search needs)
+    (λ c. search needs)
     loop-again
     returns)

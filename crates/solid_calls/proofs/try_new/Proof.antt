@@ -16,36 +16,18 @@ passed c = accepted-none (patternFaults (c .before .before .before .args .t1)) (
 solid : (c : tie.After-solid-of) → c .solid-of .result ≡ solidOf (content (c .before .before .before .before .before .before .args .t1))
 solid c = let k = c .before .before .columns-of in c .solid-of .ensures (c .before .before .before .before .before .before .args .t1) (k .ensures .1) (k .ensures .0) refl
 
-check-requires : tie.Need-check-requires
-check-requires c κs = search needs
-
-enum-known-answer : tie.Need-enum-known-answer
-enum-known-answer c = search needs
-
 returns : tie.Need-returns
 returns c =
     let p = c .before .before .before .before .args .t1 in
     unread (patternFaults p) (content p) _ (sym (c .before .before .before .check .ensures) ∙ c .before .answer .given .1)
 
-enum-told : tie.Need-enum-told
-enum-told c = search needs
-
 columns-of-requires : tie.Need-columns-of-requires
 columns-of-requires c κs = passed c
-
-element-copy-out-shells : tie.Need-element-copy-out-shells
-element-copy-out-shells c = search needs
 
 solid-of-requires : tie.Need-solid-of-requires
 solid-of-requires c κs =
     let k = c .before .columns-of in
     record { pattern = c .before .before .before .before .before .args .t1; sound = k .ensures .1; columns = k .ensures .0; count = refl }
-
-enum-told-2 : tie.Need-enum-told-2
-enum-told-2 c = search needs
-
-enum-known-solid : tie.Need-enum-known-solid
-enum-known-solid c = search needs
 
 returns-2 : tie.Need-returns-2
 returns-2 c =
@@ -61,14 +43,14 @@ pub try-new-spec : {M : Type 1} → statement M
 try-new-spec =
     tie.close
     (tie.spec
-    check-requires
-    enum-known-answer
+    (λ c κs. search needs)
+    (λ c. search needs)
     returns
-    enum-told
+    (λ c. search needs)
     columns-of-requires
-    element-copy-out-shells
+    (λ c. search needs)
     solid-of-requires
-    enum-told-2
-    enum-known-solid
+    (λ c. search needs)
+    (λ c. search needs)
     returns-2
     returns-3)

@@ -23,20 +23,8 @@ loop-holds c = (named-start (c .before .before .args .word .now), omega arith)
 mul-n : tie.Need-mul-n Inv-loop μ-loop
 mul-n c = omega (arith, named-small (c .before .loop .inv .0) (omega arith))
 
-shared-slice-read-wide : tie.Need-shared-slice-read-wide Inv-loop μ-loop
-shared-slice-read-wide c = search needs
-
-wide-requires : tie.Need-wide-requires Inv-loop μ-loop
-wide-requires c κs = search needs
-
 add-n : tie.Need-add-n Inv-loop μ-loop
 add-n c = omega (arith, named-small (c .before .before .before .loop .inv .0) (omega arith))
-
-add-i : tie.Need-add-i Inv-loop μ-loop
-add-i c = search needs
-
-loop-less : tie.Need-loop-less Inv-loop μ-loop
-loop-less c = search needs
 
 loop-again : tie.Need-loop-again Inv-loop μ-loop
 loop-again c = (rw (c .wide .ensures .0) (named-next (c .before .before .before .loop .inv .0) (c .before .before .loop-test .taken) (omega arith)), c .before .before .before .loop .inv .1)
@@ -53,10 +41,10 @@ name-of-spec =
     returns
     loop-holds
     mul-n
-    shared-slice-read-wide
-    wide-requires
+    (λ c. search needs)
+    (λ c κs. search needs)
     add-n
-    add-i
-    loop-less
+    (λ c. search needs)
+    (λ c. search needs)
     loop-again
     returns-2)

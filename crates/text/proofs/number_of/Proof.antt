@@ -23,9 +23,6 @@ returns-2 c = sym (number-long (c .before .before .before .args .word .now) (ome
 loop-holds : tie.Need-loop-holds Inv-loop μ-loop
 loop-holds c = (digits-start 0 (c .before .before .before .args .word .now), omega arith, omega arith)
 
-shared-slice-read-b : tie.Need-shared-slice-read-b Inv-loop μ-loop
-shared-slice-read-b c = search needs
-
 returns-3 : tie.Need-returns-3 Inv-loop μ-loop
 returns-3 c = sym (number-stop (c .before .before .before .loop .inv .0) (c .before .before .loop-test .taken) (digit-low _ (c .if3 .taken)))
 
@@ -35,20 +32,8 @@ returns-4 c = sym (number-stop (c .before .before .before .before .loop .inv .0)
 mul-n : tie.Need-mul-n Inv-loop μ-loop
 mul-n c = omega (arith, number-small (c .before .before .before .before .loop .inv .0) (omega arith))
 
-wide-requires : tie.Need-wide-requires Inv-loop μ-loop
-wide-requires c κs = search needs
-
-sub-n : tie.Need-sub-n Inv-loop μ-loop
-sub-n c = search needs
-
 add-n : tie.Need-add-n Inv-loop μ-loop
 add-n c = omega (arith, number-small (c .before .before .before .before .before .loop .inv .0) (omega arith))
-
-add-i : tie.Need-add-i Inv-loop μ-loop
-add-i c = search needs
-
-loop-less : tie.Need-loop-less Inv-loop μ-loop
-loop-less c = search needs
 
 loop-again : tie.Need-loop-again Inv-loop μ-loop
 loop-again c = (rw (c .wide .ensures .0) (digits-next (c .before .before .before .before .before .loop .inv .0) (c .before .before .before .before .loop-test .taken) (omega arith) (omega arith)), c .before .before .before .before .before .loop .inv .1, c .before .before .before .before .before .loop .inv .2)
@@ -65,14 +50,14 @@ number-of-spec =
     returns
     returns-2
     loop-holds
-    shared-slice-read-b
+    (λ c. search needs)
     returns-3
     returns-4
     mul-n
-    wide-requires
-    sub-n
+    (λ c κs. search needs)
+    (λ c. search needs)
     add-n
-    add-i
-    loop-less
+    (λ c. search needs)
+    (λ c. search needs)
     loop-again
     returns-5)

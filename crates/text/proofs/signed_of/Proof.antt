@@ -8,41 +8,8 @@ use Rattle.text.proofs.signed_of.Tie as tie
 returns : tie.Need-returns
 returns c = sym (signed-empty (c .before .before .args .word .now) (c .if1 .taken))
 
-sub-last : tie.Need-sub-last
-sub-last c = search needs
-
-shared-slice-read-sign : tie.Need-shared-slice-read-sign
-shared-slice-read-sign c = search needs
-
-sub-number-of : tie.Need-sub-number-of
-sub-number-of c = search needs
-
-part-number-of-start : tie.Need-part-number-of-start
-part-number-of-start c = search needs
-
-part-number-of-end : tie.Need-part-number-of-end
-part-number-of-end c = search needs
-
-number-of-requires : tie.Need-number-of-requires
-number-of-requires c κs = search needs
-
-enum-told : tie.Need-enum-told
-enum-told c = search needs
-
-enum-known-digits : tie.Need-enum-known-digits
-enum-known-digits c = search needs
-
-least-requires : tie.Need-least-requires
-least-requires c κs = search needs
-
 returns-2 : tie.Need-returns-2
 returns-2 c = sym (signed-plus (c .before .before .before .before .before .before .before .before .before .before .args .word .now) (c .before .before .before .before .before .number-of .ensures) (c .before .before .before .digits .given .1) (c .least .ensures) (c .before .if2 .taken))
-
-least-requires-2 : tie.Need-least-requires-2
-least-requires-2 c κs = search needs
-
-add-t18 : tie.Need-add-t18
-add-t18 c = search needs
 
 returns-3 : tie.Need-returns-3
 returns-3 c = sym (signed-minus (c .before .before .before .before .before .before .before .before .before .before .before .args .word .now) (c .before .before .before .before .before .before .number-of .ensures) (c .before .before .before .before .digits .given .1) (c .least2 .ensures) (c .before .if3 .taken))
@@ -58,18 +25,18 @@ signed-of-spec =
     tie.close
     (tie.spec
     returns
-    sub-last
-    shared-slice-read-sign
-    sub-number-of
-    part-number-of-start
-    part-number-of-end
-    number-of-requires
-    enum-told
-    enum-known-digits
-    least-requires
+    (λ c. search needs)
+    (λ c. search needs)
+    (λ c. search needs)
+    (λ c. search needs)
+    (λ c. search needs)
+    (λ c κs. search needs)
+    (λ c. search needs)
+    (λ c. search needs)
+    (λ c κs. search needs)
     returns-2
-    least-requires-2
-    add-t18
+    (λ c κs. search needs)
+    (λ c. search needs)
     returns-3
     returns-4
     returns-5)

@@ -9,18 +9,6 @@ use Rattle.text.proofs.trimmed_length.Tie as tie
 returns : tie.Need-returns
 returns c = (omega arith, trimmed-empty (c .before .args .line .now) (c .if1 .taken))
 
--- src/lib.rt:37:13
-sub-if2 : tie.Need-sub-if2
-sub-if2 c = search needs
-
--- src/lib.rt:37:8
-shared-slice-read-if2 : tie.Need-shared-slice-read-if2
-shared-slice-read-if2 c = search needs
-
--- src/lib.rt:38:16
-sub-result : tie.Need-sub-result
-sub-result c = search needs
-
 -- src/lib.rt:38:9
 returns-2 : tie.Need-returns-2
 returns-2 c = (omega arith, trimmed-return (c .before .before .before .args .line .now) (c .if2 .taken))
@@ -31,4 +19,4 @@ returns-3 c = (omega arith, trimmed-other (c .before .before .before .args .line
 
 pub trimmed-length-spec : {M : Type 1} → statement M
 trimmed-length-spec =
-    tie.close (tie.spec returns sub-if2 shared-slice-read-if2 sub-result returns-2 returns-3)
+    tie.close (tie.spec returns (λ c. search needs) (λ c. search needs) (λ c. search needs) returns-2 returns-3)

@@ -31,57 +31,18 @@ counted c = record {
   counts-are = c .counts-after .ensures;
 }
 
-read-line-requires : tie.Need-read-line-requires
-read-line-requires c κs = search needs
-
-enum-known-check : tie.Need-enum-known-check
-enum-known-check c = search needs
-
-same-length : tie.Need-same-length
-same-length c = search needs
-
 returns : tie.Need-returns
 returns c =
     let s = c .before .before .before .before .before .before .before .before .before in
     line-wrong (s .pre .1) (words (s .args .line .now)) _ _ _ (sym (c .before .check .given .1) ∙ c .before .before .before .before .before .read-line .ensures .0 .1)
-
-enum-told : tie.Need-enum-told
-enum-told c = search needs
-
-same-length-2 : tie.Need-same-length-2
-same-length-2 c = search needs
 
 returns-2 : tie.Need-returns-2
 returns-2 c =
     let s = c .before .before .before .before .before .before .before .before .before in
     line-comment (s .pre .1) (words (s .args .line .now)) _ (sym (c .before .enum-told .given .1) ∙ c .before .before .before .before .before .read-line .ensures .0 .1) (c .before .before .before .before .before .read-line .ensures .0 .0) (c .if1 .taken)
 
-sub-counts-after : tie.Need-sub-counts-after
-sub-counts-after c = search needs
-
-part-counts-after-start : tie.Need-part-counts-after-start
-part-counts-after-start c = search needs
-
 part-counts-after-end : tie.Need-part-counts-after-end
 part-counts-after-end c = read (c .before) .few
-
-counts-after-requires : tie.Need-counts-after-requires
-counts-after-requires c κs = search needs
-
-check-counts-requires : tie.Need-check-counts-requires
-check-counts-requires c κs = search needs
-
-enum-known-limits : tie.Need-enum-known-limits
-enum-known-limits c = search needs
-
-enum-told-2 : tie.Need-enum-told-2
-enum-told-2 c = search needs
-
-sub-add-values : tie.Need-sub-add-values
-sub-add-values c = search needs
-
-part-add-values-start : tie.Need-part-add-values-start
-part-add-values-start c = search needs
 
 part-add-values-end : tie.Need-part-add-values-end
 part-add-values-end c = read (c .before .before .before .before .before .before .before) .few
@@ -89,14 +50,8 @@ part-add-values-end c = read (c .before .before .before .before .before .before 
 add-values-requires : tie.Need-add-values-requires
 add-values-requires c κs = (enough (counted (c .before .before .before .before .before .before .before .before .before .before .before .before)) (read (c .before .before .before .before .before .before .before .before .before .before .before .before .before .before .before) .needed), few-after (counted (c .before .before .before .before .before .before .before .before .before .before .before .before)) (sym (c .before .before .before .before .before .before .before .before .before .enum-told2 .given .1) ∙ c .before .before .before .before .before .before .before .before .before .before .before .check-counts .ensures))
 
-same-length-3 : tie.Need-same-length-3
-same-length-3 c = search needs
-
 returns-3 : tie.Need-returns-3
 returns-3 c = line-limit (counted (c .before .before .before .before)) _ _ _ (sym (c .before .limits .given .1) ∙ c .before .before .before .check-counts .ensures)
-
-same-length-4 : tie.Need-same-length-4
-same-length-4 c = search needs
 
 returns-4 : tie.Need-returns-4
 returns-4 c =
@@ -108,25 +63,25 @@ pub add-line-spec : {M : Type 1} → statement M
 add-line-spec =
     tie.close
     (tie.spec
-    read-line-requires
-    enum-known-check
-    same-length
+    (λ c κs. search needs)
+    (λ c. search needs)
+    (λ c. search needs)
     returns
-    enum-told
-    same-length-2
+    (λ c. search needs)
+    (λ c. search needs)
     returns-2
-    sub-counts-after
-    part-counts-after-start
+    (λ c. search needs)
+    (λ c. search needs)
     part-counts-after-end
-    counts-after-requires
-    check-counts-requires
-    enum-known-limits
-    enum-told-2
-    sub-add-values
-    part-add-values-start
+    (λ c κs. search needs)
+    (λ c κs. search needs)
+    (λ c. search needs)
+    (λ c. search needs)
+    (λ c. search needs)
+    (λ c. search needs)
     part-add-values-end
     add-values-requires
-    same-length-3
+    (λ c. search needs)
     returns-3
-    same-length-4
+    (λ c. search needs)
     returns-4)

@@ -28,21 +28,6 @@ here c = record {
 loop-holds : tie.Need-loop-holds Inv-loop μ-loop
 loop-holds c = (refl, gathering-start (c .before .before .args .text .now))
 
-line-end-requires : tie.Need-line-end-requires Inv-loop μ-loop
-line-end-requires c κs = search needs
-
-sub-trimmed-length : tie.Need-sub-trimmed-length Inv-loop μ-loop
-sub-trimmed-length c = search needs
-
-part-trimmed-length-start : tie.Need-part-trimmed-length-start Inv-loop μ-loop
-part-trimmed-length-start c = search needs
-
-part-trimmed-length-end : tie.Need-part-trimmed-length-end Inv-loop μ-loop
-part-trimmed-length-end c = search needs
-
-trimmed-length-requires : tie.Need-trimmed-length-requires Inv-loop μ-loop
-trimmed-length-requires c κs = search needs
-
 add-last : tie.Need-add-last Inv-loop μ-loop
 add-last c = let s = line-short (here (c)) in search needs
 
@@ -58,23 +43,11 @@ part-add-line-end c = let s = line-short (here (c)) in search needs
 add-line-requires : tie.Need-add-line-requires Inv-loop μ-loop
 add-line-requires c κs = let s = line-long (here (c .before .before .before .before .before .before .before .before .before)) in (search needs, c .before .before .before .before .before .before .before .before .before .before .before .before .before .loop .inv .1 .held)
 
-enum-known-check : tie.Need-enum-known-check Inv-loop μ-loop
-enum-known-check c = search needs
-
-same-length : tie.Need-same-length Inv-loop μ-loop
-same-length c = search needs
-
 returns : tie.Need-returns Inv-loop μ-loop
 returns c = (gathering-wrong (c .before .before .before .before .before .before .before .before .before .before .before .before .before .before .before .before .before .before .before .loop .inv .1) (here (c .before .before .before .before .before .before .before .before .before .before .before .before .before .before .before)) _ (sym (c .before .check .given .1) ∙ c .before .before .before .before .before .add-line .ensures .0), wrong-right _)
 
-enum-told : tie.Need-enum-told Inv-loop μ-loop
-enum-told c = search needs
-
 add-line : tie.Need-add-line Inv-loop μ-loop
 add-line c = let g = c .before .before .before .before .before .before .before .before .before .before .before .before .before .before .before .before .before .before .before .loop .inv .1 .going in search needs
-
-add-at : tie.Need-add-at Inv-loop μ-loop
-add-at c = search needs
 
 loop-less : tie.Need-loop-less Inv-loop μ-loop
 loop-less c = let s = here (c .before .before .before .before .before .before .before .before .before .before .before .before .before .before .before) in search needs
@@ -83,9 +56,6 @@ loop-again : tie.Need-loop-again Inv-loop μ-loop
 loop-again c =
     let e = c .before .before .before .before .before .add-line .ensures .1 (c .before .enum-told .given .1) in
     (search needs, gathering-right (c .before .before .before .before .before .before .before .before .before .before .before .before .before .before .before .before .before .before .before .loop .inv .1) (here (c .before .before .before .before .before .before .before .before .before .before .before .before .before .before .before)) _ _ (sym (c .before .enum-told .given .1) ∙ c .before .before .before .before .before .add-line .ensures .0) (e .0) (e .1))
-
-same-length-2 : tie.Need-same-length-2 Inv-loop μ-loop
-same-length-2 c = search needs
 
 returns-2 : tie.Need-returns-2 Inv-loop μ-loop
 returns-2 c = gathering-all (c .before .loop .inv .1) (c .loop-test .left)
@@ -97,23 +67,23 @@ gather-spec =
     Inv-loop
     μ-loop
     loop-holds
-    line-end-requires
-    sub-trimmed-length
-    part-trimmed-length-start
-    part-trimmed-length-end
-    trimmed-length-requires
+    (λ c κs. search needs)
+    (λ c. search needs)
+    (λ c. search needs)
+    (λ c. search needs)
+    (λ c κs. search needs)
     add-last
     sub-add-line
     part-add-line-start
     part-add-line-end
     add-line-requires
-    enum-known-check
-    same-length
+    (λ c. search needs)
+    (λ c. search needs)
     returns
-    enum-told
+    (λ c. search needs)
     add-line
-    add-at
+    (λ c. search needs)
     loop-less
     loop-again
-    same-length-2
+    (λ c. search needs)
     returns-2)

@@ -28,21 +28,6 @@ loop-holds c =
     let s = c .before .before in
     (refl, finding-start (s .args .text .now) (s .args .b) (s .args .r))
 
-line-end-requires : tie.Need-line-end-requires Inv-loop μ-loop
-line-end-requires c κs = search needs
-
-sub-trimmed-length : tie.Need-sub-trimmed-length Inv-loop μ-loop
-sub-trimmed-length c = search needs
-
-part-trimmed-length-start : tie.Need-part-trimmed-length-start Inv-loop μ-loop
-part-trimmed-length-start c = search needs
-
-part-trimmed-length-end : tie.Need-part-trimmed-length-end Inv-loop μ-loop
-part-trimmed-length-end c = search needs
-
-trimmed-length-requires : tie.Need-trimmed-length-requires Inv-loop μ-loop
-trimmed-length-requires c κs = search needs
-
 add-last : tie.Need-add-last Inv-loop μ-loop
 add-last c = let s = line-short (here (c)) in search needs
 
@@ -58,26 +43,17 @@ part-line-count-end c = let s = line-short (here (c)) in search needs
 line-count-requires : tie.Need-line-count-requires Inv-loop μ-loop
 line-count-requires c κs = let s = line-long (here (c .before .before)) in search needs
 
-same-length : tie.Need-same-length Inv-loop μ-loop
-same-length c = search needs
-
 returns : tie.Need-returns Inv-loop μ-loop
 returns c = finding-here (c .before .before .before .before .before .before .before .before .before .before .loop .inv .1) (here (c .before .before .before .before .before .before)) _ (c .before .before .before .line-count .ensures) (c .if1 .taken)
 
 add-number : tie.Need-add-number Inv-loop μ-loop
 add-number c = let g = c .before .before .before .before .before .before .before .before .before .before .loop .inv .1 .going in search needs
 
-add-at : tie.Need-add-at Inv-loop μ-loop
-add-at c = search needs
-
 loop-less : tie.Need-loop-less Inv-loop μ-loop
 loop-less c = let s = here (c .before .before .before .before .before .before) in search needs
 
 loop-again : tie.Need-loop-again Inv-loop μ-loop
 loop-again c = (search needs, finding-next (c .before .before .before .before .before .before .before .before .before .before .loop .inv .1) (here (c .before .before .before .before .before .before)) _ (c .before .before .before .line-count .ensures) (c .if1 .left))
-
-same-length-2 : tie.Need-same-length-2 Inv-loop μ-loop
-same-length-2 c = search needs
 
 returns-2 : tie.Need-returns-2 Inv-loop μ-loop
 returns-2 c = finding-all (c .before .loop .inv .1) (c .loop-test .left)
@@ -89,21 +65,21 @@ line-with-spec =
     Inv-loop
     μ-loop
     loop-holds
-    line-end-requires
-    sub-trimmed-length
-    part-trimmed-length-start
-    part-trimmed-length-end
-    trimmed-length-requires
+    (λ c κs. search needs)
+    (λ c. search needs)
+    (λ c. search needs)
+    (λ c. search needs)
+    (λ c κs. search needs)
     add-last
     sub-line-count
     part-line-count-start
     part-line-count-end
     line-count-requires
-    same-length
+    (λ c. search needs)
     returns
     add-number
-    add-at
+    (λ c. search needs)
     loop-less
     loop-again
-    same-length-2
+    (λ c. search needs)
     returns-2)

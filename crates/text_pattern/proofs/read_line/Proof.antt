@@ -29,9 +29,6 @@ next c =
     (λ w. next-none m (s .args .t2) (c .before .before .before .before .before .before .if1 .left) (c .before .before .before .before .before .if2 .left) (w .left))
     (c .if3 .came)
 
-kind-of-requires : tie.Need-kind-of-requires
-kind-of-requires c κs = search needs
-
 returns : tie.Need-returns
 returns c =
     let s = c .before .before .before .before in
@@ -42,23 +39,8 @@ returns-2 c =
     let s = c .before .before .before .before .before in
     read-unknown (s .args .t2) (words (s .args .line .now)) _ _ (c .before .before .kind-of .ensures .0) (c .if2 .taken)
 
-match-line-requires : tie.Need-match-line-requires
-match-line-requires c κs = search needs
-
 slice-read-if4 : tie.Need-slice-read-if4
 slice-read-if4 c = let l : 0 < length (c .before .before .before .before .match-line .last .1 .1 .1 .0) = omega (arith, matched (c .before .before .before .before) .few) in l
-
-body-counted-requires : tie.Need-body-counted-requires
-body-counted-requires c κs = search needs
-
-mul-if4 : tie.Need-mul-if4
-mul-if4 c = search needs
-
-array-read-if4 : tie.Need-array-read-if4
-array-read-if4 c = search needs
-
-same-length : tie.Need-same-length
-same-length c = search needs
 
 returns-3 : tie.Need-returns-3
 returns-3 c =
@@ -69,26 +51,14 @@ returns-3 c =
 add-t28 : tie.Need-add-t28
 add-t28 c = let m = matched (c .before .before .before .before) .few in search needs
 
-same-length-2 : tie.Need-same-length-2
-same-length-2 c = search needs
-
 returns-4 : tie.Need-returns-4
 returns-4 c = read-part (matched (c .before .before .before .before)) (c .before .before .before .before .before .before .before .before .before .before .before .args .t2) (c .before .before .before .before .before .before .before .if1 .left) (c .before .before .before .before .before .before .if2 .left) (next (c .before)) (not-true _ (c .if5 .taken))
-
-needed-requires : tie.Need-needed-requires
-needed-requires c κs = search needs
 
 add-t32 : tie.Need-add-t32
 add-t32 c = let m = matched (c .before .before .before .before .before .before) .few in search needs
 
-same-length-3 : tie.Need-same-length-3
-same-length-3 c = search needs
-
 returns-5 : tie.Need-returns-5
 returns-5 c = read-few (matched (c .before .before .before .before .before .before)) (c .before .before .before .before .before .before .before .before .before .before .before .before .before .args .t2) (c .before .before .before .before .before .before .before .before .before .if1 .left) (c .before .before .before .before .before .before .before .before .if2 .left) (next (c .before .before .before)) (rw (← c .before .needed .ensures) (c .if6 .taken))
-
-same-length-4 : tie.Need-same-length-4
-same-length-4 c = search needs
 
 returns-6 : tie.Need-returns-6
 returns-6 c = read-right (matched (c .before .before .before .before .before .before)) (c .before .before .before .before .before .before .before .before .before .before .before .before .before .args .t2) (c .before .before .before .before .before .before .before .before .before .if1 .left) (c .before .before .before .before .before .before .before .before .if2 .left) (next (c .before .before .before)) (not-false _ (c .before .before .if5 .left)) (rw (← c .before .needed .ensures) (c .if6 .left))
@@ -97,22 +67,22 @@ pub read-line-spec : {M : Type 1} → statement M
 read-line-spec =
     tie.close
     (tie.spec
-    kind-of-requires
+    (λ c κs. search needs)
     returns
     returns-2
-    match-line-requires
+    (λ c κs. search needs)
     slice-read-if4
-    body-counted-requires
-    mul-if4
-    array-read-if4
-    same-length
+    (λ c κs. search needs)
+    (λ c. search needs)
+    (λ c. search needs)
+    (λ c. search needs)
     returns-3
     add-t28
-    same-length-2
+    (λ c. search needs)
     returns-4
-    needed-requires
+    (λ c κs. search needs)
     add-t32
-    same-length-3
+    (λ c. search needs)
     returns-5
-    same-length-4
+    (λ c. search needs)
     returns-6)

@@ -14,9 +14,6 @@ returns c =
     let a = c .before .before .before .before .before .args in
     (empty-wire (a .fronts .now) (a .backs .now) (a .uses .now) (c .if1 .taken), below-later (a .stamp) (a .stamp + 1) (a .marks .now) (c .before .before .before .before .before .pre .1 .1) (omega arith))
 
-is-closed-requires : tie.Need-is-closed-requires
-is-closed-requires c κs = search needs
-
 returns-2 : tie.Need-returns-2
 returns-2 c =
     let a = c .before .before .before .before .before .before .before .args in (
@@ -24,21 +21,12 @@ returns-2 c =
       below-later (a .stamp) (a .stamp + 1) (a .marks .now) (c .before .before .before .before .before .before .before .pre .1 .1) (omega arith),
     )
 
-is-simple-requires : tie.Need-is-simple-requires
-is-simple-requires c κs = search needs
-
-same-length : tie.Need-same-length
-same-length c = search needs
-
 returns-3 : tie.Need-returns-3
 returns-3 c =
     let a = c .before .before .before .before .before .before .before .before .before .before .before .before .args in (
       repeating-wire (a .fronts .now) (a .backs .now) (a .uses .now) (omega arith) (sym (c .before .before .before .before .before .before .is-closed .ensures) ∙ not-false _ (c .before .before .before .before .before .if2 .left)) (sym (c .before .before .before .is-simple .ensures .0) ∙ not-true _ (c .if3 .taken)),
       c .before .before .before .is-simple .ensures .1,
     )
-
-same-length-2 : tie.Need-same-length-2
-same-length-2 c = search needs
 
 returns-4 : tie.Need-returns-4
 returns-4 c =
@@ -52,10 +40,10 @@ check-wire-spec =
     tie.close
     (tie.spec
     returns
-    is-closed-requires
+    (λ c κs. search needs)
     returns-2
-    is-simple-requires
-    same-length
+    (λ c κs. search needs)
+    (λ c. search needs)
     returns-3
-    same-length-2
+    (λ c. search needs)
     returns-4)

@@ -16,26 +16,8 @@ Inv-loop uses fronts backs p k₀ k = (k ≤ length uses) × (endFrom fronts bac
 abbrev μ-loop : tie.MeasureT-loop
 μ-loop uses fronts backs p k₀ k = length uses - k
 
-cast-p : tie.Need-cast-p Inv-loop μ-loop
-cast-p c = search needs
-
-loop-holds : tie.Need-loop-holds Inv-loop μ-loop
-loop-holds c = search needs
-
-mul-back-of : tie.Need-mul-back-of Inv-loop μ-loop
-mul-back-of c = search needs
-
-shared-slice-read-back-of : tie.Need-shared-slice-read-back-of Inv-loop μ-loop
-shared-slice-read-back-of c = search needs
-
 back-of-requires : tie.Need-back-of-requires Inv-loop μ-loop
 back-of-requires c κs = named-edge _ _ _ (c .before .before .before .before .before .before .before .pre) (c .before .before .loop .k) (omega arith)
-
-add-k : tie.Need-add-k Inv-loop μ-loop
-add-k c = search needs
-
-loop-less : tie.Need-loop-less Inv-loop μ-loop
-loop-less c = search needs
 
 loop-again : tie.Need-loop-again Inv-loop μ-loop
 loop-again c = (omega arith, c .before .before .before .before .loop .inv .1 ∙ end-next _ _ _ _ _ (c .before .before .before .if1 .left) (λ e. c .if2 .left (c .before .back-of .ensures ∙ e)))
@@ -52,13 +34,13 @@ find-end-spec =
     (tie.spec
     Inv-loop
     μ-loop
-    cast-p
-    loop-holds
-    mul-back-of
-    shared-slice-read-back-of
+    (λ c. search needs)
+    (λ c. search needs)
+    (λ c. search needs)
+    (λ c. search needs)
     back-of-requires
-    add-k
-    loop-less
+    (λ c. search needs)
+    (λ c. search needs)
     loop-again
     returns
     returns-2)

@@ -15,21 +15,6 @@ Inv-loop uses e i₀ i = (i ≤ length uses) × (findFrom 0 (e .0) uses ≡ find
 abbrev μ-loop : tie.MeasureT-loop
 μ-loop uses e i₀ i = length uses - i
 
-loop-holds : tie.Need-loop-holds Inv-loop μ-loop
-loop-holds c = search needs
-
-mul-if2 : tie.Need-mul-if2 Inv-loop μ-loop
-mul-if2 c = search needs
-
-shared-slice-read-if2 : tie.Need-shared-slice-read-if2 Inv-loop μ-loop
-shared-slice-read-if2 c = search needs
-
-add-i : tie.Need-add-i Inv-loop μ-loop
-add-i c = search needs
-
-loop-less : tie.Need-loop-less Inv-loop μ-loop
-loop-less c = search needs
-
 loop-again : tie.Need-loop-again Inv-loop μ-loop
 loop-again c = (omega arith, c .before .before .before .before .loop .inv .1 ∙ find-next _ _ _ (c .before .before .before .if1 .left) (c .if2 .left))
 
@@ -45,11 +30,11 @@ find-use-spec =
     (tie.spec
     Inv-loop
     μ-loop
-    loop-holds
-    mul-if2
-    shared-slice-read-if2
-    add-i
-    loop-less
+    (λ c. search needs)
+    (λ c. search needs)
+    (λ c. search needs)
+    (λ c. search needs)
+    (λ c. search needs)
     loop-again
     returns
     returns-2)

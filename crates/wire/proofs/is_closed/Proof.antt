@@ -18,14 +18,8 @@ abbrev μ-loop : tie.MeasureT-loop
 returns : tie.Need-returns Inv-loop μ-loop
 returns c = sym (closed-none _ _ _ (c .if1 .taken))
 
-shared-slice-read-front-of : tie.Need-shared-slice-read-front-of Inv-loop μ-loop
-shared-slice-read-front-of c = search needs
-
 front-of-requires : tie.Need-front-of-requires Inv-loop μ-loop
 front-of-requires c κs = named-edge _ _ _ (c .before .before .before .before .before .pre) 0 (omega arith)
-
-shared-slice-read-back-of : tie.Need-shared-slice-read-back-of Inv-loop μ-loop
-shared-slice-read-back-of c = search needs
 
 back-of-requires : tie.Need-back-of-requires Inv-loop μ-loop
 back-of-requires c κs = named-edge _ _ _ (c .before .before .before .before .before .before .before .pre) 0 (omega arith)
@@ -34,12 +28,6 @@ loop-holds : tie.Need-loop-holds Inv-loop μ-loop
 loop-holds c =
     let a = c .before .before .before .before .before .before .before .before .args in
     (omega arith, rw (c .back-of .ensures, c .before .before .front-of .ensures) (closed-start (a .fronts .now) (a .backs .now) (a .uses .now) (omega arith)))
-
-mul-u : tie.Need-mul-u Inv-loop μ-loop
-mul-u c = search needs
-
-shared-slice-read-u : tie.Need-shared-slice-read-u Inv-loop μ-loop
-shared-slice-read-u c = search needs
 
 front-of-requires-2 : tie.Need-front-of-requires-2 Inv-loop μ-loop
 front-of-requires-2 c κs = named-edge _ _ _ (c .before .before .before .before .before .before .before .before .before .before .before .pre) (c .before .before .loop .i) (omega arith)
@@ -51,12 +39,6 @@ returns-2 c =
 
 back-of-requires-2 : tie.Need-back-of-requires-2 Inv-loop μ-loop
 back-of-requires-2 c κs = named-edge _ _ _ (c .before .before .before .before .before .before .before .before .before .before .before .before .before .pre) (c .before .before .before .before .loop .i) (omega arith)
-
-add-i : tie.Need-add-i Inv-loop μ-loop
-add-i c = search needs
-
-loop-less : tie.Need-loop-less Inv-loop μ-loop
-loop-less c = search needs
 
 loop-again : tie.Need-loop-again Inv-loop μ-loop
 loop-again c =
@@ -75,17 +57,17 @@ is-closed-spec =
     Inv-loop
     μ-loop
     returns
-    shared-slice-read-front-of
+    (λ c. search needs)
     front-of-requires
-    shared-slice-read-back-of
+    (λ c. search needs)
     back-of-requires
     loop-holds
-    mul-u
-    shared-slice-read-u
+    (λ c. search needs)
+    (λ c. search needs)
     front-of-requires-2
     returns-2
     back-of-requires-2
-    add-i
-    loop-less
+    (λ c. search needs)
+    (λ c. search needs)
     loop-again
     returns-3)

@@ -7,12 +7,6 @@ use Rattle.wire.proofs.is_simple.Statement.{statement}
 use Rattle.wire.specs.Wires.{points}
 use Rattle.wire.proofs.is_simple.Tie as tie
 
-stamp-points-requires : tie.Need-stamp-points-requires
-stamp-points-requires c κs = search needs
-
-same-length : tie.Need-same-length
-same-length c = search needs
-
 returns : tie.Need-returns
 returns c =
     let a = c .before .before .before .before .before .before .before .before .args in
@@ -23,4 +17,4 @@ returns c =
     )
 
 pub is-simple-spec : {M : Type 1} → statement M
-is-simple-spec = tie.close (tie.spec stamp-points-requires same-length returns)
+is-simple-spec = tie.close (tie.spec (λ c κs. search needs) (λ c. search needs) returns)

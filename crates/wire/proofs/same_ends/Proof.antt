@@ -12,23 +12,11 @@ use Rattle.wire.proofs.same_ends.Tie as tie
 front-of-requires : tie.Need-front-of-requires
 front-of-requires c κs = c .before .before .before .before .pre .0
 
-shared-slice-read-front-of : tie.Need-shared-slice-read-front-of
-shared-slice-read-front-of c = search needs
-
 front-of-requires-2 : tie.Need-front-of-requires-2
 front-of-requires-2 c κs = named-edge _ _ _ (c .before .before .before .before .before .before .pre .1) 0 (omega arith)
 
 back-of-requires : tie.Need-back-of-requires
 back-of-requires c κs = c .before .before .before .before .before .before .before .before .pre .0
-
-sub-back-of : tie.Need-sub-back-of
-sub-back-of c = search needs
-
-mul-back-of : tie.Need-mul-back-of
-mul-back-of c = search needs
-
-shared-slice-read-back-of : tie.Need-shared-slice-read-back-of
-shared-slice-read-back-of c = search needs
 
 back-of-requires-2 : tie.Need-back-of-requires-2
 back-of-requires-2 c κs = named-edge _ _ _ (c .before .before .before .before .before .before .before .before .before .before .pre .1) (length (c .before .before .before .before .before .before .before .before .before .before .args .new .now) - 1) (omega arith)
@@ -51,12 +39,12 @@ same-ends-spec =
     tie.close
     (tie.spec
     front-of-requires
-    shared-slice-read-front-of
+    (λ c. search needs)
     front-of-requires-2
     back-of-requires
-    sub-back-of
-    mul-back-of
-    shared-slice-read-back-of
+    (λ c. search needs)
+    (λ c. search needs)
+    (λ c. search needs)
     back-of-requires-2
     returns
     returns-2

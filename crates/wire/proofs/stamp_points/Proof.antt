@@ -20,12 +20,6 @@ abbrev μ-loop : tie.MeasureT-loop
 loop-holds : tie.Need-loop-holds Inv-loop μ-loop
 loop-holds c = (omega arith, stamping-start _ _ _)
 
-mul-front-of : tie.Need-mul-front-of Inv-loop μ-loop
-mul-front-of c = search needs
-
-shared-slice-read-front-of : tie.Need-shared-slice-read-front-of Inv-loop μ-loop
-shared-slice-read-front-of c = search needs
-
 front-of-requires : tie.Need-front-of-requires Inv-loop μ-loop
 front-of-requires c κs = named-edge _ _ _ (c .before .before .before .before .before .before .before .pre .0) (c .before .before .loop .i) (omega arith)
 
@@ -40,12 +34,6 @@ mul-marks c = omega (arith, front-below _ _ _ (c .before .before .before .before
 
 slice-write-marks : tie.Need-slice-write-marks Inv-loop μ-loop
 slice-write-marks c = rw (c .before .before .before .before .before .loop .inv .1 .long ∙ c .before .before .before .before .before .before .before .before .before .before .pre .1) (front-below _ _ _ (c .before .before .before .before .before .before .before .before .before .before .pre .0) (c .before .before .before .before .before .loop .i) (c .before .before .front-of .result) (omega arith) (c .before .before .front-of .ensures))
-
-add-i : tie.Need-add-i Inv-loop μ-loop
-add-i c = search needs
-
-loop-less : tie.Need-loop-less Inv-loop μ-loop
-loop-less c = search needs
 
 loop-again : tie.Need-loop-again Inv-loop μ-loop
 loop-again c =
@@ -80,15 +68,15 @@ stamp-points-spec =
     Inv-loop
     μ-loop
     loop-holds
-    mul-front-of
-    shared-slice-read-front-of
+    (λ c. search needs)
+    (λ c. search needs)
     front-of-requires
     mul-if1
     slice-read-if1
     mul-marks
     slice-write-marks
-    add-i
-    loop-less
+    (λ c. search needs)
+    (λ c. search needs)
     loop-again
     same-length
     returns)

@@ -11,61 +11,10 @@ use Rattle.wire.proofs.swap_edge_into_wire.Statement.{statement}
 use Rattle.wire.specs.Swaps.{swapEdge}
 use Rattle.wire.proofs.swap_edge_into_wire.Tie as tie
 
-mul-same-ends : tie.Need-mul-same-ends
-mul-same-ends c = search needs
-
-shared-slice-read-same-ends : tie.Need-shared-slice-read-same-ends
-shared-slice-read-same-ends c = search needs
-
 same-ends-requires : tie.Need-same-ends-requires
 same-ends-requires c κs =
     let p = c .before .before .before .before .before .before .pre in
     (named-edge _ _ _ (p .1 .0) (c .before .before .before .before .before .before .args .i) (omega arith), p .1 .1 .0)
-
-add-next : tie.Need-add-next
-add-next c = search needs
-
-sub-put-uses : tie.Need-sub-put-uses
-sub-put-uses c = search needs
-
-part-put-uses-start : tie.Need-part-put-uses-start
-part-put-uses-start c = search needs
-
-part-put-uses-end : tie.Need-part-put-uses-end
-part-put-uses-end c = search needs
-
-put-uses-requires : tie.Need-put-uses-requires
-put-uses-requires c κs = search needs
-
-add-put-uses : tie.Need-add-put-uses
-add-put-uses c = search needs
-
-put-uses-requires-2 : tie.Need-put-uses-requires-2
-put-uses-requires-2 c κs = search needs
-
-mul-put-uses : tie.Need-mul-put-uses
-mul-put-uses c = search needs
-
-sub-put-uses-2 : tie.Need-sub-put-uses-2
-sub-put-uses-2 c = search needs
-
-part-put-uses-start-2 : tie.Need-part-put-uses-start-2
-part-put-uses-start-2 c = search needs
-
-part-put-uses-end-2 : tie.Need-part-put-uses-end-2
-part-put-uses-end-2 c = search needs
-
-add-put-uses-2 : tie.Need-add-put-uses-2
-add-put-uses-2 c = search needs
-
-add-put-uses-3 : tie.Need-add-put-uses-3
-add-put-uses-3 c = search needs
-
-put-uses-requires-3 : tie.Need-put-uses-requires-3
-put-uses-requires-3 c κs = search needs
-
-same-length : tie.Need-same-length
-same-length c = search needs
 
 returns : tie.Need-returns
 returns c =
@@ -84,23 +33,23 @@ pub swap-edge-into-wire-spec : {M : Type 1} → statement M
 swap-edge-into-wire-spec =
     tie.close
     (tie.spec
-    mul-same-ends
-    shared-slice-read-same-ends
+    (λ c. search needs)
+    (λ c. search needs)
     same-ends-requires
-    add-next
-    sub-put-uses
-    part-put-uses-start
-    part-put-uses-end
-    put-uses-requires
-    add-put-uses
-    put-uses-requires-2
-    mul-put-uses
-    sub-put-uses-2
-    part-put-uses-start-2
-    part-put-uses-end-2
-    add-put-uses-2
-    add-put-uses-3
-    put-uses-requires-3
-    same-length
+    (λ c. search needs)
+    (λ c. search needs)
+    (λ c. search needs)
+    (λ c. search needs)
+    (λ c κs. search needs)
+    (λ c. search needs)
+    (λ c κs. search needs)
+    (λ c. search needs)
+    (λ c. search needs)
+    (λ c. search needs)
+    (λ c. search needs)
+    (λ c. search needs)
+    (λ c. search needs)
+    (λ c κs. search needs)
+    (λ c. search needs)
     returns
     returns-2)

@@ -20,24 +20,6 @@ loop-holds : tie.Need-loop-holds Inv-loop μ-loop
 unfolding sum
 loop-holds c = search needs
 
-mul-index : tie.Need-mul-index Inv-loop μ-loop
-mul-index c = search needs
-
-shared-slice-read-index : tie.Need-shared-slice-read-index Inv-loop μ-loop
-shared-slice-read-index c = search needs
-
-index-requires : tie.Need-index-requires Inv-loop μ-loop
-index-requires c κs = search needs
-
-add-total : tie.Need-add-total Inv-loop μ-loop
-add-total c = search needs
-
-add-i : tie.Need-add-i Inv-loop μ-loop
-add-i c = search needs
-
-loop-less : tie.Need-loop-less Inv-loop μ-loop
-loop-less c = search needs
-
 loop-again : tie.Need-loop-again Inv-loop μ-loop
 loop-again c = rw add-one (let h = sum-next (c .before .before .before .before .before .args .ns .now) (c .before .before .before .loop .i) in search needs)
 
@@ -51,11 +33,11 @@ sum-of-spec =
     Inv-loop
     μ-loop
     loop-holds
-    mul-index
-    shared-slice-read-index
-    index-requires
-    add-total
-    add-i
-    loop-less
+    (λ c. search needs)
+    (λ c. search needs)
+    (λ c κs. search needs)
+    (λ c. search needs)
+    (λ c. search needs)
+    (λ c. search needs)
     loop-again
     returns)

@@ -10,35 +10,11 @@ use Rattle.words.specs.Words.{bytes16, bytes64}
 use Rattle.writer.proofs.put_edge.Statement.{statement}
 use Rattle.writer.proofs.put_edge.Tie as tie
 
-put-u16-requires : tie.Need-put-u16-requires
-put-u16-requires c κs = search needs
-
-add-put-u16 : tie.Need-add-put-u16
-add-put-u16 c = search needs
-
-put-u16-requires-2 : tie.Need-put-u16-requires-2
-put-u16-requires-2 c κs = search needs
-
-add-put-u64 : tie.Need-add-put-u64
-add-put-u64 c = search needs
-
 float-to-bits-put-u64 : tie.Need-float-to-bits-put-u64
 float-to-bits-put-u64 c = span-no-nan _ (c .before .before .before .before .before .before .before .before .before .before .before .pre .1) .0
 
-put-u64-requires : tie.Need-put-u64-requires
-put-u64-requires c κs = search needs
-
-add-put-u64-2 : tie.Need-add-put-u64-2
-add-put-u64-2 c = search needs
-
 float-to-bits-put-u64-2 : tie.Need-float-to-bits-put-u64-2
 float-to-bits-put-u64-2 c = span-no-nan _ (c .before .before .before .before .before .before .before .before .before .before .before .before .before .before .before .before .pre .1) .1
-
-put-u64-requires-2 : tie.Need-put-u64-requires-2
-put-u64-requires-2 c κs = search needs
-
-same-length : tie.Need-same-length
-same-length c = search needs
 
 returns : tie.Need-returns
 returns c =
@@ -57,14 +33,14 @@ pub put-edge-spec : {M : Type 1} → statement M
 put-edge-spec =
     tie.close
     (tie.spec
-    put-u16-requires
-    add-put-u16
-    put-u16-requires-2
-    add-put-u64
+    (λ c κs. search needs)
+    (λ c. search needs)
+    (λ c κs. search needs)
+    (λ c. search needs)
     float-to-bits-put-u64
-    put-u64-requires
-    add-put-u64-2
+    (λ c κs. search needs)
+    (λ c. search needs)
     float-to-bits-put-u64-2
-    put-u64-requires-2
-    same-length
+    (λ c κs. search needs)
+    (λ c. search needs)
     returns)

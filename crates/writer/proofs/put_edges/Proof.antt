@@ -23,29 +23,11 @@ loop-holds c =
     let long : length (c .before .args .t3) ≡ 1024 = search needs in
     (long, laid-start edgeBytes 20 _ _ _ _ (λ x. refl) (omega (arith, long)))
 
-mul-e : tie.Need-mul-e Inv-loop μ-loop
-mul-e c = search needs
-
-array-copy-out-e : tie.Need-array-copy-out-e Inv-loop μ-loop
-array-copy-out-e c = search needs
-
-mul-put-edge : tie.Need-mul-put-edge Inv-loop μ-loop
-mul-put-edge c = search needs
-
-add-put-edge : tie.Need-add-put-edge Inv-loop μ-loop
-add-put-edge c = search needs
-
 put-edge-requires : tie.Need-put-edge-requires Inv-loop μ-loop
 put-edge-requires c κs = (
   laid-room edgeBytes 20 _ _ _ _ _ _ (c .before .before .before .loop .inv .1) (c .before .before .before .before .before .pre .0 .0) (c .before .before .loop-test .taken),
   rw (getD-any (c .before .before .before .before .before .args .t3) (c .before .before .before .loop .k) noEdge zeroEdge (omega (arith, c .before .before .before .loop .inv .0))) (c .before .before .before .before .before .pre .1 _ (c .before .before .loop-test .taken)),
 )
-
-add-k : tie.Need-add-k Inv-loop μ-loop
-add-k c = search needs
-
-loop-less : tie.Need-loop-less Inv-loop μ-loop
-loop-less c = search needs
 
 loop-again : tie.Need-loop-again Inv-loop μ-loop
 loop-again c = (c .before .before .before .before .before .before .loop .inv .0, laid-next edgeBytes 20 _ _ _ _ _ _ (c .before .before .before .before .before .before .loop .inv .1) _ noEdge (c .before .before .before .before .before .loop-test .taken) (c .before .before .put-edge .ensures))
@@ -63,13 +45,13 @@ put-edges-spec =
     Inv-loop
     μ-loop
     loop-holds
-    mul-e
-    array-copy-out-e
-    mul-put-edge
-    add-put-edge
+    (λ c. search needs)
+    (λ c. search needs)
+    (λ c. search needs)
+    (λ c. search needs)
     put-edge-requires
-    add-k
-    loop-less
+    (λ c. search needs)
+    (λ c. search needs)
     loop-again
     same-length
     returns)

@@ -7,24 +7,6 @@ use Rattle.words.specs.Words.{bytes32}
 use Rattle.writer.proofs.put_entry.Statement.{statement}
 use Rattle.writer.proofs.put_entry.Tie as tie
 
-cast-put-u32 : tie.Need-cast-put-u32
-cast-put-u32 c = search needs
-
-put-u32-requires : tie.Need-put-u32-requires
-put-u32-requires c κs = search needs
-
-add-put-u32 : tie.Need-add-put-u32
-add-put-u32 c = search needs
-
-cast-put-u32-2 : tie.Need-cast-put-u32-2
-cast-put-u32-2 c = search needs
-
-put-u32-requires-2 : tie.Need-put-u32-requires-2
-put-u32-requires-2 c κs = search needs
-
-same-length : tie.Need-same-length
-same-length c = search needs
-
 returns : tie.Need-returns
 returns c =
     let a = c .before .before .before .before .before .before .before .before .before .args in
@@ -34,10 +16,10 @@ pub put-entry-spec : {M : Type 1} → statement M
 put-entry-spec =
     tie.close
     (tie.spec
-    cast-put-u32
-    put-u32-requires
-    add-put-u32
-    cast-put-u32-2
-    put-u32-requires-2
-    same-length
+    (λ c. search needs)
+    (λ c κs. search needs)
+    (λ c. search needs)
+    (λ c. search needs)
+    (λ c κs. search needs)
+    (λ c. search needs)
     returns)

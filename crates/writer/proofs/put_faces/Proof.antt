@@ -21,26 +21,8 @@ loop-holds c =
     let long : length (c .before .args .t3) ≡ 256 = search needs in
     (long, laid-start faceBytes 4 _ _ _ _ (λ x. refl) (omega (arith, long)))
 
-mul-f : tie.Need-mul-f Inv-loop μ-loop
-mul-f c = search needs
-
-array-copy-out-f : tie.Need-array-copy-out-f Inv-loop μ-loop
-array-copy-out-f c = search needs
-
-mul-put-face : tie.Need-mul-put-face Inv-loop μ-loop
-mul-put-face c = search needs
-
-add-put-face : tie.Need-add-put-face Inv-loop μ-loop
-add-put-face c = search needs
-
 put-face-requires : tie.Need-put-face-requires Inv-loop μ-loop
 put-face-requires c κs = laid-room faceBytes 4 _ _ _ _ _ _ (c .before .before .before .loop .inv .1) (c .before .before .before .before .before .pre .0) (c .before .before .loop-test .taken)
-
-add-k : tie.Need-add-k Inv-loop μ-loop
-add-k c = search needs
-
-loop-less : tie.Need-loop-less Inv-loop μ-loop
-loop-less c = search needs
 
 loop-again : tie.Need-loop-again Inv-loop μ-loop
 loop-again c = (c .before .before .before .before .before .before .loop .inv .0, laid-next faceBytes 4 _ _ _ _ _ _ (c .before .before .before .before .before .before .loop .inv .1) _ zeroFace (c .before .before .before .before .before .loop-test .taken) (c .before .before .put-face .ensures))
@@ -58,13 +40,13 @@ put-faces-spec =
     Inv-loop
     μ-loop
     loop-holds
-    mul-f
-    array-copy-out-f
-    mul-put-face
-    add-put-face
+    (λ c. search needs)
+    (λ c. search needs)
+    (λ c. search needs)
+    (λ c. search needs)
     put-face-requires
-    add-k
-    loop-less
+    (λ c. search needs)
+    (λ c. search needs)
     loop-again
     same-length
     returns)

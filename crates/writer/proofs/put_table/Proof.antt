@@ -19,31 +19,10 @@ abbrev μ-loop : tie.MeasureT-loop
 loop-holds : tie.Need-loop-holds Inv-loop μ-loop
 loop-holds c = (search needs, entries-start _ _)
 
-mul-put-entry : tie.Need-mul-put-entry Inv-loop μ-loop
-mul-put-entry c = search needs
-
-mul-put-entry-2 : tie.Need-mul-put-entry-2 Inv-loop μ-loop
-mul-put-entry-2 c = search needs
-
-array-read-put-entry : tie.Need-array-read-put-entry Inv-loop μ-loop
-array-read-put-entry c = search needs
-
-mul-put-entry-3 : tie.Need-mul-put-entry-3 Inv-loop μ-loop
-mul-put-entry-3 c = search needs
-
-array-read-put-entry-2 : tie.Need-array-read-put-entry-2 Inv-loop μ-loop
-array-read-put-entry-2 c = search needs
-
 put-entry-requires : tie.Need-put-entry-requires Inv-loop μ-loop
 put-entry-requires c κs =
     let fit = entry-fits (c .before .before .before .before .args .t2) (c .before .before .before .before .args .t3) (c .before .before .loop .b) (c .before .before .before .before .pre .2) (c .before .before .before .before .pre .1) (c .before .before .loop .inv .0) (omega arith) in
     (entries-room _ _ _ _ (c .before .before .loop .inv .1) (c .before .before .before .before .pre .0) (omega arith), omega (arith, fit .0), omega (arith, fit .1))
-
-add-b : tie.Need-add-b Inv-loop μ-loop
-add-b c = search needs
-
-loop-less : tie.Need-loop-less Inv-loop μ-loop
-loop-less c = search needs
 
 loop-again : tie.Need-loop-again Inv-loop μ-loop
 loop-again c = (c .before .before .before .before .before .loop .inv .0, entries-next _ _ _ _ (c .before .before .before .before .before .loop .inv .1) _ _ (c .before .before .before .before .before .before .before .pre .2) (omega arith) (c .before .before .put-entry .ensures))
@@ -61,14 +40,14 @@ put-table-spec =
     Inv-loop
     μ-loop
     loop-holds
-    mul-put-entry
-    mul-put-entry-2
-    array-read-put-entry
-    mul-put-entry-3
-    array-read-put-entry-2
+    (λ c. search needs)
+    (λ c. search needs)
+    (λ c. search needs)
+    (λ c. search needs)
+    (λ c. search needs)
     put-entry-requires
-    add-b
-    loop-less
+    (λ c. search needs)
+    (λ c. search needs)
     loop-again
     same-length
     returns)

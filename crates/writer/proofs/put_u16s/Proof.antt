@@ -16,26 +16,8 @@ abbrev μ-loop : tie.MeasureT-loop
 loop-holds : tie.Need-loop-holds Inv-loop μ-loop
 loop-holds c = laid-start bytes16 2 _ _ _ _ (λ x. refl) (c .before .before .pre .1)
 
-mul-put-u16 : tie.Need-mul-put-u16 Inv-loop μ-loop
-mul-put-u16 c = search needs
-
-add-put-u16 : tie.Need-add-put-u16 Inv-loop μ-loop
-add-put-u16 c = search needs
-
-mul-put-u16-2 : tie.Need-mul-put-u16-2 Inv-loop μ-loop
-mul-put-u16-2 c = search needs
-
-shared-slice-read-put-u16 : tie.Need-shared-slice-read-put-u16 Inv-loop μ-loop
-shared-slice-read-put-u16 c = search needs
-
 put-u16-requires : tie.Need-put-u16-requires Inv-loop μ-loop
 put-u16-requires c κs = laid-room bytes16 2 _ _ _ _ _ _ (c .before .before .before .loop .inv) (c .before .before .before .before .before .before .pre .0) (c .before .before .loop-test .taken)
-
-add-k : tie.Need-add-k Inv-loop μ-loop
-add-k c = search needs
-
-loop-less : tie.Need-loop-less Inv-loop μ-loop
-loop-less c = search needs
 
 loop-again : tie.Need-loop-again Inv-loop μ-loop
 loop-again c = laid-next bytes16 2 _ _ _ _ _ _ (c .before .before .before .before .before .before .loop .inv) _ 0 (c .before .before .before .before .before .loop-test .taken) (c .before .before .put-u16 .ensures)
@@ -53,13 +35,13 @@ put-u16s-spec =
     Inv-loop
     μ-loop
     loop-holds
-    mul-put-u16
-    add-put-u16
-    mul-put-u16-2
-    shared-slice-read-put-u16
+    (λ c. search needs)
+    (λ c. search needs)
+    (λ c. search needs)
+    (λ c. search needs)
     put-u16-requires
-    add-k
-    loop-less
+    (λ c. search needs)
+    (λ c. search needs)
     loop-again
     same-length
     returns)

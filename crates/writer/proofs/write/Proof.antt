@@ -42,25 +42,13 @@ few c = none-left _ _ (none c)
 end : (c : tie.After-starts-of) → getD (c .starts-of .result) 7 0 ≡ length (fileBytes (content (c .before .before .before .before .before .before .args .p)))
 end c = file-length (c .before .before .before .before .before .before .args .p) (full (c .before .before .before .before .before .before)) (seven (c .before .before .before .before .before .before)) (few (c .before .before)) _ (c .starts-of .ensures)
 
-check-requires : tie.Need-check-requires
-check-requires c κs = search needs
-
-enum-known-answer : tie.Need-enum-known-answer
-enum-known-answer c = search needs
-
 returns : tie.Need-returns
 returns c =
     let a = c .before .before .before .before .before .args in
     write-refused (fileBytes (content (a .p))) (a .out .now) (patternFaults (a .p)) _ (sym (c .before .before .before .check .ensures) ∙ c .before .answer .given .1)
 
-enum-told : tie.Need-enum-told
-enum-told c = search needs
-
 starts-of-requires : tie.Need-starts-of-requires
 starts-of-requires c κs = few (c .before)
-
-array-read-if1 : tie.Need-array-read-if1
-array-read-if1 c = search needs
 
 returns-2 : tie.Need-returns-2
 returns-2 c =
@@ -69,12 +57,6 @@ returns-2 c =
 
 write-content-requires : tie.Need-write-content-requires
 write-content-requires c κs = ((few (c .before .before .before .before), none-right (countFaults (c .before .before .before .before .before .before .before .before .args .p .counts)) _ (none (c .before .before .before .before))), (c .before .before .starts-of .ensures, c .before .if1 .left))
-
-array-read-t8 : tie.Need-array-read-t8
-array-read-t8 c = search needs
-
-same-length : tie.Need-same-length
-same-length c = search needs
 
 returns-3 : tie.Need-returns-3
 returns-3 c =
@@ -86,14 +68,14 @@ pub write-spec : {M : Type 1} → statement M
 write-spec =
     tie.close
     (tie.spec
-    check-requires
-    enum-known-answer
+    (λ c κs. search needs)
+    (λ c. search needs)
     returns
-    enum-told
+    (λ c. search needs)
     starts-of-requires
-    array-read-if1
+    (λ c. search needs)
     returns-2
     write-content-requires
-    array-read-t8
-    same-length
+    (λ c. search needs)
+    (λ c. search needs)
     returns-3)

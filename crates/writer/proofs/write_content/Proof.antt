@@ -84,23 +84,11 @@ stage7 c = stage-next _ _ _ 6 _ (stage6 (c .before .before .before .before .befo
 put-table-requires : tie.Need-put-table-requires
 put-table-requires c κs = let r = ready (c .before .before .before .before .before) in (ready-table _ _ _ r, r .few, r .places)
 
-array-read-put-points : tie.Need-array-read-put-points
-array-read-put-points c = search needs
-
-array-read-put-points-2 : tie.Need-array-read-put-points-2
-array-read-put-points-2 c = search needs
-
 put-points-requires : tie.Need-put-points-requires
 put-points-requires c κs =
     let s = stage0 (c .before .before .before .before .before .before) in
     let limits = ready-limits _ _ _ (s .ready) in
     (stage-room _ _ _ 0 _ s (omega arith), omega (arith, limits .points, s .ready .full .points))
-
-array-read-put-edges : tie.Need-array-read-put-edges
-array-read-put-edges c = search needs
-
-array-read-put-edges-2 : tie.Need-array-read-put-edges-2
-array-read-put-edges-2 c = search needs
 
 put-edges-requires : tie.Need-put-edges-requires
 put-edges-requires c κs =
@@ -108,23 +96,11 @@ put-edges-requires c κs =
     let limits = ready-limits _ _ _ (s .ready) in
     ((stage-room _ _ _ 1 _ s (omega arith), limits .edges), ready-spans _ _ _ (s .ready))
 
-array-read-put-u16s : tie.Need-array-read-put-u16s
-array-read-put-u16s c = search needs
-
-array-read-put-u16s-2 : tie.Need-array-read-put-u16s-2
-array-read-put-u16s-2 c = search needs
-
 put-u16s-requires : tie.Need-put-u16s-requires
 put-u16s-requires c κs =
     let s = stage2 (c .before .before .before .before .before .before) in
     let limits = ready-limits _ _ _ (s .ready) in
     (stage-room _ _ _ 2 _ s (omega arith), omega (arith, limits .uses, s .ready .full .uses))
-
-array-read-put-u16s-3 : tie.Need-array-read-put-u16s-3
-array-read-put-u16s-3 c = search needs
-
-array-read-put-u16s-4 : tie.Need-array-read-put-u16s-4
-array-read-put-u16s-4 c = search needs
 
 put-u16s-requires-2 : tie.Need-put-u16s-requires-2
 put-u16s-requires-2 c κs =
@@ -132,35 +108,17 @@ put-u16s-requires-2 c κs =
     let limits = ready-limits _ _ _ (s .ready) in
     (stage-room _ _ _ 3 _ s (omega arith), omega (arith, limits .wires, s .ready .full .wires))
 
-array-read-put-faces : tie.Need-array-read-put-faces
-array-read-put-faces c = search needs
-
-array-read-put-faces-2 : tie.Need-array-read-put-faces-2
-array-read-put-faces-2 c = search needs
-
 put-faces-requires : tie.Need-put-faces-requires
 put-faces-requires c κs =
     let s = stage4 (c .before .before .before) in
     let limits = ready-limits _ _ _ (s .ready) in
     (stage-room _ _ _ 4 _ s (omega arith), limits .faces)
 
-array-read-put-u16s-5 : tie.Need-array-read-put-u16s-5
-array-read-put-u16s-5 c = search needs
-
-array-read-put-u16s-6 : tie.Need-array-read-put-u16s-6
-array-read-put-u16s-6 c = search needs
-
 put-u16s-requires-3 : tie.Need-put-u16s-requires-3
 put-u16s-requires-3 c κs =
     let s = stage5 (c .before .before .before .before .before .before) in
     let limits = ready-limits _ _ _ (s .ready) in
     (stage-room _ _ _ 5 _ s (omega arith), omega (arith, limits .shells, s .ready .full .shells))
-
-array-read-put-u16s-7 : tie.Need-array-read-put-u16s-7
-array-read-put-u16s-7 c = search needs
-
-array-read-put-u16s-8 : tie.Need-array-read-put-u16s-8
-array-read-put-u16s-8 c = search needs
 
 put-u16s-requires-4 : tie.Need-put-u16s-requires-4
 put-u16s-requires-4 c κs =
@@ -179,26 +137,26 @@ write-content-spec =
     tie.close
     (tie.spec
     put-table-requires
-    array-read-put-points
-    array-read-put-points-2
+    (λ c. search needs)
+    (λ c. search needs)
     put-points-requires
-    array-read-put-edges
-    array-read-put-edges-2
+    (λ c. search needs)
+    (λ c. search needs)
     put-edges-requires
-    array-read-put-u16s
-    array-read-put-u16s-2
+    (λ c. search needs)
+    (λ c. search needs)
     put-u16s-requires
-    array-read-put-u16s-3
-    array-read-put-u16s-4
+    (λ c. search needs)
+    (λ c. search needs)
     put-u16s-requires-2
-    array-read-put-faces
-    array-read-put-faces-2
+    (λ c. search needs)
+    (λ c. search needs)
     put-faces-requires
-    array-read-put-u16s-5
-    array-read-put-u16s-6
+    (λ c. search needs)
+    (λ c. search needs)
     put-u16s-requires-3
-    array-read-put-u16s-7
-    array-read-put-u16s-8
+    (λ c. search needs)
+    (λ c. search needs)
     put-u16s-requires-4
     same-length
     returns)

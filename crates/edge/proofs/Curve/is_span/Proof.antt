@@ -6,12 +6,6 @@ use Rattle.edge.proofs.Laws.{all-three, not-first, not-second}
 use Rattle.edge.specs.Edges.{inRange, isSpan}
 use Rattle.edge.proofs.Curve.is_span.Tie as tie
 
-in-range-requires : tie.Need-in-range-requires
-in-range-requires c κs = search needs
-
-in-range-requires-2 : tie.Need-in-range-requires-2
-in-range-requires-2 c κs = search needs
-
 returns : tie.Need-returns
 unfolding isSpan
 returns c = all-three _ _ _ (sym (c .before .before .before .before .in-range .ensures) ∙ c .before .before .before .if1 .taken) (sym (c .before .before .in-range2 .ensures) ∙ c .before .if2 .taken)
@@ -30,4 +24,4 @@ returns-3 c =
 
 pub is-span-spec : {M : Type 1} → statement M
 is-span-spec =
-    tie.close (tie.spec in-range-requires in-range-requires-2 returns returns-2 returns-3)
+    tie.close (tie.spec (λ c κs. search needs) (λ c κs. search needs) returns returns-2 returns-3)

@@ -3,9 +3,6 @@ use borrow.Author.Needs.{needs}
 use Rattle.endings.proofs.Ending.then.Statement.{statement}
 use Rattle.endings.proofs.Ending.then.Tie as tie
 
-add-number : tie.Need-add-number
-add-number c = search needs
-
 returns : tie.Need-returns
 returns c = rw (eq-eqb (c .before .before .before .before .before .before .args .self .number) 0 (c .before .before .if1 .taken), eq-eqb (c .before .before .before .before .before .before .args .next .number) 0 (c .if2 .taken))
 
@@ -19,4 +16,4 @@ returns-4 : tie.Need-returns-4
 returns-4 c = rw (ne-eqb (c .before .before .before .before .before .before .args .self .number) 0 (c .before .before .if1 .left), ne-eqb (c .before .before .before .before .before .before .args .next .number) 0 (c .if3 .left))
 
 pub then-spec : {M : Type 1} → statement M
-then-spec = tie.close (tie.spec add-number returns returns-2 returns-3 returns-4)
+then-spec = tie.close (tie.spec (λ c. search needs) returns returns-2 returns-3 returns-4)

@@ -4,20 +4,8 @@ use borrow.Author.Needs.{needs}
 use Rattle.solid.proofs.SolidCheck.and_shell.Statement.{statement}
 use Rattle.solid.proofs.SolidCheck.and_shell.Tie as tie
 
-enum-known-self : tie.Need-enum-known-self
-enum-known-self c = search needs
-
 returns : tie.Need-returns
 returns c = sym (rw (c .before .self .given .1))
-
-enum-told : tie.Need-enum-told
-enum-told c = search needs
-
-enum-told-2 : tie.Need-enum-told-2
-enum-told-2 c = search needs
-
-enum-known-shell : tie.Need-enum-known-shell
-enum-known-shell c = search needs
 
 returns-2 : tie.Need-returns-2
 returns-2 c = sym (rw (c .before .before .enum-told .given .1, c .enum-told2 .given .1))
@@ -26,4 +14,4 @@ returns-3 : tie.Need-returns-3
 returns-3 c = sym (rw (c .before .before .before .enum-told .given .1, c .before .shell .given .1))
 
 pub and-shell-spec : {M : Type 1} → statement M
-and-shell-spec = tie.close (tie.spec enum-known-self returns enum-told enum-told-2 enum-known-shell returns-2 returns-3)
+and-shell-spec = tie.close (tie.spec (λ c. search needs) returns (λ c. search needs) (λ c. search needs) (λ c. search needs) returns-2 returns-3)
