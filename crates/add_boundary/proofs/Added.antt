@@ -20,9 +20,9 @@ use Rattle.errors.specs.declared.Refusal.{Refusal}
 use Rattle.errors.specs.declared.WireError.{WireError}
 use Rattle.face.specs.Faces.{wireCount}
 use Rattle.face_edits.specs.FaceAnswers.{addAnswer, addOut}
-use Rattle.face_edits.specs.FaceEdits.{addFaults, added, areUses, backsIn, boundaries, fits, frontsIn, isFace, wireError}
+use Rattle.face_edits.specs.FaceEdits.{addFaults, added, areUses, backsIn, boundaries, fits, frontsIn, isFace, nameEdges, wireError}
 use Rattle.face_parts.proofs.Facts.{backs-first, boundaries-count, boundaries-flat, boundaries-lengths, counts-long, fronts-first, names-first, part-named, uses-are, uses-stored, wires-stored}
-use Rattle.face_parts.specs.Parts.{nameEdges, partIn, partOf}
+use Rattle.face_parts.specs.Parts.{partIn, partOf}
 use Rattle.face_parts.specs.declared.FacePart.{FacePart}
 use Rattle.listing.proofs.Laws.{shown-keeps}
 use Rattle.lists.proofs.Laws.{flat-append}

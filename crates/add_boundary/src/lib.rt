@@ -25,8 +25,8 @@ use listing::put_turned;
 use pattern::Pattern;
 use pattern::check;
 use wire::check_wire;
-use wire::put_uses;
 use wire::stamp_points;
+use words::copy_u16s;
 use words::index;
 
 // What is wrong with a wire that is to be added, if anything.
@@ -111,7 +111,7 @@ fn put_stored(wire: &[u16], reversed: bool, out: &mut [u16], at: usize)
     if reversed {
         put_turned(out, at, wire);
     } else {
-        put_uses(wire, out, at);
+        copy_u16s(wire, out, at);
     }
 }
 
@@ -120,7 +120,7 @@ fn put_boundary(own: &[u16], wire: &[u16], reversed: bool, out: &mut [u16])
     requires { ⌜ length (now own) + length (now wire) ≤ length (now out) ⌝ }
     ensures { λ _. ⌜ now (out .exit) ≡ sets (now (out .entry)) 0 (now (own .entry) ++ storedAs reversed (now (wire .entry))) ⌝ }
 {
-    put_uses(own, out, 0);
+    copy_u16s(own, out, 0);
     put_stored(wire, reversed, out, own.len());
 }
 
@@ -129,7 +129,7 @@ fn put_length(sizes: &[u16], n: usize, out: &mut [u16])
     requires { ⌜ (suc (length (now sizes)) ≤ length (now out)) × (n < 65536) ⌝ }
     ensures { λ _. ⌜ now (out .exit) ≡ sets (now (out .entry)) 0 (now (sizes .entry) ++ (n ∷ [])) ⌝ }
 {
-    put_uses(sizes, out, 0);
+    copy_u16s(sizes, out, 0);
     out[sizes.len()] = n as u16;
 }
 

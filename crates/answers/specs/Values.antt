@@ -1,6 +1,5 @@
 -- The answers as numbers: how a call ended (0 done, 1 refused by the reading checks, 2 refused by the call), document 01's number of the refusal, the values.
 use Prim.Native.Nat.{ℕ}
-use mathlib.Core.Bool.{Bool}
 use Rattle.lists.specs.Lists.{pick}
 use Rattle.answers.specs.declared.Answer.{Answer}
 use Rattle.shell_calls.specs.declared.Conditioned.{Conditioned}

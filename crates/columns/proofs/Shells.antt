@@ -1,31 +1,30 @@
 -- What the columns of a sound pattern show of a listing is what the definitions say.
 use Prim.Native.Nat.{_+_, _-_, _<_, _≤_, suc, ℕ}
 use mathlib.Core.Bool.{Bool, false, true}
-use mathlib.Core.List.{List, [], _∷_, map}
+use mathlib.Core.List.{List, [], map}
 use mathlib.Core.Path.{_∙_, _≡_, ap, refl, sym}
 use native.Mathlib.Omega.{arith}
 use lib.Dec.{leb}
-use lib.ListN.{List·getD-append, drop, getD, length, length-append, length-map, length-replicate, length-take, replicate, take}
-use lib.Seq.{getD-take, length-take-le, take-take}
+use lib.ListN.{drop, getD, length, length-append, length-replicate, length-take, replicate, take}
+use lib.Seq.{getD-take, take-take}
 use Rattle.columns.specs.Columns.{columnsIn, firstListing, firstUse, firstWire}
 use Rattle.columns.specs.Sound.{Sound}
-use Rattle.edge.specs.Edges.{backNumber, frontNumber}
-use Rattle.errors.proofs.Laws.{none-left, none-right}
-use Rattle.face.specs.Faces.{faceRule, wireCount}
-use Rattle.listing.proofs.Laws.{Placed, column, facePart, listing-part, listingPart, listings-named, part-placed, part-shown, shell-parts, shells-summed, start-at, starts-inside, starts-rise, turned-long}
+use Rattle.face.specs.Faces.{wireCount}
+use Rattle.listing.proofs.Laws.{Placed, listing-part, listings-named, part-placed, part-shown, shells-summed, start-at, starts-inside, starts-rise, turned-long}
 use Rattle.listing.specs.Parts.{Shows, between, partAt, partsOf, turnedUses}
 use Rattle.lists.proofs.Parts.{map-same}
-use Rattle.lists.proofs.Count.{All, all-flat-map, all-weaker}
+use Rattle.lists.proofs.Count.{All, all-weaker}
 use Rattle.lists.proofs.Laws.{length-tabulate, sum-next, sum-take-drop}
 use Rattle.lists.proofs.Marks.{AllBelow}
 use Rattle.lists.proofs.Split.{drop-take, getD-split}
-use Rattle.lists.specs.Lists.{flat, padded, pick, sum, tabulate}
-use Rattle.pattern.proofs.Counts.{edges-counted, faces-counted, listings-counted, points-counted, shells-counted, uses-counted, wires-counted}
-use Rattle.pattern.proofs.Named.{faces-summed, wires-summed}
-use Rattle.pattern.specs.Checks.{contentFaults, countFaults, outlines, recordFaults}
+use Rattle.lists.specs.Lists.{flat, padded, pick, tabulate}
+use Rattle.pattern.proofs.Counts.{faces-counted, listings-counted, uses-counted}
+use Rattle.pattern.proofs.Named.{wires-summed}
+use Rattle.pattern.proofs.Passed.{content-passed, pattern-passed}
+use Rattle.pattern.specs.Checks.{contentFaults, outlines, recordFaults}
 use Rattle.pattern.specs.Contents.{content}
 use Rattle.pattern.specs.declared.Pattern.{Pattern}
-use Rattle.shell.specs.Shells.{faceNumber, listingsOf, shellUses, shownWires}
+use Rattle.shell.specs.Shells.{faceNumber, listingsOf, shownWires}
 
 -- a part of a list's first n numbers
 pub between-first : (xs : List ℕ) (n i j : ℕ) → i ≤ j → j ≤ n → between (take n xs) i j ≡ between xs i j
@@ -36,12 +35,10 @@ padded-long m xs h = omega (arith, length-append xs (replicate (m - length xs) 0
 
 module _ (p : Pattern) (s : Sound p) where
   pub content-fine : contentFaults (content p) ≡ []
-  content-fine = none-right (countFaults (p .counts)) (contentFaults (content p)) (s .ok)
+  content-fine = pattern-passed p (s .ok) .content
 
   pub records-fine : recordFaults (content p) ≡ []
-  records-fine =
-      none-left (recordFaults (content p)) (faceRule (map frontNumber (content p .edges)) (map backNumber (content p .edges)) 0 (outlines (content p)))
-      content-fine
+  records-fine = content-passed (content p) content-fine .records
 
   pub uses-small : AllBelow 65536 (content p .uses)
   uses-small i l =

@@ -1,6 +1,6 @@
 -- The forest of the uses' links: what the code leaves in the arrays, and that its roots are the keys of the components.
 use Prim.Native.Nat.{_+_, _<_, _≤_, ℕ}
-use mathlib.Core.List.{List, List·Memᴰ, [], _∷_, map}
+use mathlib.Core.List.{List, List·Memᴰ, [], map}
 use mathlib.Core.Path.{_∙_, _≡_, ap, sym}
 use native.Mathlib.Omega.{arith}
 use lib.ListN.{drop, getD, length, length-append, length-drop, length-replicate, replicate, take}
@@ -14,7 +14,7 @@ use Rattle.groups.proofs.All.{joined-all-long}
 use Rattle.groups.proofs.Climbing.{root-below}
 use Rattle.groups.proofs.Laws.{grouped-all, grouped-climbs, grouped-start}
 use Rattle.groups.specs.Forest.{Grouped, rootOf, started}
-use Rattle.groups.specs.Groups.{Inside, links, sameGroup}
+use Rattle.groups.specs.Groups.{Inside, sameGroup}
 use Rattle.lists.proofs.Count.{All, all-at, all-each, all-map, all-split}
 use Rattle.lists.proofs.Flat.{getD-tabulate}
 use Rattle.lists.proofs.Laws.{length-split, length-tabulate}

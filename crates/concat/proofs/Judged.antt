@@ -2,8 +2,8 @@
 use Prim.Native.Nat.{_+_, _<_, _≤_, ℕ}
 use Prim.{⊥}
 use mathlib.Core.Bool.{Bool, _&&_, false, not, true}
-use mathlib.Core.List.{List, [], _++_, _∷_, map}
-use mathlib.Core.Path.{_∙_, _≡_, ap, refl, sym}
+use mathlib.Core.List.{List, [], _++_, _∷_}
+use mathlib.Core.Path.{_∙_, _≡_, refl, sym}
 use native.Mathlib.Omega.{arith}
 use lib.Dec.{eqb, leb, ltb}
 use lib.ListN.{List·getD-map, getD, length, take}
@@ -17,14 +17,13 @@ use Rattle.curve.specs.declared.Joined.{Joined}
 use Rattle.curve.specs.declared.Joined.the-variants.{Refused as NotJoined, Whole as WholeCurve}
 use Rattle.edge.proofs.Laws.{noEdge}
 use Rattle.edge.specs.Edges.{backNumber, edge, frontNumber, isSpan}
-use Rattle.edge.specs.Uses.{backOf, edgeNumber, frontOf}
+use Rattle.edge.specs.Uses.{edgeNumber, frontOf}
 use Rattle.edge.specs.declared.Curve.{Curve}
 use Rattle.edge.specs.declared.Edge.{Edge}
 use Rattle.edit_answers.specs.declared.EditError.{EditError}
 use Rattle.edit_answers.specs.declared.EditError.the-variants.{Disconnected, NoSpace, SameEnds, SpanRefused, Unnamed}
 use Rattle.errors.proofs.Laws.{none-right, unless-passes}
 use Rattle.lists.proofs.Flat.{getD-any}
-use Rattle.lists.proofs.Laws.{cases}
 use Rattle.lists.specs.Lists.{pick, unless}
 use Rattle.pattern.specs.Contents.{Content, zeroEdge}
 use Rattle.shell.specs.Openings.{backIn, frontIn}

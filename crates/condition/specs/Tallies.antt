@@ -49,10 +49,6 @@ unfoldable pub insertedAll : Tally → List ℕ → Tally
 insertedAll t [] = t
 insertedAll t (u ∷ us) = insertedAll (inserted t u) us
 
--- every use of the list names an edge below n
-abbrev pub EdgesBelow : ℕ → List ℕ → Type 0
-EdgesBelow n us = (k : ℕ) → k < length us → edgeNumber (getD us k 0) < n
-
 -- the least of f 0, f 1, .., n of them, and 3
 unfoldable pub least : ℕ → (ℕ → ℕ) → ℕ
 least zero f = 3

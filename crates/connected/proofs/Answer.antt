@@ -1,10 +1,10 @@
 -- The trees after the links of the uses and of the wires, and the answer that they give.
-use Prim.Native.Nat.{_-_, _<_, suc, zero, ℕ}
+use Prim.Native.Nat.{_-_, _<_, suc, ℕ}
 use mathlib.Core.Bool.{Bool}
 use mathlib.Core.List.{List, [], _++_, _∷_, map, map-map}
 use mathlib.Core.Path.{_∙_, _≡_, ap, refl}
 use native.Mathlib.Omega.{arith}
-use lib.ListN.{drop, getD, length, length-drop, length-map, length-take, replicate, take, take-append-drop}
+use lib.ListN.{drop, getD, length, length-drop, length-map, length-take, replicate, take}
 use lib.Seq.{take-append-seam}
 use Rattle.lists.proofs.Parts.{flat-split, map-drop}
 use Rattle.lists.proofs.Laws.{length-split, map-take, sum-next, sum-take-drop}

@@ -14,14 +14,13 @@ use borrow.Author.Tests.{eq-eqb, eqb-false, eqb-true, ne-eqb, le-ltb, lt-ltb}
 use Rattle.edge.specs.Uses.{backOf, edgeNumber}
 use Rattle.lists.proofs.Laws.{cases}
 use Rattle.lists.proofs.Split.{walk-fits, getD-split}
-use Rattle.lists.specs.Lists.{split, sum}
+use Rattle.lists.specs.Lists.{rotated, split, sum}
 use Rattle.corners.specs.Corners.{cornerOf, placeOf, fit}
 use Rattle.corners.specs.declared.Corner.{Corner}
 use Rattle.endings.specs.declared.Ending.{Ending}
 use Rattle.shell_edits.specs.Edits.{placeIn}
 use Rattle.wire.proofs.Laws.{named-part}
-use Rattle.wire.specs.Swaps.{endFrom, rotated}
-use Rattle.wire.specs.Wires.{Named}
+use Rattle.wire.specs.Wires.{Named, endFrom}
 use Rattle.wire.specs.declared.Found.{Found}
 use Rattle.wire.specs.declared.Found.the-variants.{At, Nothing}
 use Rattle.endings.proofs.Flagging.{isAt}

@@ -15,11 +15,11 @@ use borrow.Author.Tests.{eq-eqb, eqb-false, eqb-true, lt-leb, ne-eqb}
 use Rattle.lists.proofs.Laws.{cases, length-split}
 use Rattle.lists.proofs.Sets.{flat-next, sets-then}
 use Rattle.lists.proofs.Split.{Walk, walk-fits, walk-next, walk-part, walk-start}
-use Rattle.lists.specs.Lists.{flat, split, sum}
+use Rattle.lists.specs.Lists.{flat, rotated, split, sum}
 use Rattle.corners.specs.Corners.{joinedWire, placeOf, removedWire}
 use Rattle.endings.specs.declared.Ending.{Ending}
 use Rattle.shell_edits.specs.Edits.{eachWire}
-use Rattle.wire.specs.Swaps.{rotated, swapPair, swapSubwire}
+use Rattle.wire_swaps.specs.Swaps.{swapPair, swapSubwire}
 
 -- ---- lengths
 pair-long : (us : List ℕ) (i u : ℕ) → i + 2 ≤ length us → length (swapPair us i u) ≡ length us - 1

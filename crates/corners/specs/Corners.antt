@@ -4,12 +4,13 @@ use mathlib.Core.Bool.{Bool, _&&_, _||_}
 use mathlib.Core.List.{List}
 use lib.Dec.{eqb, ltb}
 use lib.ListN.{getD}
-use Rattle.lists.specs.Lists.{pick}
+use Rattle.lists.specs.Lists.{pick, rotated}
 use Rattle.edge.specs.Uses.{turned, edgeNumber}
-use Rattle.wire.specs.Swaps.{endFrom, rotated, swapSubwire}
+use Rattle.wire_swaps.specs.Swaps.{swapSubwire}
 use Rattle.shell_edits.specs.Edits.{placeIn}
 use Rattle.corners.specs.declared.Corner.{Corner}
 use Rattle.endings.specs.declared.Ending.{Ending}
+use Rattle.wire.specs.Wires.{endFrom}
 
 module _ (fronts backs : List ℕ) (v : ℕ) where
   -- the place of the first use that ends at point v

@@ -14,8 +14,8 @@ use endings::Ending;
 use vertex::VertexID;
 use wire::Found;
 use wire::find_end;
-use wire::put_uses;
 use wire::swap_subwire_into_edges;
+use words::copy_u16s;
 use words::index;
 use words::sum_of;
 
@@ -107,7 +107,7 @@ fn put_wire(
     if w == e.first {
         return put_joined(uses, fronts, backs, v, a + 32768, out, at);
     }
-    put_uses(uses, out, at);
+    copy_u16s(uses, out, at);
     uses.len()
 }
 

@@ -6,14 +6,15 @@ use native.Mathlib.Nat.{sub-zero}
 use native.Mathlib.Omega.{arith}
 use lib.ListN.{drop, length, length-take, take}
 use lib.Seq.{length-take-le}
-use Rattle.cut_results.specs.Results.{Ends, UsesOf}
+use Rattle.cut_results.specs.Results.{PointEnds}
 use Rattle.cut_outline.specs.Cuts.{cutOutline}
+use Rattle.edge.specs.Uses.{EdgesBelow}
 
 module _ (fronts backs stored us : List ℕ) (at n edges : ℕ) where
   same-part : take (at + n - at) (drop at stored) ≡ take n (drop at stored)
   same-part = let z : at + n - at ≡ n = omega arith in rw z
 
-  pub part-ends : Ends (take edges fronts) (take edges backs) → Ends (take (edges - 0) fronts) (take (edges - 0) backs)
+  pub part-ends : PointEnds (take edges fronts) (take edges backs) → PointEnds (take (edges - 0) fronts) (take (edges - 0) backs)
   part-ends h = rw (sub-zero edges) h
 
   pub part-short : at + n ≤ 4096 → length (take (at + n - at) (drop at stored)) ≤ 4096
@@ -23,10 +24,10 @@ module _ (fronts backs stored us : List ℕ) (at n edges : ℕ) where
     edges-taken : length (take (edges - 0) fronts) ≡ edges
     edges-taken = rw (sub-zero edges) (length-take-le edges fronts long)
 
-    pub wire-uses : UsesOf edges us → UsesOf (length (take (edges - 0) fronts)) us
+    pub wire-uses : EdgesBelow edges us → EdgesBelow (length (take (edges - 0) fronts)) us
     wire-uses h k l = omega (arith, h k l, edges-taken)
 
-    pub stored-uses : UsesOf edges (take n (drop at stored)) → UsesOf (length (take (edges - 0) fronts)) (take (at + n - at) (drop at stored))
+    pub stored-uses : EdgesBelow edges (take n (drop at stored)) → EdgesBelow (length (take (edges - 0) fronts)) (take (at + n - at) (drop at stored))
     stored-uses h = rw (edges-taken, same-part) h
 
   pub part-same : (m k : ℕ) → cutOutline (take (edges - 0) fronts) (take (edges - 0) backs) (take (at + n - at) (drop at stored)) us m k

@@ -11,10 +11,10 @@ use lib.ListN.{drop, getD, length, take}
 use lib.Seq.{length-take-le, sets, take-all}
 use borrow.Author.Tests.{le-leb, le-ltb, lt-leb, lt-ltb, ne-eqb}
 use Rattle.cut_results.proofs.Results.{Owes}
-use Rattle.cut_results.specs.Results.{Ends, UsesOf, cutAfter, cutTwo, firstOf, keeps, outcome, secondOf}
+use Rattle.cut_results.specs.Results.{PointEnds, cutAfter, cutTwo, firstOf, keeps, outcome, secondOf}
 use Rattle.cut_outline.specs.Cuts.{begins, cutAlong, cutOutline, ends, fromEnd, stop}
 use Rattle.edge.specs.Edges.{backNumber, frontNumber}
-use Rattle.edge.specs.Uses.{backOf, edgeNumber, frontOf}
+use Rattle.edge.specs.Uses.{EdgesBelow, backOf, edgeNumber, frontOf}
 use Rattle.edit_answers.specs.Answers.{judged}
 use Rattle.edit_answers.specs.declared.FaceAnswer.{FaceAnswer}
 use Rattle.edit_answers.specs.declared.FaceAnswer.the-variants.{Not, Refused}
@@ -25,9 +25,9 @@ use Rattle.errors.specs.declared.Check.the-variants.{Accepted, Refused as Check
 use Rattle.errors.specs.declared.Refusal.{Refusal}
 use Rattle.face_edits.proofs.CutTheorem.{has-begun}
 use Rattle.face_edits.specs.FaceAnswers.{cutFaceAnswer, cutFaceOut}
-use Rattle.face_edits.specs.FaceEdits.{areUses, backsIn, boundaries, cutFaceFaults, endsOn, firstCut, fits, frontsIn, isFace, keepsRule, outlineOf, secondCut}
+use Rattle.face_edits.specs.FaceEdits.{areUses, backsIn, boundaries, cutFaceFaults, endsOn, firstCut, fits, frontsIn, isFace, keepsRule, nameEdges, outlineOf, secondCut}
 use Rattle.face_parts.proofs.Facts.{backs-first, boundaries-are, boundaries-count, counts-long, fronts-first, lens-long, names-edge, part-named, partLens, partUses, uses-are, uses-long, uses-stored, wires-stored}
-use Rattle.face_parts.specs.Parts.{faceColumns, nameEdges, partIn, partOf}
+use Rattle.face_parts.specs.Parts.{faceColumns, partIn, partOf}
 use Rattle.face_parts.specs.declared.FaceColumns.{FaceColumns}
 use Rattle.face_parts.specs.declared.FacePart.{FacePart}
 use Rattle.lists.proofs.Laws.{cases}
@@ -40,7 +40,7 @@ use Rattle.pattern.specs.declared.Pattern.{Pattern}
 use Rattle.shell.specs.Shells.{faceNumber}
 use Rattle.shell_edits.specs.Edits.{placeIn}
 use Rattle.shell_wires.proofs.Facts.{Fine, backs-long, fronts-long, records-fine}
-use Rattle.wire.specs.Swaps.{endFrom}
+use Rattle.wire.specs.Wires.{endFrom}
 
 -- ---- the cut of an outline, as the definitions have it
 module _ (c : Content) (os us : List ℕ) (m n : ℕ) where
@@ -159,7 +159,7 @@ module _ (p : Pattern) (s : Fine p) where
         s .limits .points,
       )
 
-  pub ends-stored : Ends (take edges fronts) (take edges backs)
+  pub ends-stored : PointEnds (take edges fronts) (take edges backs)
   ends-stored = record {
     alike = backs-few ∙ sym fronts-few;
     front = λ e h. let l : e < edges = omega (arith, fronts-few) in rw (← along e l) (below e (omega (arith, l, s .limits .edges)));
@@ -196,7 +196,7 @@ module _ (p : Pattern) (s : Fine p) where
             ≡ cutOutline (frontsIn (content p)) (backsIn (content p)) (outlineOf (content p) f) us m n
         part-cut m n = rw (fronts-first p s, backs-first p s, outline-is)
 
-      pub part-edges : UsesOf edges (partUses p s f here)
+      pub part-edges : EdgesBelow edges (partUses p s f here)
       part-edges k h = omega (arith, part-named p s f here .edge k h, fronts-few)
 
 -- ---- what the columns and the part are, and what is asked of them
@@ -212,7 +212,7 @@ module _ (p : Pattern) (s : Fine p) (f : ℕ) (here : faceNumber f < getD (p .co
 
   module _ (part : FacePart) (h : part ≡ partIn p f) (us : List ℕ) (ok : nameEdges us (edges p s) ≡ true) where
     pub cut-asks : ((part .at + part .uses ≤ length (p .uses)) × (part .at + part .uses ≤ 4096) × (edges p s ≤ length (cols .fronts)) × (edges p s ≤ length (cols .backs)))
-        × (Ends (take (edges p s) (cols .fronts)) (take (edges p s) (cols .backs)) × (UsesOf (edges p s) (take (part .uses) (drop (part .at) (p .uses))) × UsesOf (edges p s) us))
+        × (PointEnds (take (edges p s) (cols .fronts)) (take (edges p s) (cols .backs)) × (EdgesBelow (edges p s) (take (part .uses) (drop (part .at) (p .uses))) × EdgesBelow (edges p s) us))
     cut-asks =
         rw (e, h) (
           (uses-stored p s f here, omega (arith, uses-stored p s f here, s .full .uses), omega (arith, fronts-long p s, s .limits .edges), omega (arith, backs-long p s, s .limits .edges)),

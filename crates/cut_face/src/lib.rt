@@ -8,7 +8,8 @@ ghost use Rattle.lists.specs.Lists.{flat};
 ghost use Rattle.face_edits.specs.FaceAnswers.{cutFaceAnswer, cutFaceOut};
 ghost use Rattle.pattern.specs.Checks.{patternFaults};
 ghost use Rattle.cut_outline.specs.Cuts.{cutOutline};
-ghost use Rattle.cut_results.specs.Results.{Ends, UsesOf};
+ghost use Rattle.cut_results.specs.Results.{PointEnds};
+ghost use Rattle.edge.specs.Uses.{EdgesBelow};
 use cut_outline::cut_outline;
 use edit_answers::FaceAnswer;
 use edit_answers::FaceEditError;
@@ -34,9 +35,9 @@ fn cut_part<'a>(
     lens: &mut [u16],
 ) -> FaceAnswer
     requires { ⌜ (at + n ≤ length (now stored)) × (at + n ≤ 4096) × (edges ≤ length (now fronts)) × (edges ≤ length (now backs)) ⌝ }
-    requires { ⌜ Ends (take edges (now fronts)) (take edges (now backs)) ⌝ }
-    requires { ⌜ UsesOf edges (take n (drop at (now stored))) ⌝ }
-    requires { ⌜ UsesOf edges (now wire) ⌝ }
+    requires { ⌜ PointEnds (take edges (now fronts)) (take edges (now backs)) ⌝ }
+    requires { ⌜ EdgesBelow edges (take n (drop at (now stored))) ⌝ }
+    requires { ⌜ EdgesBelow edges (now wire) ⌝ }
     ensures { λ r. ⌜ r ≡ cutOutline (take edges (now (fronts .entry))) (take edges (now (backs .entry))) (take n (drop at (now (stored .entry)))) (now (wire .entry)) (length (now (uses .entry))) (length (now (lens .entry))) .answer ⌝ }
     ensures { λ _. ⌜ now (uses .exit) ≡ sets (now (uses .entry)) 0 (flat (cutOutline (take edges (now (fronts .entry))) (take edges (now (backs .entry))) (take n (drop at (now (stored .entry)))) (now (wire .entry)) (length (now (uses .entry))) (length (now (lens .entry))) .out)) ⌝ }
     ensures { λ _. ⌜ now (lens .exit) ≡ sets (now (lens .entry)) 0 (map length (cutOutline (take edges (now (fronts .entry))) (take edges (now (backs .entry))) (take n (drop at (now (stored .entry)))) (now (wire .entry)) (length (now (uses .entry))) (length (now (lens .entry))) .out)) ⌝ }

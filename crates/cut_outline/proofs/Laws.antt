@@ -10,10 +10,10 @@ use lib.Dec.{eqb}
 use lib.ListN.{drop, getD, length, length-append, length-drop, take}
 use lib.Seq.{length-take-le, sets, take-all}
 use borrow.Author.Tests.{lt-ltb}
-use Rattle.cut_results.specs.Results.{Ends, UsesOf, cutAfter, outcome}
+use Rattle.cut_results.specs.Results.{PointEnds, cutAfter, outcome}
 use Rattle.cut_outline.specs.Cuts.{cutAlong, cutOutline, ends, begins, fromEnd, rotatedTo, stop}
 use Rattle.cut_results.proofs.Few.{named-of}
-use Rattle.edge.specs.Uses.{back, backOf, front, frontOf, useOf}
+use Rattle.edge.specs.Uses.{EdgesBelow, back, backOf, front, frontOf, useOf}
 use Rattle.edge.specs.declared.EdgeUse.{EdgeUse}
 use Rattle.edit_answers.specs.declared.FaceAnswer.the-variants.{Not}
 use Rattle.edit_answers.specs.declared.FaceEditError.the-variants.{EndsNotOnWire}
@@ -22,8 +22,7 @@ use Rattle.lists.proofs.Laws.{cases, eqb-sym}
 use Rattle.lists.proofs.Sets.{sets-then}
 use Rattle.lists.specs.Lists.{flat, has}
 use Rattle.shell_edits.specs.Edits.{placeIn}
-use Rattle.wire.specs.Swaps.{endFrom}
-use Rattle.wire.specs.Wires.{Named}
+use Rattle.wire.specs.Wires.{Named, endFrom}
 use Rattle.wire.specs.declared.Found.the-variants.{At, Nothing}
 use Rattle.cut_results.proofs.Results.{Owes, stored-all}
 
@@ -75,7 +74,7 @@ module _ (fronts backs : List ℕ) where
 
 -- ---- the first n uses of a list, as the code takes them
 module _ (fronts backs list us : List ℕ) (n : ℕ) where
-  pub part-named : Ends fronts backs → UsesOf (length fronts) (take n list) → Named fronts backs (take (n - 0) list)
+  pub part-named : PointEnds fronts backs → EdgesBelow (length fronts) (take n list) → Named fronts backs (take (n - 0) list)
   part-named s h = rw (sub-zero n) (named-of fronts backs (take n list) s h)
 
   pub part-none : (uses lens : List ℕ) → endFrom fronts backs 0 (begins fronts backs us) (take (n - 0) list) ≡ Nothing

@@ -8,8 +8,8 @@ use Rattle.lists.specs.Lists.{has, pick}
 use Rattle.edge.specs.Uses.{backOf, frontOf}
 use Rattle.edit_answers.specs.declared.FaceEditError.the-variants.{EndsNotOnWire}
 use Rattle.shell_edits.specs.Edits.{placeIn}
-use Rattle.wire.specs.Swaps.{endFrom}
 use Rattle.cut_results.specs.Results.{Cut, cutAfter, outcome}
+use Rattle.wire.specs.Wires.{endFrom}
 
 -- the outline from place i on
 abbrev pub rotatedTo : ℕ → List ℕ → List ℕ

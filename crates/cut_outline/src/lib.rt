@@ -5,10 +5,10 @@ ghost use Prim.Native.Nat.{_<_, _≤_};
 ghost use lib.ListN.{length, take};
 ghost use lib.Seq.{sets};
 ghost use Rattle.lists.specs.Lists.{flat};
-ghost use Rattle.wire.specs.Swaps.{endFrom};
-ghost use Rattle.wire.specs.Wires.{Named};
+ghost use Rattle.wire.specs.Wires.{Named, endFrom};
 ghost use Rattle.cut_outline.specs.Cuts.{begins, cutAlong, cutOutline, ends, rotatedTo};
-ghost use Rattle.cut_results.specs.Results.{Ends, UsesOf};
+ghost use Rattle.cut_results.specs.Results.{PointEnds};
+ghost use Rattle.edge.specs.Uses.{EdgesBelow};
 use cut_results::cut_after;
 use edge::EdgeUse;
 use edit_answers::FaceAnswer;
@@ -16,7 +16,7 @@ use edit_answers::FaceEditError;
 use vertex::VertexID;
 use wire::Found;
 use wire::find_end;
-use wire::put_uses;
+use words::copy_u16s;
 
 // The vertex that a wire begins at.
 fn first_point(wire: &[u16], fronts: &[u16], backs: &[u16]) -> VertexID
@@ -52,8 +52,8 @@ fn rotate_to(outline: &[u16], i: usize, out: &mut [u16])
     ensures { λ _. ⌜ now (out .exit) ≡ sets (now (out .entry)) 0 (rotatedTo i (now (outline .entry))) ⌝ }
 {
     let n = outline.len();
-    put_uses(&outline[i..n], out, 0);
-    put_uses(&outline[0..i], out, n - i);
+    copy_u16s(&outline[i..n], out, 0);
+    copy_u16s(&outline[0..i], out, n - i);
 }
 
 // Cuts an outline, the first n of `along`, that begins at the wire's back: 19, 28, 17.
@@ -67,9 +67,9 @@ fn cut_along(
     lens: &mut [u16],
 ) -> FaceAnswer
     requires { ⌜ (n ≤ length (now along)) × (n ≤ 4096) × (0 < length (now wire)) ⌝ }
-    requires { ⌜ Ends (now fronts) (now backs) ⌝ }
-    requires { ⌜ UsesOf (length (now fronts)) (take n (now along)) ⌝ }
-    requires { ⌜ UsesOf (length (now fronts)) (now wire) ⌝ }
+    requires { ⌜ PointEnds (now fronts) (now backs) ⌝ }
+    requires { ⌜ EdgesBelow (length (now fronts)) (take n (now along)) ⌝ }
+    requires { ⌜ EdgesBelow (length (now fronts)) (now wire) ⌝ }
     ensures { λ r. ⌜ r ≡ cutAlong (now (fronts .entry)) (now (backs .entry)) (take n (now (along .entry))) (now (wire .entry)) (length (now (uses .entry))) (length (now (lens .entry))) .answer ⌝ }
     ensures { λ _. ⌜ now (uses .exit) ≡ sets (now (uses .entry)) 0 (flat (cutAlong (now (fronts .entry)) (now (backs .entry)) (take n (now (along .entry))) (now (wire .entry)) (length (now (uses .entry))) (length (now (lens .entry))) .out)) ⌝ }
     ensures { λ _. ⌜ now (lens .exit) ≡ sets (now (lens .entry)) 0 (map length (cutAlong (now (fronts .entry)) (now (backs .entry)) (take n (now (along .entry))) (now (wire .entry)) (length (now (uses .entry))) (length (now (lens .entry))) .out)) ⌝ }
@@ -93,9 +93,9 @@ pub fn cut_outline(
     lens: &mut [u16],
 ) -> FaceAnswer
     requires { ⌜ length (now outline) ≤ 4096 ⌝ }
-    requires { ⌜ Ends (now fronts) (now backs) ⌝ }
-    requires { ⌜ UsesOf (length (now fronts)) (now outline) ⌝ }
-    requires { ⌜ UsesOf (length (now fronts)) (now wire) ⌝ }
+    requires { ⌜ PointEnds (now fronts) (now backs) ⌝ }
+    requires { ⌜ EdgesBelow (length (now fronts)) (now outline) ⌝ }
+    requires { ⌜ EdgesBelow (length (now fronts)) (now wire) ⌝ }
     ensures { λ r. ⌜ r ≡ cutOutline (now (fronts .entry)) (now (backs .entry)) (now (outline .entry)) (now (wire .entry)) (length (now (uses .entry))) (length (now (lens .entry))) .answer ⌝ }
     ensures { λ _. ⌜ now (uses .exit) ≡ sets (now (uses .entry)) 0 (flat (cutOutline (now (fronts .entry)) (now (backs .entry)) (now (outline .entry)) (now (wire .entry)) (length (now (uses .entry))) (length (now (lens .entry))) .out)) ⌝ }
     ensures { λ _. ⌜ now (lens .exit) ≡ sets (now (lens .entry)) 0 (map length (cutOutline (now (fronts .entry)) (now (backs .entry)) (now (outline .entry)) (now (wire .entry)) (length (now (uses .entry))) (length (now (lens .entry))) .out)) ⌝ }

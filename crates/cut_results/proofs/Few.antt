@@ -10,8 +10,8 @@ use lib.Dec.{leb, ltb}
 use lib.ListN.{drop, getD, length, length-append, take}
 use lib.Seq.{take-take}
 use borrow.Author.Tests.{le-leb, lt-leb, ltb-false, ltb-true}
-use Rattle.cut_results.specs.Results.{Ends, UsesOf, firstOf, keeps, secondOf}
-use Rattle.edge.specs.Uses.{edgeNumber, frontOf, turned}
+use Rattle.cut_results.specs.Results.{PointEnds, firstOf, keeps, secondOf}
+use Rattle.edge.specs.Uses.{EdgesBelow, edgeNumber, frontOf, turned}
 use Rattle.errors.specs.Faults.{each, firstOfWire}
 use Rattle.errors.specs.declared.WireCheck.the-variants.{Refused, Simple}
 use Rattle.errors.specs.declared.WireError.{WireError}
@@ -33,14 +33,14 @@ pick-below : (b : Bool) (x y n : ℕ) → x < n → y < n → pick b x y < n
 pick-below true x y n h k = h
 pick-below false x y n h k = k
 
-pub flipped : (fronts backs : List ℕ) → Ends fronts backs → Ends backs fronts
+pub flipped : (fronts backs : List ℕ) → PointEnds fronts backs → PointEnds backs fronts
 flipped fronts backs s = record {
   alike = sym (s .alike);
   front = λ e h. s .back e (omega (arith, s .alike));
   back = λ e h. s .front e (omega (arith, s .alike));
 }
 
-pub named-of : (fronts backs us : List ℕ) → Ends fronts backs → UsesOf (length fronts) us → Named fronts backs us
+pub named-of : (fronts backs us : List ℕ) → PointEnds fronts backs → EdgesBelow (length fronts) us → Named fronts backs us
 unfolding frontOf
 named-of fronts backs us s h = record {
   alike = s .alike;
@@ -48,22 +48,22 @@ named-of fronts backs us s h = record {
   point = λ k l. pick-below (leb 32768 (getD us k 0)) _ _ 2048 (s .back (edgeNumber (getD us k 0)) (h k l)) (s .front (edgeNumber (getD us k 0)) (h k l));
 }
 
-pub named-flipped : (fronts backs us : List ℕ) → Ends fronts backs → UsesOf (length fronts) us → Named backs fronts us
+pub named-flipped : (fronts backs us : List ℕ) → PointEnds fronts backs → EdgesBelow (length fronts) us → Named backs fronts us
 named-flipped fronts backs us s h = named-of backs fronts us (flipped fronts backs s) (λ k l. omega (arith, h k l, s .alike))
 
 abbrev Of : ℕ → ℕ → Type 0
 Of n u = edgeNumber u < n
 
-uses-all : (n : ℕ) (us : List ℕ) → UsesOf n us → All (Of n) us
+uses-all : (n : ℕ) (us : List ℕ) → EdgesBelow n us → All (Of n) us
 uses-all n us h = all-each (Of n) 0 us h
 
-all-uses : (n : ℕ) (us : List ℕ) → All (Of n) us → UsesOf n us
+all-uses : (n : ℕ) (us : List ℕ) → All (Of n) us → EdgesBelow n us
 all-uses n us h = all-place (Of n) 0 us h
 
-pub part-uses : (n : ℕ) (us : List ℕ) → UsesOf n us → (i j : ℕ) → UsesOf n (take j (drop i us))
+pub part-uses : (n : ℕ) (us : List ℕ) → EdgesBelow n us → (i j : ℕ) → EdgesBelow n (take j (drop i us))
 part-uses n us h i j = all-uses n (take j (drop i us)) (all-take (Of n) j (drop i us) (all-drop (Of n) i us (uses-all n us h)))
 
-pub rotated-uses : (n : ℕ) (us : List ℕ) → UsesOf n us → (i : ℕ) → UsesOf n (drop i us ++ take i us)
+pub rotated-uses : (n : ℕ) (us : List ℕ) → EdgesBelow n us → (i : ℕ) → EdgesBelow n (drop i us ++ take i us)
 rotated-uses n us h i =
     all-uses n (drop i us ++ take i us) (all-append (Of n) (drop i us) (take i us) (all-drop (Of n) i us (uses-all n us h)) (all-take (Of n) i us (uses-all n us h)))
 
@@ -74,7 +74,7 @@ turned-of n u h =
     (λ (b : ltb u 32768 ≡ false). let l = ltb-false u 32768 b in rw (le-leb 32768 u l) (omega (arith, l)))
     (cases (ltb u 32768))
 
-module _ (n : ℕ) (along us : List ℕ) (h : UsesOf n along) (g : UsesOf n us) (k : ℕ) where
+module _ (n : ℕ) (along us : List ℕ) (h : EdgesBelow n along) (g : EdgesBelow n us) (k : ℕ) where
   first-all : All (Of n) (firstOf along k us)
   unfolding firstOf
   first-all = all-append (Of n) (take k along) us (all-take (Of n) k along (uses-all n along h)) (uses-all n us g)
@@ -85,10 +85,10 @@ module _ (n : ℕ) (along us : List ℕ) (h : UsesOf n along) (g : UsesOf n us) 
       all-append (Of n) (drop k along) (map turned (reverse us)) (all-drop (Of n) k along (uses-all n along h))
       (all-map (Of n) (Of n) turned (turned-of n) (reverse us) (all-reverse (Of n) us (uses-all n us g)))
 
-  pub first-uses : UsesOf n (firstOf along k us)
+  pub first-uses : EdgesBelow n (firstOf along k us)
   first-uses = all-uses n (firstOf along k us) first-all
 
-  pub both-uses : UsesOf n (firstOf along k us ++ secondOf along k us)
+  pub both-uses : EdgesBelow n (firstOf along k us ++ secondOf along k us)
   both-uses = all-uses n (firstOf along k us ++ secondOf along k us) (all-append (Of n) (firstOf along k us) (secondOf along k us) first-all second-all)
 
 -- ---- the face rule of one wire
@@ -129,7 +129,7 @@ module _ (fronts backs : List ℕ) where
   kept-few us n h = simple-short fronts backs us n (simple-sound fronts backs us (kept-simple us h) .once)
 
   -- a wire of more than 2,048 uses
-  pub long-breaks : (along us : List ℕ) (k : ℕ) → Ends fronts backs → UsesOf (length fronts) along → UsesOf (length fronts) us → 2048 < length us
+  pub long-breaks : (along us : List ℕ) (k : ℕ) → PointEnds fronts backs → EdgesBelow (length fronts) along → EdgesBelow (length fronts) us → 2048 < length us
       → keeps fronts backs (firstOf along k us) ≡ false
   unfolding firstOf
   long-breaks along us k s h g l =

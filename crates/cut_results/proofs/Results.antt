@@ -9,9 +9,9 @@ use lib.Dec.{leb}
 use lib.ListN.{drop, length, length-append, length-drop, set, take}
 use lib.Seq.{drop-at, length-take-le, sets, sets-eq, take-add, take-all, take-at}
 use borrow.Author.Tests.{le-leb, lt-leb}
-use Rattle.cut_results.specs.Results.{Cut, Ends, UsesOf, cutAfter, cutTwo, firstOf, keeps, outcome, secondOf}
+use Rattle.cut_results.specs.Results.{Cut, PointEnds, cutAfter, cutTwo, firstOf, keeps, outcome, secondOf}
 use Rattle.cut_results.proofs.Few.{both-uses, named-of}
-use Rattle.edge.specs.Uses.{turned}
+use Rattle.edge.specs.Uses.{EdgesBelow, turned}
 use Rattle.edit_answers.specs.declared.FaceAnswer.{FaceAnswer}
 use Rattle.edit_answers.specs.declared.FaceAnswer.the-variants.{Not, Written}
 use Rattle.edit_answers.specs.declared.FaceEditError.the-variants.{FaceRule, NoSpace}
@@ -139,7 +139,7 @@ module _ (fronts backs : List ℕ) where
       let y : length b ≡ j = omega (arith, second-long along us l k h) in
       rw (e, stored-first l a b fit i j x y, stored-second l a b fit i j x y)
 
-  pub made-named : (along us l : List ℕ) (k : ℕ) → Ends fronts backs → UsesOf (length fronts) along → UsesOf (length fronts) us → k ≤ length along
+  pub made-named : (along us l : List ℕ) (k : ℕ) → PointEnds fronts backs → EdgesBelow (length fronts) along → EdgesBelow (length fronts) us → k ≤ length along
       → length along + 2 * length us ≤ length l → (both : List ℕ) → both ≡ sets l 0 (firstOf along k us ++ secondOf along k us)
       → Named fronts backs (take (length along + 2 * length us) both)
   made-named along us l k s x y h g both e =

@@ -5,7 +5,7 @@ use mathlib.Core.List.{List, [], _∷_, _++_, map, reverse}
 use mathlib.Core.Path.{_≡_}
 use lib.ListN.{drop, getD, length, take}
 use Rattle.lists.specs.Lists.{flat, unless}
-use Rattle.edge.specs.Uses.{edgeNumber, turned}
+use Rattle.edge.specs.Uses.{turned}
 use Rattle.edit_answers.specs.Answers.{judged}
 use Rattle.edit_answers.specs.declared.FaceAnswer.{FaceAnswer}
 use Rattle.edit_answers.specs.declared.FaceAnswer.the-variants.{Not, Refused, Written}
@@ -35,14 +35,10 @@ unfoldable pub secondOf : List ℕ → ℕ → List ℕ → List ℕ
 secondOf along k us = drop k along ++ map turned (reverse us)
 
 -- the numbers of the edges' ends, each of one of 2,048 points
-pub record Ends (fronts backs : List ℕ) : Type 0 where
+pub record PointEnds (fronts backs : List ℕ) : Type 0 where
   pub alike : length backs ≡ length fronts
   pub front : (e : ℕ) → e < length fronts → getD fronts e 0 < 2048
   pub back : (e : ℕ) → e < length fronts → getD backs e 0 < 2048
-
--- each use is of one of n edges
-abbrev pub UsesOf : ℕ → List ℕ → Type 0
-UsesOf n us = (k : ℕ) → k < length us → edgeNumber (getD us k 0) < n
 
 module _ (fronts backs : List ℕ) where
   -- a wire that keeps the face rule

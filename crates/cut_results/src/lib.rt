@@ -7,13 +7,14 @@ ghost use lib.ListN.{drop, length, take};
 ghost use lib.Seq.{sets};
 ghost use Rattle.lists.specs.Lists.{flat};
 ghost use Rattle.wire.specs.Wires.{Named};
-ghost use Rattle.cut_results.specs.Results.{cutAfter, cutTwo, Ends, firstOf, keeps, secondOf, UsesOf};
+ghost use Rattle.cut_results.specs.Results.{cutAfter, cutTwo, PointEnds, firstOf, keeps, secondOf};
+ghost use Rattle.edge.specs.Uses.{EdgesBelow};
 use edit_answers::FaceAnswer;
 use edit_answers::FaceEditError;
 use errors::WireCheck;
 use listing::put_turned;
 use wire::check_wire;
-use wire::put_uses;
+use words::copy_u16s;
 
 // Writes the two results one after the other: the outline's first k uses and the wire, the rest and
 // the wire turned.
@@ -27,9 +28,9 @@ fn put_two(along: &[u16], k: usize, wire: &[u16], out: &mut [u16])
     let rest = &along[k..n];
     let next = k + m;
     let last = n + m;
-    put_uses(part, out, 0);
-    put_uses(wire, out, k);
-    put_uses(rest, out, next);
+    copy_u16s(part, out, 0);
+    copy_u16s(wire, out, k);
+    copy_u16s(rest, out, next);
     put_turned(out, last, wire);
 }
 
@@ -78,7 +79,7 @@ fn write_two(
     if lens.len() < 2 {
         return FaceAnswer::Not(FaceEditError::NoSpace);
     }
-    put_uses(&both[0..all], uses, 0);
+    copy_u16s(&both[0..all], uses, 0);
     lens[0] = n as u16;
     lens[1] = (all - n) as u16;
     FaceAnswer::Written(all, 2)
@@ -96,9 +97,9 @@ pub fn cut_after(
     lens: &mut [u16],
 ) -> FaceAnswer
     requires { ⌜ (k ≤ length (now along)) × (length (now along) ≤ 4096) ⌝ }
-    requires { ⌜ Ends (now fronts) (now backs) ⌝ }
-    requires { ⌜ UsesOf (length (now fronts)) (now along) ⌝ }
-    requires { ⌜ UsesOf (length (now fronts)) (now wire) ⌝ }
+    requires { ⌜ PointEnds (now fronts) (now backs) ⌝ }
+    requires { ⌜ EdgesBelow (length (now fronts)) (now along) ⌝ }
+    requires { ⌜ EdgesBelow (length (now fronts)) (now wire) ⌝ }
     ensures { λ r. ⌜ r ≡ cutAfter (now (fronts .entry)) (now (backs .entry)) (now (along .entry)) k (now (wire .entry)) (length (now (uses .entry))) (length (now (lens .entry))) .answer ⌝ }
     ensures { λ _. ⌜ now (uses .exit) ≡ sets (now (uses .entry)) 0 (flat (cutAfter (now (fronts .entry)) (now (backs .entry)) (now (along .entry)) k (now (wire .entry)) (length (now (uses .entry))) (length (now (lens .entry))) .out)) ⌝ }
     ensures { λ _. ⌜ now (lens .exit) ≡ sets (now (lens .entry)) 0 (map length (cutAfter (now (fronts .entry)) (now (backs .entry)) (now (along .entry)) k (now (wire .entry)) (length (now (uses .entry))) (length (now (lens .entry))) .out)) ⌝ }

@@ -15,7 +15,7 @@ use Rattle.lists.proofs.Sets.{sets-append}
 use Rattle.lists.proofs.Split.{Walk, walk-next, walk-start}
 use Rattle.lists.specs.Lists.{flat, pick, split}
 use Rattle.shell_edits.specs.Edits.{cutWire, eachWire, halvesOf, swapFound}
-use Rattle.wire.specs.Swaps.{sameEnds, swapEdge}
+use Rattle.wire_swaps.specs.Swaps.{sameEnds, swapEdge}
 use Rattle.wire.specs.Wires.{findFrom}
 use Rattle.wire.specs.declared.Found.{Found}
 use Rattle.wire.specs.declared.Found.the-variants.{At, Nothing}

@@ -12,8 +12,8 @@ ghost use Rattle.cut_wires.specs.Halves.{cutFlagged, Halved};
 use edge::EdgeID;
 use wire::Found;
 use wire::find_use;
-use wire::put_uses;
 use wire::swap_edge_into_wire;
+use words::copy_u16s;
 use words::index;
 
 // The uses of the halves: edges a and a + 1, for a use along the edge or reversed.
@@ -59,7 +59,7 @@ fn put_wire(
     let found = find_flagged(uses, flag, e);
     match found {
         Found::Nothing => {
-            put_uses(uses, out, at);
+            copy_u16s(uses, out, at);
             uses.len()
         }
         Found::At(i) => {

@@ -15,23 +15,12 @@ ghost use Rattle.writer.specs.Writing.{writeAnswer, writeBytes};
 ghost use Rattle.edited_file.specs.EditedFile.{editedFile};
 use edge::Edge;
 use file_table::counts_of;
+use output::put_text;
 use pattern_file::starts_of;
 use writer::Written;
 use writer::put_edge;
 use writer::put_table;
 use writer::put_u16s;
-
-// Writes the bytes from `at` on.
-fn put_bytes(out: &mut [u8], at: usize, s: &[u8])
-    requires { ⌜ at + length (now s) ≤ length (now out) ⌝ }
-    ensures { λ _. ⌜ now (out .exit) ≡ sets (now (out .entry)) at (now (s .entry)) ⌝ }
-{
-    let mut i: usize = 0;
-    while i < s.len() {
-        out[at + i] = s[i];
-        i += 1;
-    }
-}
 
 // Writes the first `more` of two edges from `at` on.
 fn put_new(out: &mut [u8], at: usize, a: Edge, b: Edge, more: usize)
@@ -72,11 +61,11 @@ fn put_parts(
     let old = starts[2];
     let kept = starts[4];
     put_table(out, counts, places);
-    put_bytes(out, 56, &s[56..old]);
+    put_text(out, 56, &s[56..old]);
     put_new(out, old, a, b, more);
     put_u16s(out, places[2], uses, used);
     put_u16s(out, places[3], wires, wired);
-    put_bytes(out, places[4], &s[kept..s.len()]);
+    put_text(out, places[4], &s[kept..s.len()]);
 }
 
 // Writes the file of a pattern that has the first `more` of two new edges, the first `used` of these

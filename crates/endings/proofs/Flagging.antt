@@ -12,7 +12,7 @@ use Rattle.lists.proofs.Laws.{Filling, cases, eqb-sym, filling-next, filling-pa
 use Rattle.lists.proofs.Split.{Walk, walk-next, walk-part, walk-start}
 use Rattle.lists.specs.Lists.{has, padded, split, tabulate, only}
 use Rattle.endings.specs.Endings.{endsAt, flagged}
-use Rattle.wire.specs.Swaps.{endFrom}
+use Rattle.wire.specs.Wires.{endFrom}
 use Rattle.wire.specs.declared.Found.{Found}
 use Rattle.wire.specs.declared.Found.the-variants.{At, Nothing}
 use Rattle.lists.proofs.Count.{All}

@@ -5,12 +5,11 @@ use mathlib.Core.Path.{_≡_}
 use lib.ListN.{getD, length, replicate}
 use lib.Seq.{sets}
 use Rattle.lists.specs.Lists.{flat}
-use Rattle.edge.specs.Uses.{frontOf}
+use Rattle.edge.specs.Uses.{EdgesBelow, frontOf}
 use Rattle.wire.specs.Wires.{Named}
 use Rattle.shell.specs.Openings.{Walk, isFree}
 use Rattle.condition.specs.declared.Tally.{Tally}
-use Rattle.condition.specs.Tallies.{EdgesBelow}
-use Rattle.listing.specs.Parts.{Shows, partAt, partsOf}
+use Rattle.listing.specs.Parts.{Shows, partAt}
 use Rattle.openings.specs.declared.Walked.{Walked}
 use Rattle.openings.specs.Passes.{isOdd}
 

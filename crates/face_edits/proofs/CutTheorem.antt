@@ -19,7 +19,7 @@ use Rattle.pattern.specs.Contents.{Content}
 use Rattle.shell.specs.Openings.{backIn, frontIn}
 use Rattle.shell_edits.proofs.Remove.{place}
 use Rattle.shell_edits.specs.Edits.{placeIn}
-use Rattle.wire.specs.Swaps.{endFrom}
+use Rattle.wire.specs.Wires.{endFrom}
 
 -- a list rotated has the same elements
 module _ {ℓ} {A : Type ℓ} (i : ℕ) (xs : List A) where

@@ -13,10 +13,8 @@ use Rattle.edit_answers.specs.declared.FaceEditError.the-variants.{EmptyWire, E
 use Rattle.errors.specs.declared.Refusal.{Refusal}
 use Rattle.errors.specs.declared.WireError.{WireError}
 use Rattle.errors.specs.declared.WireError.the-variants.{EmptyWire as Wire·Empty, NotClosedWire as Wire·NotClosed, NotSimpleWire as Wire·NotSimple}
-use Rattle.wire.specs.Wires.{points, wireFaults}
-use Rattle.wire.specs.Swaps.{endFrom}
+use Rattle.wire.specs.Wires.{endFrom, points, wireFaults}
 use Rattle.face.specs.Faces.{faceFaults}
-use Rattle.face.specs.declared.Face.{Face}
 use Rattle.pattern.specs.Checks.{outlines}
 use Rattle.pattern.specs.Contents.{Content, zeroFace}
 use Rattle.shell.specs.Openings.{Kept, backIn, chain, frontIn, keep}
@@ -32,9 +30,12 @@ boundaries c f = getD (outlines c) (faceNumber f) []
 abbrev pub isFace : Content → ℕ → Bool
 isFace c f = ltb (faceNumber f) (length (c .faces))
 
--- each use names an edge
+-- each use names one of n edges
+abbrev pub nameEdges : List ℕ → ℕ → Bool
+nameEdges us n = eqb (count (λ (u : ℕ). ltb (edgeNumber u) n) us) (length us)
+
 abbrev pub areUses : Content → List ℕ → Bool
-areUses c us = eqb (count (λ (u : ℕ). ltb (edgeNumber u) (length (c .edges))) us) (length us)
+areUses c us = nameEdges us (length (c .edges))
 
 -- the numbers of the edges' ends
 abbrev pub frontsIn : Content → List ℕ

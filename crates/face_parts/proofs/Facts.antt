@@ -11,9 +11,9 @@ use borrow.Author.Tests.{eqb-true, ltb-true}
 use Rattle.edge.specs.Edges.{backNumber, frontNumber}
 use Rattle.edge.specs.Uses.{edgeNumber}
 use Rattle.face.specs.Faces.{wireCount}
-use Rattle.face_edits.specs.FaceEdits.{areUses, backsIn, boundaries, frontsIn}
+use Rattle.face_edits.specs.FaceEdits.{areUses, backsIn, boundaries, frontsIn, nameEdges}
 use Rattle.face_parts.proofs.Laws.{all-pass, part-taken, split-lengths}
-use Rattle.face_parts.specs.Parts.{nameEdges, partIn}
+use Rattle.face_parts.specs.Parts.{partIn}
 use Rattle.lists.proofs.Count.{All}
 use Rattle.lists.proofs.Laws.{length-split, map-take, sum-next, sum-take-drop}
 use Rattle.lists.proofs.Parts.{all-place, flat-split}

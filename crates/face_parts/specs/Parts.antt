@@ -1,13 +1,10 @@
 -- Where the wires and the uses of a face stand.
 use Prim.Native.Nat.{ℕ}
-use mathlib.Core.Bool.{Bool}
 use mathlib.Core.List.{List, map}
-use lib.Dec.{eqb, ltb}
-use lib.ListN.{drop, getD, length, take}
+use lib.ListN.{drop, getD, take}
 use Rattle.edge.specs.Edges.{backNumber, frontNumber}
-use Rattle.edge.specs.Uses.{edgeNumber}
 use Rattle.face.specs.Faces.{wireCount}
-use Rattle.lists.specs.Lists.{count, sum}
+use Rattle.lists.specs.Lists.{sum}
 use Rattle.pattern.specs.declared.Pattern.{Pattern}
 use Rattle.shell.specs.Shells.{faceNumber}
 use Rattle.face_parts.specs.declared.FaceColumns.{FaceColumns}
@@ -25,10 +22,6 @@ partOf counts lens f = record {
 -- the part of a face given with a sign, in storage
 abbrev pub partIn : Pattern → ℕ → FacePart
 partIn p f = partOf (map wireCount (p .faces)) (p .wires) (faceNumber f)
-
--- each use names one of n edges
-abbrev pub nameEdges : List ℕ → ℕ → Bool
-nameEdges us n = eqb (count (λ (u : ℕ). ltb (edgeNumber u) n) us) (length us)
 
 abbrev pub faceColumns : Pattern → FaceColumns
 faceColumns p = record { fronts = map frontNumber (p .edges); backs = map backNumber (p .edges); counts = map wireCount (p .faces) }

@@ -21,7 +21,7 @@ use Rattle.lists.specs.Lists.{padded, tabulate}
 use Rattle.pattern.proofs.Columns.{checkable, content-columns}
 use Rattle.pattern.proofs.Edges.{edge-faults, edge-refused}
 use Rattle.pattern.specs.Checks.{Checkable, columnFaults, contentFaults, edgeFaults}
-use Rattle.pattern.specs.Contents.{Content, content, layout, stored, zeroEdge, zeroFace}
+use Rattle.pattern.specs.Contents.{Content, layout, stored, zeroEdge, zeroFace}
 use Rattle.pattern.specs.declared.Pattern.{Pattern}
 use Rattle.pattern_file.proofs.RoundTrip.{content-of-stored}
 use Rattle.pattern_file.specs.File.{edgeAt, faceAt, fileContent, fileCounts, fileFaults, records, startOf, tableFaults}

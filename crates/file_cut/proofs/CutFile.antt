@@ -1,7 +1,7 @@
 -- A cut of a file: what is answered and written is what the pattern of the file would give.
 use Prim.Native.Nat.{_+_, _<_, _≤_, ℕ}
 use mathlib.Core.Bool.{_&&_, false, true}
-use mathlib.Core.List.{List, [], _∷_, map}
+use mathlib.Core.List.{List, [], map}
 use mathlib.Core.Path.{_∙_, _≡_, ap, sym}
 use native.Mathlib.Omega.{arith}
 use lib.Dec.{ltb}
@@ -13,7 +13,7 @@ use Rattle.curve.specs.declared.Halves.{Halves}
 use Rattle.curve.specs.declared.Halves.the-variants.{Both}
 use Rattle.curve.specs.declared.Parameter.{Parameter}
 use Rattle.cut_edge.proofs.Answer.{after-fine, all-here, answer-cut, done-is, names, parted-are, refused-not, rooms, unnamed, wires-long}
-use Rattle.cut_edge.specs.Cutting.{CutOn, cuttingOf}
+use Rattle.cut_edge.specs.Cutting.{CutOn}
 use Rattle.cut_edge.specs.declared.Cutting.{Cutting}
 use Rattle.cut_edge.specs.declared.Cutting.the-variants.{Not as Cutting·Not, Parted}
 use Rattle.edge.specs.Edges.{edge, isSpan}
@@ -24,7 +24,6 @@ use Rattle.edit_answers.specs.declared.CutAnswer.{CutAnswer}
 use Rattle.edit_answers.specs.declared.CutAnswer.the-variants.{Cut, Not, Refused}
 use Rattle.edit_answers.specs.declared.EditError.{EditError}
 use Rattle.edit_answers.specs.declared.EditError.the-variants.{Unnamed}
-use Rattle.edited_file.proofs.Counted.{table-right}
 use Rattle.edited_file.specs.EditedFile.{editedFile}
 use Rattle.errors.specs.declared.Refusal.{Refusal}
 use Rattle.lists.proofs.Laws.{left-true, right-true}

@@ -1,5 +1,5 @@
 -- A removal from a file: what is answered and written is what the pattern of the file would give.
-use Prim.Native.Nat.{_+_, _<_, _≤_, ℕ}
+use Prim.Native.Nat.{_<_, _≤_, ℕ}
 use mathlib.Core.Bool.{true}
 use mathlib.Core.List.{List, [], _∷_, map}
 use mathlib.Core.Path.{_∙_, _≡_, ap, refl, sym}

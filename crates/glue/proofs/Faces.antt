@@ -35,7 +35,7 @@ use Rattle.shell.specs.Openings.{Kept}
 use Rattle.shell.specs.Shells.{faceNumber}
 use Rattle.shell_edits.proofs.Remove.{end-named}
 use Rattle.shell_wires.proofs.Facts.{Fine, backs-long, fronts-long, records-fine}
-use Rattle.glue_walk.specs.Walks.{Columns, Within}
+use Rattle.glue_walk.specs.Walks.{Columns, PartFits}
 use Rattle.glue_wires.specs.Glues.{Shown, Wrote, restFaults}
 
 module _ (p : Pattern) (s : Fine p) where
@@ -64,7 +64,7 @@ module _ (p : Pattern) (s : Fine p) where
   columns-here = record { begin = fronts-first p s; end = backs-first p s }
 
   module _ (f : ℕ) (here : faceNumber f < faces) where
-    pub part-within : Within fronts backs points (partUses p s f here)
+    pub part-within : PartFits fronts backs points (partUses p s f here)
     part-within = record {
       ends = record { alike = backs-count ∙ sym fronts-count; few = omega (arith, fronts-count, s .limits .edges) };
       each = λ k h.
@@ -102,8 +102,8 @@ module _ (p : Pattern) (s : Fine p) (cols : FaceColumns) (e : cols ≡ faceColum
 
   module _ (f g : ℕ) (x : faceNumber f < getD (p .counts) 4 0) (y : faceNumber g < getD (p .counts) 4 0) (a b : FacePart) (ea : a ≡ partIn p f) (eb : b ≡ partIn p g) where
     pub places-asked : ((points p s ≤ 2048) × (edges p s ≤ length (cols .fronts)) × (edges p s ≤ length (cols .backs)) × (a .at + a .uses ≤ length (p .uses)) × (b .at + b .uses ≤ length (p .uses)) × (length (p .uses) ≤ 4096))
-        × (Within (take (edges p s) (cols .fronts)) (take (edges p s) (cols .backs)) (points p s) (take (a .uses) (drop (a .at) (p .uses)))
-        × Within (take (edges p s) (cols .fronts)) (take (edges p s) (cols .backs)) (points p s) (take (b .uses) (drop (b .at) (p .uses))))
+        × (PartFits (take (edges p s) (cols .fronts)) (take (edges p s) (cols .backs)) (points p s) (take (a .uses) (drop (a .at) (p .uses)))
+        × PartFits (take (edges p s) (cols .fronts)) (take (edges p s) (cols .backs)) (points p s) (take (b .uses) (drop (b .at) (p .uses))))
     places-asked =
         rw (e, ea, eb) (
           (

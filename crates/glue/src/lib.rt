@@ -11,7 +11,7 @@ ghost use Rattle.pattern.specs.Checks.{patternFaults};
 ghost use Rattle.pattern.specs.Contents.{content, Content};
 ghost use Rattle.shell.specs.Shells.{faceNumber};
 ghost use Rattle.glue_wires.specs.Glues.{restFaults, Shown, Wrote};
-ghost use Rattle.glue_walk.specs.Walks.{Within};
+ghost use Rattle.glue_walk.specs.Walks.{PartFits};
 use edit_answers::FaceAnswer;
 use edit_answers::FaceEditError;
 use errors::Check;
@@ -36,8 +36,8 @@ fn glue_places(
     lens: &mut [u16],
 ) -> FaceAnswer
     requires { ⌜ (points ≤ 2048) × (edges ≤ length (now fronts)) × (edges ≤ length (now backs)) × (a .at + a .uses ≤ length (now all)) × (b .at + b .uses ≤ length (now all)) × (length (now all) ≤ 4096) ⌝ }
-    requires { ⌜ Within (take edges (now fronts)) (take edges (now backs)) points (take (a .uses) (drop (a .at) (now all))) ⌝ }
-    requires { ⌜ Within (take edges (now fronts)) (take edges (now backs)) points (take (b .uses) (drop (b .at) (now all))) ⌝ }
+    requires { ⌜ PartFits (take edges (now fronts)) (take edges (now backs)) points (take (a .uses) (drop (a .at) (now all))) ⌝ }
+    requires { ⌜ PartFits (take edges (now fronts)) (take edges (now backs)) points (take (b .uses) (drop (b .at) (now all))) ⌝ }
     ensures { λ r. ⌜ ((c : Content) (f g : ℕ) → Shown c f g (take edges (now (fronts .entry))) (take edges (now (backs .entry))) (take (a .uses) (drop (a .at) (now (all .entry)))) (take (b .uses) (drop (b .at) (now (all .entry)))) points → Wrote (restFaults c (meeting c f g) (length (now (uses .entry))) (length (now (lens .entry)))) (glued c f g) (now (uses .entry)) (now (lens .entry)) (now (uses .exit)) (now (lens .exit)) r) ⌝ }
 {
     let mut kept = [65535u16; 2048];

@@ -10,9 +10,9 @@ use Rattle.edge.specs.Uses.{backOf, edgeNumber, frontOf}
 use Rattle.openings.proofs.Slots.{holding-in, slot-some, slots-set}
 use Rattle.openings.specs.Slots.{Holding, slots}
 use Rattle.shell.specs.Openings.{keep}
-use Rattle.glue_walk.specs.Walks.{Ends, Fits, Within}
+use Rattle.glue_walk.specs.Walks.{EndColumns, Fits, PartFits}
 
-module _ (fronts backs : List ℕ) (e : Ends fronts backs) (points u : ℕ) (f : Fits fronts backs points u) where
+module _ (fronts backs : List ℕ) (e : EndColumns fronts backs) (points u : ℕ) (f : Fits fronts backs points u) where
   pub edge-named : (edgeNumber u < length fronts) × (edgeNumber u < length backs)
   edge-named = (f .edge, omega (arith, f .edge, e .alike))
 
@@ -26,7 +26,7 @@ pub record Keeping (fronts backs part kept₀ kept : List ℕ) (i : ℕ) : Type 
   pub long : length kept ≡ length kept₀
   pub holding : Holding fronts backs kept
 
-module _ (fronts backs part kept₀ : List ℕ) (g : Within fronts backs (length kept₀) part) where
+module _ (fronts backs part kept₀ : List ℕ) (g : PartFits fronts backs (length kept₀) part) where
   pub keeping-start : Holding fronts backs kept₀ → Keeping fronts backs part kept₀ kept₀ 0
   keeping-start h = record { low = omega arith; same = refl; long = refl; holding = h }
 

@@ -18,7 +18,7 @@ use Rattle.openings.proofs.Slots.{holding-in, holding-out, slot-none, slot-some
 use Rattle.openings.specs.Slots.{Holding, slot, slots}
 use Rattle.pattern.specs.Contents.{Content}
 use Rattle.shell.specs.Openings.{backIn, frontIn}
-use Rattle.glue_walk.specs.Walks.{Columns, Ends, Fits, Within, metAs}
+use Rattle.glue_walk.specs.Walks.{Columns, EndColumns, Fits, PartFits, metAs}
 use Rattle.glue_walk.proofs.Keeping.{no-mark}
 
 -- u has been met, with this answer, and these are kept after it
@@ -33,7 +33,7 @@ module _ (c : Content) (fronts backs : List ℕ) (col : Columns c fronts backs) 
   pub back-is : backIn c u ≡ backOf fronts backs u
   back-is = rw (col .begin, col .end)
 
-module _ (fronts backs kept : List ℕ) (u : ℕ) (s : Ends fronts backs) (f : Fits fronts backs (length kept) u) (h : Holding fronts backs kept)
+module _ (fronts backs kept : List ℕ) (u : ℕ) (s : EndColumns fronts backs) (f : Fits fronts backs (length kept) u) (h : Holding fronts backs kept)
     (a b : ℕ) (ea : a ≡ frontOf fronts backs u) (eb : b ≡ backOf fronts backs u) where
   pub front-place : a < length kept
   front-place = rw ea (f .front)
@@ -130,7 +130,7 @@ pub record Meeting (fronts backs part kept₀ kept : List ℕ) (i : ℕ) : Type 
   pub long : length kept ≡ length kept₀
   pub holding : Holding fronts backs kept
 
-module _ (fronts backs part kept₀ : List ℕ) (g : Within fronts backs (length kept₀) part) where
+module _ (fronts backs part kept₀ : List ℕ) (g : PartFits fronts backs (length kept₀) part) where
   pub meeting-start : Holding fronts backs kept₀ → Meeting fronts backs part kept₀ kept₀ 0
   meeting-start h = record { low = omega arith; same = λ c col. refl; long = refl; holding = h }
 

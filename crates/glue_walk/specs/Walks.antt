@@ -23,13 +23,13 @@ pub record Fits (fronts backs : List ℕ) (points u : ℕ) : Type 0 where
   pub back : backOf fronts backs u < points
 
 -- the columns of ends; with 1,024 edges no use is 65,535
-pub record Ends (fronts backs : List ℕ) : Type 0 where
+pub record EndColumns (fronts backs : List ℕ) : Type 0 where
   pub alike : length backs ≡ length fronts
   pub few : length fronts ≤ 1024
 
 -- a part whose uses can be kept
-pub record Within (fronts backs : List ℕ) (points : ℕ) (part : List ℕ) : Type 0 where
-  pub ends : Ends fronts backs
+pub record PartFits (fronts backs : List ℕ) (points : ℕ) (part : List ℕ) : Type 0 where
+  pub ends : EndColumns fronts backs
   pub each : (k : ℕ) → k < length part → Fits fronts backs points (getD part k 0)
 
 -- a pattern whose edges have these ends

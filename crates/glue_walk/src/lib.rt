@@ -12,10 +12,11 @@ ghost use Rattle.lists.specs.Lists.{numbers};
 ghost use Rattle.openings.specs.Slots.{Holding, slots};
 ghost use Rattle.pattern.specs.Contents.{Content};
 ghost use Rattle.shell.specs.Openings.{backIn, keep};
-ghost use Rattle.glue_walk.specs.Walks.{Columns, Ends, Fits, Laid, metAs, nothing, outlineAt, Room, Within};
+ghost use Rattle.glue_walk.specs.Walks.{Columns, EndColumns, Fits, Laid, metAs, nothing, outlineAt, Room, PartFits};
 use edge::back_of;
 use edge::front_of;
 use openings::follow_from;
+use openings::keep_at;
 
 // How many uses and how many wires have been written.
 pub struct Chained {
@@ -23,17 +24,9 @@ pub struct Chained {
     pub wires: usize,
 }
 
-// Keeps use u at point p, and no more the one before it.
-fn keep_at(kept: &mut [u16], p: usize, u: u16)
-    requires { ⌜ p < length (now kept) ⌝ }
-    ensures { λ _. ⌜ now (kept .exit) ≡ set (now (kept .entry)) p u ⌝ }
-{
-    kept[p] = u;
-}
-
 // Keeps the uses of the part, each at its front, in sequence.
 pub fn keep_face(kept: &mut [u16], part: &[u16], fronts: &[u16], backs: &[u16])
-    requires { ⌜ Within (now fronts) (now backs) (length (now kept)) (now part) ⌝ }
+    requires { ⌜ PartFits (now fronts) (now backs) (length (now kept)) (now part) ⌝ }
     requires { ⌜ Holding (now fronts) (now backs) (now kept) ⌝ }
     ensures { λ _. ⌜ slots (now (kept .exit)) ≡ keep (frontOf (now (fronts .entry)) (now (backs .entry))) (backOf (now (fronts .entry)) (now (backs .entry))) (now (part .entry)) (slots (now (kept .entry))) ⌝ }
     ensures { λ _. ⌜ Holding (now (fronts .entry)) (now (backs .entry)) (now (kept .exit)) ⌝ }
@@ -61,7 +54,7 @@ fn ends_at(v: u16, a: usize, fronts: &[u16], backs: &[u16]) -> bool
 // One use of the second face. If one kept at its back ends at its front, both go when the edge is
 // the same, else false; otherwise the use is kept at its front.
 fn meet_use(kept: &mut [u16], u: u16, fronts: &[u16], backs: &[u16]) -> bool
-    requires { ⌜ Ends (now fronts) (now backs) ⌝ }
+    requires { ⌜ EndColumns (now fronts) (now backs) ⌝ }
     requires { ⌜ Fits (now fronts) (now backs) (length (now kept)) u ⌝ }
     requires { ⌜ Holding (now fronts) (now backs) (now kept) ⌝ }
     ensures { λ r. ⌜ ((c : Content) → Columns c (now (fronts .entry)) (now (backs .entry)) → meet c u (getD (slots (now (kept .entry))) (backIn c u) none) (slots (now (kept .entry))) ≡ metAs r (slots (now (kept .exit)))) ⌝ }
@@ -83,7 +76,7 @@ fn meet_use(kept: &mut [u16], u: u16, fronts: &[u16], backs: &[u16]) -> bool
 
 // The uses of the second face, in sequence; false at the first that cannot be met.
 pub fn meet_all(kept: &mut [u16], part: &[u16], fronts: &[u16], backs: &[u16]) -> bool
-    requires { ⌜ Within (now fronts) (now backs) (length (now kept)) (now part) ⌝ }
+    requires { ⌜ PartFits (now fronts) (now backs) (length (now kept)) (now part) ⌝ }
     requires { ⌜ Holding (now fronts) (now backs) (now kept) ⌝ }
     ensures { λ r. ⌜ ((c : Content) → Columns c (now (fronts .entry)) (now (backs .entry)) → meetAll c (now (part .entry)) (slots (now (kept .entry))) ≡ metAs r (slots (now (kept .exit)))) ⌝ }
     ensures { λ _. ⌜ Holding (now (fronts .entry)) (now (backs .entry)) (now (kept .exit)) ⌝ }

@@ -14,7 +14,7 @@ use Rattle.lists.specs.Lists.{flat, pick}
 use Rattle.pattern.specs.Contents.{Content}
 use Rattle.shell.specs.Openings.{Found, Kept, backIn, chain, follow, frontIn, keep, lookUp}
 use Rattle.wire.specs.Wires.{Named}
-use Rattle.glue_walk.specs.Walks.{Ends, Fits, Within}
+use Rattle.glue_walk.specs.Walks.{EndColumns, Fits, PartFits}
 
 module _ (P : ℕ → Type 0) where
   abbrev pub Every : Kept → Type 0
@@ -90,10 +90,10 @@ module _ (P : ℕ → Type 0) where
           all-append P (r .opening) (flat (chained c ps (r .kept))) (e .0) (more (r .kept) (e .1))
 
 module _ (fronts backs : List ℕ) (points : ℕ) where
-  pub all-within : (part : List ℕ) → Within fronts backs points part → All (Fits fronts backs points) part
+  pub all-within : (part : List ℕ) → PartFits fronts backs points part → All (Fits fronts backs points) part
   all-within part g = all-each (Fits fronts backs points) 0 part (g .each)
 
-  pub named : (us : List ℕ) → Ends fronts backs → points ≤ 2048 → All (Fits fronts backs points) us → Named fronts backs us
+  pub named : (us : List ℕ) → EndColumns fronts backs → points ≤ 2048 → All (Fits fronts backs points) us → Named fronts backs us
   named us e l a = record {
     alike = e .alike;
     edge = λ k h. all-place (Fits fronts backs points) 0 us a k h .edge;

@@ -35,7 +35,7 @@ use Rattle.shell.specs.Openings.{Kept, keep}
 use Rattle.shell_edits.proofs.Accepted.{sum-lengths}
 use Rattle.wire.specs.Wires.{Named}
 use Rattle.glue_walk.specs.declared.Chained.{Chained}
-use Rattle.glue_walk.specs.Walks.{Columns, Ends, Fits, Laid, Room, Within, metAs, nothing}
+use Rattle.glue_walk.specs.Walks.{Columns, EndColumns, Fits, Laid, Room, PartFits, metAs, nothing}
 use Rattle.glue_wires.specs.Glues.{EachFits, Shown, Wrote, lastFaults, restFaults}
 use Rattle.glue_wires.proofs.Every.{Every, all-within, chained-every, every-bare, keep-every, meet-every, named}
 
@@ -211,7 +211,7 @@ module _ (ws : List (List ℕ)) (fronts backs kept out₀ lens₀ out lens : Lis
   lengths-lent = lengths-stand ∙ sym (first-part (w .wires) lens)
 
 -- what is judged of all that is kept: the uses are named, the lengths have their sum
-module _ (fronts backs kept out₀ lens₀ kept′ out lens : List ℕ) (w : Chained) (points : ℕ) (s : Ends fronts backs) (few : points ≤ 2048) (each : EachFits fronts backs points (slots kept))
+module _ (fronts backs kept out₀ lens₀ kept′ out lens : List ℕ) (w : Chained) (points : ℕ) (s : EndColumns fronts backs) (few : points ≤ 2048) (each : EachFits fronts backs points (slots kept))
     (a : (c : Content) → Columns c fronts backs → Laid (chained c (numbers (length kept)) (slots kept)) out₀ lens₀ nothing out lens w)
     (r : Room fronts backs kept′ out lens w) where
   abbrev some-wires : List (List ℕ)
@@ -259,7 +259,7 @@ put-end out₀ out from i h e = rw (take-all i from h) at e
 -- ---- the two faces
 
 -- nothing is kept
-pub bare-start : (fronts backs kept : List ℕ) → kept ≡ replicate (length kept) 65535 → Ends fronts backs → Holding fronts backs kept
+pub bare-start : (fronts backs kept : List ℕ) → kept ≡ replicate (length kept) 65535 → EndColumns fronts backs → Holding fronts backs kept
 bare-start fronts backs kept bare e = go (length kept) bare
   where
     go : (n : ℕ) → kept ≡ replicate n 65535 → Holding fronts backs kept
@@ -284,7 +284,7 @@ module _ (fronts backs first second kept₀ kept₁ kept₂ : List ℕ) (n : ℕ
 
   module _ (e : r ≡ true) (l : length kept₂ ≡ n) where
     -- each that is kept can be
-    pub each-kept : Within fronts backs n first → Within fronts backs n second → EachFits fronts backs (length kept₂) (slots kept₂)
+    pub each-kept : PartFits fronts backs n first → PartFits fronts backs n second → EachFits fronts backs (length kept₂) (slots kept₂)
     each-kept a b =
         let P : ℕ → Type 0 = Fits fronts backs n in
         let bare-each : Every P (slots kept₀) = rw slots-first (every-bare P n) in
@@ -301,5 +301,5 @@ module _ (fronts backs first second kept₀ kept₁ kept₂ : List ℕ) (n : ℕ
         let z : length kept₂ ≡ length (c .points) = l ∙ sym (s .all) in
         is-rest c (meeting c f g) us ls (length us) (length ls) (slots kept₂) (meeting-is c f g s ∙ ap (λ (b : Bool). metAs b (slots kept₂)) e) us′ ls′ a (rw z at (w c (s .columns)))
 
-pub within-as : (fs bs us fs′ bs′ us′ : List ℕ) (n n′ : ℕ) → fs′ ≡ fs → bs′ ≡ bs → n′ ≡ n → us′ ≡ us → Within fs bs n us → Within fs′ bs′ n′ us′
+pub within-as : (fs bs us fs′ bs′ us′ : List ℕ) (n n′ : ℕ) → fs′ ≡ fs → bs′ ≡ bs → n′ ≡ n → us′ ≡ us → PartFits fs bs n us → PartFits fs′ bs′ n′ us′
 within-as fs bs us fs′ bs′ us′ n n′ a b c d w = rw (a, b, c, d) w

@@ -11,7 +11,7 @@ ghost use Rattle.lists.specs.Lists.{flat, numbers, split, sum};
 ghost use Rattle.openings.specs.Slots.{Holding, slots};
 ghost use Rattle.pattern.specs.Contents.{Content};
 ghost use Rattle.wire.specs.Wires.{Named};
-ghost use Rattle.glue_walk.specs.Walks.{Columns, Ends, Within};
+ghost use Rattle.glue_walk.specs.Walks.{Columns, EndColumns, PartFits};
 ghost use Rattle.glue_wires.specs.Glues.{EachFits, lastFaults, restFaults, Shown, Wrote};
 use edit_answers::FaceAnswer;
 use edit_answers::FaceEditError;
@@ -20,6 +20,7 @@ use face::check_faces;
 use glue_walk::chain_all;
 use glue_walk::keep_face;
 use glue_walk::meet_all;
+use words::copy_u16s;
 
 // Whether the wires break the face rule. They have these lengths and stand in `out` in sequence.
 fn breaks_rule(out: &[u16], parts: &[u16], fronts: &[u16], backs: &[u16]) -> bool
@@ -33,18 +34,6 @@ fn breaks_rule(out: &[u16], parts: &[u16], fronts: &[u16], backs: &[u16]) -> boo
     match answer {
         Check::Refused(_) => true,
         Check::Accepted => false,
-    }
-}
-
-// Writes a list from the first place on.
-fn put_all(out: &mut [u16], from: &[u16])
-    requires { ⌜ length (now from) ≤ length (now out) ⌝ }
-    ensures { λ _. ⌜ now (out .exit) ≡ sets (now (out .entry)) 0 (now (from .entry)) ⌝ }
-{
-    let mut i: usize = 0;
-    while i < from.len() {
-        out[i] = from[i];
-        i += 1;
     }
 }
 
@@ -73,8 +62,8 @@ fn judge_wires(
     if lens.len() < parts.len() {
         return FaceAnswer::Not(FaceEditError::NoSpace);
     }
-    put_all(uses, out);
-    put_all(lens, parts);
+    copy_u16s(out, uses, 0);
+    copy_u16s(parts, lens, 0);
     FaceAnswer::Written(out.len(), parts.len())
 }
 
@@ -86,7 +75,7 @@ fn write_kept(
     uses: &mut [u16],
     lens: &mut [u16],
 ) -> FaceAnswer
-    requires { ⌜ Ends (now fronts) (now backs) ⌝ }
+    requires { ⌜ EndColumns (now fronts) (now backs) ⌝ }
     requires { ⌜ Holding (now fronts) (now backs) (now kept) ⌝ }
     requires { ⌜ length (now kept) ≤ 2048 ⌝ }
     requires { ⌜ EachFits (now fronts) (now backs) (length (now kept)) (slots (now kept)) ⌝ }
@@ -110,8 +99,8 @@ pub fn glue_parts(
     uses: &mut [u16],
     lens: &mut [u16],
 ) -> FaceAnswer
-    requires { ⌜ Within (now fronts) (now backs) (length (now kept)) (now first) ⌝ }
-    requires { ⌜ Within (now fronts) (now backs) (length (now kept)) (now second) ⌝ }
+    requires { ⌜ PartFits (now fronts) (now backs) (length (now kept)) (now first) ⌝ }
+    requires { ⌜ PartFits (now fronts) (now backs) (length (now kept)) (now second) ⌝ }
     requires { ⌜ (now kept ≡ replicate (length (now kept)) 65535) × (length (now kept) ≤ 2048) ⌝ }
     ensures { λ r. ⌜ ((c : Content) (f g : ℕ) → Shown c f g (now (fronts .entry)) (now (backs .entry)) (now (first .entry)) (now (second .entry)) (length (now (kept .entry))) → Wrote (restFaults c (meeting c f g) (length (now (uses .entry))) (length (now (lens .entry)))) (glued c f g) (now (uses .entry)) (now (lens .entry)) (now (uses .exit)) (now (lens .exit)) r) ⌝ }
 {

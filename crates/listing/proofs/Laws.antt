@@ -10,21 +10,20 @@ use lib.Seq.{drop-append-le, drop-at, length-take-le, take-add, take-append-le, 
 use borrow.Author.Tests.{eqb-true, ltb-true}
 use Rattle.edge.specs.Edges.{backNumber, frontNumber}
 use Rattle.edge.specs.Uses.{backOf, edgeNumber, frontOf, turned}
-use Rattle.errors.proofs.Laws.{each-record, none-left, none-right, unless-passes}
-use Rattle.errors.specs.Faults.{each}
-use Rattle.errors.specs.declared.Refusal.{Refusal}
+use Rattle.errors.proofs.Laws.{each-record, unless-passes}
 use Rattle.errors.specs.declared.Refusal.the-variants.{Unnamed}
 use Rattle.face.specs.Faces.{wireCount}
 use Rattle.listing.specs.Parts.{faceStart, turnedUses}
 use Rattle.lists.proofs.Parts.{all-flat, flat-split}
-use Rattle.lists.proofs.Count.{All, all-append, all-at, all-each, all-map, all-reverse, all-split, all-weaker}
+use Rattle.lists.proofs.Count.{All, all-at, all-each, all-map, all-reverse, all-split, all-weaker}
 use Rattle.lists.proofs.Flat.{getD-tabulate}
 use Rattle.lists.proofs.Laws.{flat-append, length-tabulate, sum-append, sum-next, sum-take-drop}
 use Rattle.lists.proofs.Marks.{AllBelow}
 use Rattle.lists.proofs.Split.{drop-split, getD-split, take-split}
 use Rattle.lists.specs.Lists.{flat, padded, pick, split, sum, tabulate}
+use Rattle.pattern.proofs.Passed.{records-passed}
 use Rattle.pattern.proofs.Named.{point-named, use-named, wires-summed}
-use Rattle.pattern.specs.Checks.{edgeFaults, nameFaults, outlines, recordFaults, sumFaults}
+use Rattle.pattern.specs.Checks.{nameFaults, outlines, recordFaults}
 use Rattle.pattern.specs.Contents.{Content}
 use Rattle.shell.proofs.Level.{IsUse}
 use Rattle.shell.proofs.Turned.{turned-edge, turned-front, turned-low}
@@ -171,31 +170,18 @@ module _ (c : Content) (ok : recordFaults c ≡ []) where
   shell-parts n =
       flat-flat (shownWires (outlines c)) (listingPart c) (listing-part (map wireCount (c .faces)) (c .wires) (c .uses) (wires-summed c ok)) (listingsOf c n)
 
-  abbrev checked-first : List Refusal
-  checked-first =
-      each (edgeFaults (length (c .points))) 0 (c .edges)
-      ++ each (nameFaults 2 (length (c .edges))) 0 (c .uses)
-      ++ sumFaults 3 (c .wires) (length (c .uses))
-      ++ sumFaults 4 (map wireCount (c .faces)) (length (c .wires))
-
-  abbrev shells-checked : List Refusal
-  shells-checked = sumFaults 5 (c .shells) (length (c .listings))
-
-  abbrev listings-checked : List Refusal
-  listings-checked = each (nameFaults 6 (length (c .faces))) 0 (c .listings)
-
   pub shells-summed : sum (c .shells) ≡ length (c .listings)
   shells-summed =
       eqb-true (sum (c .shells)) (length (c .listings))
       (unless-passes (eqb (sum (c .shells)) (length (c .listings))) (Unnamed 5 (length (c .shells)))
-      (none-right checked-first shells-checked (none-left (checked-first ++ shells-checked) listings-checked ok)))
+      (records-passed c ok .shells))
 
   pub listing-named : (k : ℕ) → k < length (c .listings) → faceNumber (getD (c .listings) k 0) < length (c .faces)
   listing-named k h =
       let l = getD (c .listings) k 0 in
       ltb-true (faceNumber l) (length (c .faces))
       (unless-passes (ltb (faceNumber l) (length (c .faces))) (Unnamed 6 (0 + k))
-      (each-record (nameFaults 6 (length (c .faces))) 0 0 (c .listings) (none-right (checked-first ++ shells-checked) listings-checked ok) k h))
+      (each-record (nameFaults 6 (length (c .faces))) 0 0 (c .listings) (records-passed c ok .listings) k h))
 
   -- the listings of a shell name faces
   pub listings-named : (n : ℕ) → All (λ (l : ℕ). faceNumber l < length (c .faces)) (listingsOf c n)

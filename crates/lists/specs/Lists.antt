@@ -30,6 +30,10 @@ unfoldable pub disjoint : List ℕ → List ℕ → Bool
 disjoint [] qs = true
 disjoint (p ∷ ps) qs = not (has p qs) && disjoint ps qs
 
+-- rotated left by one: after the last, the first
+abbrev pub rotated : List ℕ → List ℕ
+rotated ns = drop 1 ns ++ take 1 ns
+
 unfoldable pub sum : List ℕ → ℕ
 sum [] = 0
 sum (n ∷ ns) = n + sum ns

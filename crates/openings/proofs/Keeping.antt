@@ -1,7 +1,7 @@
 -- The uses of a part kept one after the other.
 use Prim.Native.Nat.{ℕ, _+_, _≤_, _<_}
 use mathlib.Core.Bool.{Bool, true, false}
-use mathlib.Core.List.{List, [], _∷_, _++_, append-assoc}
+use mathlib.Core.List.{List, [], _∷_, _++_}
 use mathlib.Core.Option.{some}
 use mathlib.Core.Path.{_∙_, _≡_, refl, sym}
 use native.Mathlib.Numerals.{add-one}
@@ -9,7 +9,7 @@ use native.Mathlib.Omega.{arith}
 use lib.ListN.{drop, drop-of-length-le, getD, length, length-set, set}
 use lib.Seq.{drop-cons}
 use Rattle.lists.proofs.Parts.{only-append}
-use Rattle.lists.specs.Lists.{only, pick}
+use Rattle.lists.specs.Lists.{only}
 use Rattle.edge.specs.Uses.{backOf, edgeNumber, frontOf}
 use Rattle.shell.specs.Openings.{Kept, keep}
 use Rattle.openings.specs.Slots.{Holding, slots}

@@ -99,7 +99,7 @@ pub fn follow_from(
 }
 
 // Keeps use u at point p, and no more the one before it.
-fn keep_at(kept: &mut [u16], p: usize, u: u16)
+pub fn keep_at(kept: &mut [u16], p: usize, u: u16)
     requires { ⌜ p < length (now kept) ⌝ }
     ensures { λ _. ⌜ now (kept .exit) ≡ set (now (kept .entry)) p u ⌝ }
 {

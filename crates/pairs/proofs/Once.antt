@@ -1,7 +1,7 @@
 -- Laws of `only` and `once`: the members, none of them twice, and one more at the end.
 use Prim.Native.Nat.{_≤_, ℕ}
 use mathlib.Core.Bool.{Bool, _&&_, _||_, and-false, false, not, true}
-use mathlib.Core.List.{List, [], _++_, _∷_, append-assoc}
+use mathlib.Core.List.{List, [], _++_, _∷_}
 use mathlib.Core.Logic.{⊎-elim}
 use mathlib.Core.Path.{_∙_, _≡_, refl, sym}
 use native.Mathlib.Omega.{arith}
@@ -10,7 +10,7 @@ use lib.ListN.{length}
 use borrow.Author.Tests.{eq-eqb, eqb-true}
 use Rattle.lists.proofs.Parts.{length-only, only-append}
 use Rattle.lists.proofs.Alike.{count-noDup, noDup-count}
-use Rattle.lists.proofs.Count.{All, all-only, count-length, count-only-le}
+use Rattle.lists.proofs.Count.{All, all-only, count-only-le}
 use Rattle.lists.proofs.Laws.{cases, eqb-sym, has-append}
 use Rattle.lists.specs.Lists.{has, noDup, once, only, pick, unless}
 

@@ -10,6 +10,7 @@ ghost use Rattle.lists.specs.Marks.{stamped};
 ghost use Rattle.listing.specs.Parts.{partAt, partsOf};
 ghost use Rattle.pairs.specs.Pairs.{Cleared, hasWiresAt, isNew, Listed, markOf, newPair, pairsIn, pairsOf, pairsWith, Parted, Showing};
 use listing::part_of;
+use words::copy_u16s;
 use words::index;
 
 // How many pairs a shell has, how many wires and how many uses they have in all.
@@ -112,12 +113,8 @@ fn put_part(out: &mut [u16], at: usize, part: &[u16]) -> usize
     ensures { λ _. ⌜ now (out .exit) ≡ sets (now (out .entry)) at (now (part .entry)) ⌝ }
     ensures { λ r. ⌜ r ≡ at + length (now (part .entry)) ⌝ }
 {
-    let mut i: usize = 0;
-    while i < part.len() {
-        out[at + i] = part[i];
-        i += 1;
-    }
-    at + i
+    copy_u16s(part, out, at);
+    at + part.len()
 }
 
 // Writes what the pairs show, one after the other, from the front on. Returns how many they are.

@@ -1,6 +1,7 @@
 pub mod Columns
 pub mod Laws
 pub mod Counts
+pub mod Passed
 pub mod Named
 pub mod Edges
 pub mod Outlines

@@ -1,12 +1,11 @@
 -- What records without fault say: uses name edges, edges name points, the sums are right.
 use Prim.Native.Nat.{_+_, _<_, _≤_, ℕ}
 use mathlib.Core.Bool.{_&&_, false, not, true}
-use mathlib.Core.List.{List, [], _++_, map}
+use mathlib.Core.List.{[], map}
 use mathlib.Core.Logic.{⊎-elim}
 use mathlib.Core.Path.{_∙_, _≡_, sym}
 use native.Mathlib.Omega.{arith}
 use lib.Dec.{eqb, leb, ltb}
-use lib.Ieee.Fits.{two}
 use lib.ListN.{List·getD-map, getD, length, length-map, take}
 use borrow.Author.Tests.{eqb-true, ltb-true, not-true}
 use Rattle.edge.proofs.Laws.{noEdge}
@@ -14,24 +13,16 @@ use Rattle.edge.specs.Edges.{backNumber, edge, frontNumber, isSpan}
 use Rattle.edge.specs.Uses.{backOf, edgeNumber, frontOf}
 use Rattle.errors.proofs.Laws.{each-record, none-left, none-right, unless-passes}
 use Rattle.errors.specs.Faults.{each}
-use Rattle.errors.specs.declared.Refusal.{Refusal}
 use Rattle.errors.specs.declared.Refusal.the-variants.{SameVertex, Span, Unnamed}
 use Rattle.face.specs.Faces.{faceRule, wireCount}
 use Rattle.lists.proofs.Laws.{cases, eqb-sym, left-true, map-take, right-true}
 use Rattle.lists.specs.Lists.{split, sum, unless}
 use Rattle.pattern.proofs.Counts.{Full, Limited, uses-counted, wires-counted}
-use Rattle.pattern.specs.Checks.{edgeFaults, nameFaults, outlines, recordFaults, sumFaults}
+use Rattle.pattern.proofs.Passed.{RecordsPassed, records-passed}
+use Rattle.pattern.specs.Checks.{edgeFaults, nameFaults, outlines, recordFaults}
 use Rattle.pattern.specs.Contents.{Content, content}
 use Rattle.pattern.specs.declared.Pattern.{Pattern}
 use Rattle.wire.specs.Wires.{Named}
-
--- what an empty row of six lists says of the first four
-first-four : (a b c d e f : List Refusal) → a ++ b ++ c ++ d ++ e ++ f ≡ [] → (a ≡ []) × (b ≡ []) × (c ≡ []) × (d ≡ [])
-first-four a b c d e f h =
-    let four = none-left (a ++ b ++ c ++ d) e (none-left (a ++ b ++ c ++ d ++ e) f h) in
-    let three = none-left (a ++ b ++ c) d four in
-    let two = none-left (a ++ b) c three in
-    (none-left a b two, none-right a b two, none-right (a ++ b) c three, none-right (a ++ b ++ c) d four)
 
 module _ (c : Content) (fine : each (edgeFaults (length (c .points))) 0 (c .edges) ≡ []) where
   edge-named : (k : ℕ) → k < length (c .edges) → (frontNumber (getD (c .edges) k noEdge) < length (c .points)) × (backNumber (getD (c .edges) k noEdge) < length (c .points))
@@ -51,38 +42,30 @@ module _ (c : Content) (fine : each (edgeFaults (length (c .points))) 0 (c .edge
   back-named e h = rw (List·getD-map backNumber (c .edges) e noEdge) (edge-named e h .1)
 
 module _ (c : Content) (ok : recordFaults c ≡ []) where
-  abbrev edges-checked : List Refusal
-  edges-checked = each (edgeFaults (length (c .points))) 0 (c .edges)
-
-  abbrev uses-checked : List Refusal
-  uses-checked = each (nameFaults 2 (length (c .edges))) 0 (c .uses)
-
-  passed : (edges-checked ≡ []) × (uses-checked ≡ []) × (sumFaults 3 (c .wires) (length (c .uses)) ≡ []) × (sumFaults 4 (map wireCount (c .faces)) (length (c .wires)) ≡ [])
-  passed =
-      first-four edges-checked uses-checked (sumFaults 3 (c .wires) (length (c .uses))) (sumFaults 4 (map wireCount (c .faces)) (length (c .wires)))
-      (sumFaults 5 (c .shells) (length (c .listings))) (each (nameFaults 6 (length (c .faces))) 0 (c .listings)) ok
+  passed : RecordsPassed c
+  passed = records-passed c ok
 
   pub wires-summed : sum (c .wires) ≡ length (c .uses)
   wires-summed =
-      eqb-true (sum (c .wires)) (length (c .uses)) (unless-passes (eqb (sum (c .wires)) (length (c .uses))) (Unnamed 3 (length (c .wires))) (passed .2))
+      eqb-true (sum (c .wires)) (length (c .uses)) (unless-passes (eqb (sum (c .wires)) (length (c .uses))) (Unnamed 3 (length (c .wires))) (passed .wires))
 
   pub faces-summed : sum (map wireCount (c .faces)) ≡ length (c .wires)
   faces-summed =
       let counts = map wireCount (c .faces) in
-      eqb-true (sum counts) (length (c .wires)) (unless-passes (eqb (sum counts) (length (c .wires))) (Unnamed 4 (length counts)) (passed .3))
+      eqb-true (sum counts) (length (c .wires)) (unless-passes (eqb (sum counts) (length (c .wires))) (Unnamed 4 (length counts)) (passed .faces))
 
   pub use-named : (k : ℕ) → k < length (c .uses) → edgeNumber (getD (c .uses) k 0) < length (c .edges)
   use-named k h =
       let u = getD (c .uses) k 0 in
       ltb-true (edgeNumber u) (length (c .edges))
-      (unless-passes (ltb (edgeNumber u) (length (c .edges))) (Unnamed 2 (0 + k)) (each-record (nameFaults 2 (length (c .edges))) 0 0 (c .uses) (passed .1) k h))
+      (unless-passes (ltb (edgeNumber u) (length (c .edges))) (Unnamed 2 (0 + k)) (each-record (nameFaults 2 (length (c .edges))) 0 0 (c .uses) (passed .uses) k h))
 
   pub point-named : (u : ℕ) → edgeNumber u < length (c .edges) → frontOf (map frontNumber (c .edges)) (map backNumber (c .edges)) u < length (c .points)
   unfolding frontOf
   point-named u h =
       ⊎-elim
-      (λ (r : leb 32768 u ≡ true). rw r (back-named c (passed .0) (edgeNumber u) h))
-      (λ (r : leb 32768 u ≡ false). rw r (front-named c (passed .0) (edgeNumber u) h))
+      (λ (r : leb 32768 u ≡ true). rw r (back-named c (passed .edges) (edgeNumber u) h))
+      (λ (r : leb 32768 u ≡ false). rw r (front-named c (passed .edges) (edgeNumber u) h))
       (cases (leb 32768 u))
 
   edge-apart : (k : ℕ) → k < length (c .edges) → eqb (frontNumber (getD (c .edges) k noEdge)) (backNumber (getD (c .edges) k noEdge)) ≡ false
@@ -92,7 +75,7 @@ module _ (c : Content) (ok : recordFaults c ≡ []) where
       not-true (eqb (frontNumber e) (backNumber e))
       (unless-passes (not (eqb (frontNumber e) (backNumber e))) (SameVertex (0 + k))
       (none-right (unless (ltb (frontNumber e) n && ltb (backNumber e) n) (Unnamed 1 (0 + k))) (unless (not (eqb (frontNumber e) (backNumber e))) (SameVertex (0 + k)))
-      (none-left _ (unless (isSpan (e .curve)) (Span (0 + k))) (each-record (edgeFaults n) noEdge 0 (c .edges) (passed .0) k h))))
+      (none-left _ (unless (isSpan (e .curve)) (Span (0 + k))) (each-record (edgeFaults n) noEdge 0 (c .edges) (passed .edges) k h))))
 
   -- the ends of a use differ
   pub ends-apart : (u : ℕ) → edgeNumber u < length (c .edges)

@@ -16,6 +16,7 @@ use Rattle.errors.specs.declared.Refusal.the-variants.{Layout, SameVertex, Span
 use Rattle.lists.proofs.Flat.{flat-runs, getD-tabulate}
 use Rattle.lists.proofs.Laws.{length-tabulate}
 use Rattle.lists.specs.Lists.{flat, tabulate, unless}
+use Rattle.pattern.proofs.Passed.{content-passed, records-passed}
 use Rattle.pattern.specs.Checks.{contentFaults, countFaults, edgeFaults}
 use Rattle.pattern.specs.Contents.{Content, countsOf, layout, zeroEdge}
 use Rattle.errors.proofs.Laws.{each-record, none-left, none-right, unless-passes}
@@ -35,7 +36,7 @@ pub span : (c : Content) → contentFaults c ≡ [] → (k : ℕ) → k < length
 span c ok k h =
     let e = getD (c .edges) k zeroEdge in
     let n = length (c .points) in
-    let all : each (edgeFaults n) 0 (c .edges) ≡ [] = none-left _ _ (none-left _ _ (none-left _ _ (none-left _ _ (none-left _ _ (none-left _ _ ok))))) in
+    let all = records-passed c (content-passed c ok .records) .edges in
     unless-passes (isSpan (e .curve)) (Span (0 + k))
     (none-right
     (unless (ltb (frontNumber e) n && ltb (backNumber e) n) (Unnamed 1 (0 + k)) ++ unless (not (eqb (frontNumber e) (backNumber e))) (SameVertex (0 + k)))

@@ -17,6 +17,7 @@ use Rattle.lists.proofs.Sets.{Put, put-then}
 use Rattle.lists.specs.Lists.{flat, tabulate}
 use Rattle.output.specs.Text.{refusalLine}
 use Rattle.pattern.proofs.Counts.{Limited}
+use Rattle.pattern.proofs.Passed.{content-passed}
 use Rattle.pattern.specs.Checks.{contentFaults, recordFaults}
 use Rattle.pattern.specs.Contents.{countsOf, layout}
 use Rattle.pattern_file.specs.File.{countAt, fileContent, fileCounts, fileFaults, startOf, tableFaults}
@@ -76,7 +77,7 @@ module _ (s : List ℕ) (ok : fileFaults s ≡ []) where
   table-right = none-left (tableFaults s) (contentFaults (fileContent s)) ok
 
   pub records-right : recordFaults (fileContent s) ≡ []
-  records-right = none-left (recordFaults (fileContent s)) _ (none-right (tableFaults s) (contentFaults (fileContent s)) ok)
+  records-right = content-passed (fileContent s) (none-right (tableFaults s) (contentFaults (fileContent s)) ok) .records
 
   pub few : Limited (countsOf (fileContent s))
   few = limits s table-right

@@ -26,7 +26,6 @@ use Rattle.remove_vertex.specs.Removals.{OfEdges, nearFaults, pairing, r
 use Rattle.endings.specs.declared.Ending.{Ending}
 use Rattle.remove_vertex.specs.declared.Pairing.{Pairing}
 use Rattle.remove_vertex.specs.declared.Pairing.the-variants.{Found, Not as Pair·Not}
-use Rattle.remove_vertex.specs.declared.Removal.{Removal}
 use Rattle.remove_vertex.specs.declared.Removal.the-variants.{Joins, Not}
 use Rattle.shell_edits.specs.Edits.{endingWires, firstWire, lastWire, matched, sharesFace}
 

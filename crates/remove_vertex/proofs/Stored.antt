@@ -1,13 +1,12 @@
 -- What the reading checks say of the tables; the storage after a removal.
 use Prim.Native.Nat.{_+_, _<_, _≤_, suc, ℕ}
-use mathlib.Core.Bool.{Bool, _&&_, _||_, false, not, true, true≢false}
+use mathlib.Core.Bool.{_&&_, _||_, false, not, true≢false}
 use mathlib.Core.List.{List, [], _++_, _∷_, map}
 use mathlib.Core.Path.{_∙_, _≡_, ap, sym}
 use native.Mathlib.Omega.{arith}
 use lib.Dec.{eqb, leb, ltb}
 use lib.ListN.{getD, length, length-map, set, take}
 use lib.Seq.{sets}
-use borrow.Author.Tests.{ltb-true}
 use Rattle.concat.proofs.Judged.{edge-read, joined-is, joins-are, room-there}
 use Rattle.concat.specs.Joins.{appended, endFaults, joinedEnds}
 use Rattle.edge.proofs.Laws.{noEdge}
@@ -16,18 +15,18 @@ use Rattle.edit_answers.specs.declared.EditError.the-variants.{NotOneOrTwoWires
 use Rattle.edge.specs.Edges.{backNumber, frontNumber}
 use Rattle.edge.specs.Uses.{backOf, edgeNumber, frontOf}
 use Rattle.edge.specs.declared.Edge.{Edge}
-use Rattle.errors.proofs.Laws.{none-left, none-right, unless-passes}
+use Rattle.errors.proofs.Laws.{none-left, none-right}
 use Rattle.errors.specs.Faults.{each}
-use Rattle.errors.specs.declared.WireError.the-variants.{EmptyWire, NotClosedWire, NotSimpleWire}
 use Rattle.face.proofs.Laws.{none-mapped}
 use Rattle.face.specs.Faces.{faceFaults, faceRule, outlineFaults, sharedFaults, wireCount}
 use Rattle.lists.proofs.Count.{All, all-each, all-split}
 use Rattle.lists.proofs.Laws.{eqb-sym, length-split, map-take}
 use Rattle.lists.proofs.Parts.{all-flat, all-place, flat-split}
-use Rattle.lists.specs.Lists.{flat, noDup, only, split, unless}
+use Rattle.lists.specs.Lists.{flat, only, split, unless}
 use Rattle.pattern.proofs.Counts.{edges-counted, points-counted, shells-counted, wires-counted}
 use Rattle.pattern.proofs.Named.{ends-apart, faces-summed, use-named, wires-summed}
-use Rattle.pattern.specs.Checks.{contentFaults, countFaults, outlines, recordFaults}
+use Rattle.pattern.proofs.Passed.{content-passed, pattern-passed}
+use Rattle.pattern.specs.Checks.{contentFaults, outlines, recordFaults}
 use Rattle.pattern.specs.Contents.{Content, content}
 use Rattle.pattern.specs.declared.Pattern.{Pattern}
 use Rattle.endings.specs.Tables.{Paired, Tables}
@@ -48,6 +47,7 @@ use Rattle.shell_edits.specs.Edits.{eachWire, edgeOf, endUse, endingWires, firs
 use Rattle.shell_wires.proofs.Facts.{Fine, stored-edited}
 use Rattle.shell_wires.proofs.Made.{ends-named, ends-room, lent-fine, uses-room, wires-room}
 use Rattle.shell_wires.specs.Lent.{Lent}
+use Rattle.wire.proofs.Laws.{faultless-sound}
 use Rattle.wire.specs.Wires.{closed, points, runs, wireFaults}
 use Rattle.corners.proofs.Places.{part-long}
 
@@ -74,26 +74,14 @@ module _ (fronts backs : List ℕ) where
         rule-faultless (w + length wires) faces (none-right here rest e),
       )
 
-  has-use : (us : List ℕ) → Faultless us → 0 < length us
-  has-use us e =
-      let a = unless (ltb 0 (length us)) EmptyWire in
-      let b = unless (closed fronts backs us) NotClosedWire in
-      ltb-true 0 (length us) (unless-passes (ltb 0 (length us)) EmptyWire (none-left a b (none-left (a ++ b) (unless (noDup (points fronts backs us)) NotSimpleWire) e)))
-
-  is-closed : (us : List ℕ) → Faultless us → closed fronts backs us ≡ true
-  is-closed us e =
-      let a = unless (ltb 0 (length us)) EmptyWire in
-      let b = unless (closed fronts backs us) NotClosedWire in
-      unless-passes (closed fronts backs us) NotClosedWire (none-right a b (none-left (a ++ b) (unless (noDup (points fronts backs us)) NotSimpleWire) e))
-
   abbrev Apart : ℕ → Type 0
   Apart u = eqb (frontOf fronts backs u) (backOf fronts backs u) ≡ false
 
   -- a closed wire of one use would begin where it ends
   two-uses : (us : List ℕ) → Faultless us → All Apart us → 2 ≤ length us
   unfolding closed runs
-  two-uses [] e h = absurd (omega (arith, has-use [] e))
-  two-uses (u ∷ []) e h = absurd (true≢false (sym (is-closed (u ∷ []) e) ∙ eqb-sym (backOf fronts backs u) (frontOf fronts backs u) ∙ h .0))
+  two-uses [] e h = absurd (omega (arith, faultless-sound fronts backs [] e .used))
+  two-uses (u ∷ []) e h = absurd (true≢false (sym (faultless-sound fronts backs (u ∷ []) e .loops) ∙ eqb-sym (backOf fronts backs u) (frontOf fronts backs u) ∙ h .0))
   two-uses (u ∷ v ∷ us) e h = omega arith
 
 module _ (c : Content) (ok : contentFaults c ≡ []) where
@@ -104,7 +92,7 @@ module _ (c : Content) (ok : contentFaults c ≡ []) where
   bs = map backNumber (c .edges)
 
   records : recordFaults c ≡ []
-  records = none-left (recordFaults c) (faceRule fs bs 0 (outlines c)) ok
+  records = content-passed c ok .records
 
   pub wires-paired : Paired (c .wires)
   wires-paired w h =
@@ -112,7 +100,7 @@ module _ (c : Content) (ok : contentFaults c ≡ []) where
       let counts = map wireCount (c .faces) in
       let long : length xs ≡ length (c .wires) = length-split (c .wires) (c .uses) in
       let inside : w < length xs = omega arith in
-      let rule = all-flat (Faultless fs bs) (outlines c) (rule-faultless fs bs 0 (outlines c) (none-right (recordFaults c) (faceRule fs bs 0 (outlines c)) ok)) in
+      let rule = all-flat (Faultless fs bs) (outlines c) (rule-faultless fs bs 0 (outlines c) (content-passed c ok .rule)) in
       let faultless : All (Faultless fs bs) xs = rw (flat-split counts xs (faces-summed c records ∙ sym long)) at rule in
       let apart : All (Apart fs bs) (c .uses) = all-each (Apart fs bs) 0 (c .uses) (λ k l. ends-apart c records (getD (c .uses) k 0) (use-named c records k l)) in
       let two = two-uses fs bs (getD xs w []) (all-place (Faultless fs bs) [] xs faultless w inside) (all-place (All (Apart fs bs)) [] xs (all-split (Apart fs bs) (c .wires) (c .uses) apart) w inside) in
@@ -131,7 +119,7 @@ module _ (p : Pattern) (counts fronts backs uses wires faces shells listings : L
   s = lent-fine p counts fronts backs uses wires faces shells listings l
 
   content-fine : contentFaults (content p) ≡ []
-  content-fine = none-right (countFaults (p .counts)) (contentFaults (content p)) (s .ok)
+  content-fine = pattern-passed p (s .ok) .content
 
   pub tables : Tables uses (getD counts 2 0) wires (getD counts 3 0) fronts backs (getD counts 1 0)
   tables = record {

@@ -11,12 +11,10 @@ use Rattle.columns.proofs.Shells.{listings-are, listings-inside}
 use Rattle.columns.specs.Columns.{Made, Summed, columnsIn}
 use Rattle.columns.specs.Sound.{Sound}
 use Rattle.columns.specs.declared.Columns.{Columns}
-use Rattle.edge.specs.Edges.{backNumber, frontNumber}
-use Rattle.errors.proofs.Laws.{accepted-none, none-both, none-left, none-right, refused-first}
+use Rattle.errors.proofs.Laws.{accepted-none, none-both, refused-first}
 use Rattle.errors.specs.Faults.{first}
 use Rattle.errors.specs.declared.Check.the-variants.{Accepted as Check·Accepted, Refused as Check·Refused}
 use Rattle.errors.specs.declared.Refusal.{Refusal}
-use Rattle.face.specs.Faces.{faceRule}
 use Rattle.lines.specs.Lines.{shellLines}
 use Rattle.lines.specs.Parts.{Fits}
 use Rattle.lists.proofs.Parts.{flat-numbers, split-flat}
@@ -24,8 +22,9 @@ use Rattle.lists.proofs.Sets.{put-then}
 use Rattle.lists.specs.Lists.{flat, numbers, padded, tabulate}
 use Rattle.output.specs.Text.{refusalLine}
 use Rattle.pattern.proofs.Counts.{Full, Limited, shells-counted}
-use Rattle.pattern.specs.Checks.{contentFaults, countFaults, outlines, patternFaults, recordFaults}
-use Rattle.pattern.specs.Contents.{Content, content, countsOf, stored}
+use Rattle.pattern.proofs.Passed.{content-passed, pattern-passed}
+use Rattle.pattern.specs.Checks.{contentFaults, patternFaults, recordFaults}
+use Rattle.pattern.specs.Contents.{Content, content, stored}
 use Rattle.pattern.specs.declared.Pattern.{Pattern}
 use Rattle.pattern_file.proofs.RoundTrip.{content-of-stored}
 use Rattle.pattern_file.specs.File.{fileContent, fileCounts, fileFaults, tableFaults}
@@ -230,9 +229,7 @@ reason-low NotManifold = omega arith
 
 -- ---- the tables of a pattern
 records-fine : (p : Pattern) → patternFaults p ≡ [] → recordFaults (content p) ≡ []
-records-fine p ok =
-    let c = content p in
-    none-left (recordFaults c) (faceRule (map frontNumber (c .edges)) (map backNumber (c .edges)) 0 (outlines c)) (none-right (countFaults (p .counts)) (contentFaults c) ok)
+records-fine p ok = content-passed (content p) (pattern-passed p ok .content) .records
 
 module _ {counts fronts backs uses wires faces shells listings : List ℕ} where
   pub tabled-summed : Tabled counts fronts backs uses wires faces shells listings → Summed counts uses wires faces shells

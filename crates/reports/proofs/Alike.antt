@@ -1,16 +1,16 @@
 -- A listing that is there already, or one of a face without wires, changes nothing of the groups: the pairs show the same as the listings.
 use Prim.Native.Nat.{_≤_, ℕ}
 use mathlib.Core.Bool.{Bool, false, not, true}
-use mathlib.Core.List.{List, List·Memᴰ, List·Memᴰ·cases-cons, List·Memᴰ·head, List·Memᴰ·not-nil, List·Memᴰ·tail, [], _++_, _∷_, append-nil, map}
-use mathlib.Core.Logic.{_⊎_, inl, inr, ⊎-elim}
-use mathlib.Core.Path.{_∙_, _≡_, ap, refl, sym}
+use mathlib.Core.List.{List, List·Memᴰ, List·Memᴰ·cases-cons, List·Memᴰ·head, List·Memᴰ·not-nil, List·Memᴰ·tail, [], _∷_, map}
+use mathlib.Core.Logic.{_⊎_, ⊎-elim}
+use mathlib.Core.Path.{_≡_, refl, sym}
 use native.Mathlib.Omega.{arith}
-use lib.Dec.{eqb, ltb}
+use lib.Dec.{eqb}
 use lib.ListN.{getD, length}
 use borrow.Author.Tests.{eqb-true, ltb-false}
 use Rattle.groups.proofs.Alike.{Within}
 use Rattle.lists.proofs.Laws.{cases}
-use Rattle.lists.specs.Lists.{flat, once, only, pick}
+use Rattle.lists.specs.Lists.{flat, once, only}
 use Rattle.shell.specs.Components.{hasWires}
 use Rattle.shell.specs.Shells.{faceNumber, shownWire, shownWires}
 

@@ -2,7 +2,7 @@
 use Prim.Native.Nat.{_+_, _-_, _<_, _≤_, suc, ℕ}
 use mathlib.Core.Bool.{Bool}
 use mathlib.Core.List.{List, map}
-use mathlib.Core.Path.{_∙_, _≡_, ap, refl, sym}
+use mathlib.Core.Path.{_∙_, _≡_, refl, sym}
 use native.Mathlib.Numerals.{add-one}
 use native.Mathlib.Omega.{arith}
 use lib.ListN.{getD, length, length-append, length-map, replicate, take}
@@ -22,7 +22,7 @@ use Rattle.pattern.proofs.Counts.{points-counted}
 use Rattle.pattern.specs.Contents.{content}
 use Rattle.pattern.specs.declared.Pattern.{Pattern}
 use Rattle.reports.proofs.Groups.{figured, groups-found, showing}
-use Rattle.reports.specs.Figures.{Columned, Figured, figuresOf, groupsFound}
+use Rattle.reports.specs.Figures.{Figured, figuresOf, groupsFound}
 use Rattle.reports.specs.declared.ShellGroups.{ShellGroups}
 use Rattle.singular.specs.Ends.{Cornered}
 use Rattle.shell.specs.Components.{componentsOf}

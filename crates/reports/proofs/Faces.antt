@@ -1,28 +1,28 @@
 -- The pairs of a shell of a sound pattern, and what their columns hold: the faces that they show.
-use Prim.Native.Nat.{_+_, _-_, _<_, _≤_, suc, zero, ℕ}
-use mathlib.Core.Bool.{Bool, false, true}
-use mathlib.Core.List.{List, [], _++_, _∷_, map, map-append, map-map}
+use Prim.Native.Nat.{_+_, _-_, _<_, _≤_, suc, ℕ}
+use mathlib.Core.Bool.{false, true}
+use mathlib.Core.List.{List, [], _∷_, map, map-append, map-map}
 use mathlib.Core.Logic.{⊎-elim}
 use mathlib.Core.Path.{_∙_, _≡_, ap, refl, sym}
 use native.Mathlib.Omega.{arith}
 use lib.Dec.{leb, ltb}
-use lib.ListN.{drop, getD, length, length-append, length-drop, length-map, length-take, take}
-use lib.Seq.{drop-append-seam, length-take-le, take-append-seam}
+use lib.ListN.{drop, getD, length, length-drop, length-map, length-take}
+use lib.Seq.{length-take-le}
 use borrow.Author.Tests.{le-ltb, lt-ltb, ltb-false, ltb-true}
-use Rattle.columns.proofs.Shells.{between-first, first-is, firsts-long, part-is, records-fine, shell-named, start-is, starts-long, turned-full}
-use Rattle.columns.specs.Columns.{columnsIn, firstUse, firstWire}
+use Rattle.columns.proofs.Shells.{between-first, first-is, part-is, records-fine, shell-named}
+use Rattle.columns.specs.Columns.{columnsIn, firstWire}
 use Rattle.columns.specs.Sound.{Sound}
 use Rattle.face.specs.Faces.{wireCount}
-use Rattle.listing.proofs.Laws.{shown-keeps, starts-inside, starts-rise}
-use Rattle.listing.specs.Parts.{between, partAt}
+use Rattle.listing.proofs.Laws.{shown-keeps}
+use Rattle.listing.specs.Parts.{partAt}
 use Rattle.lists.proofs.Parts.{map-drop, map-same, only-same, split-flat}
 use Rattle.lists.proofs.Count.{All, all-only, all-weaker}
 use Rattle.lists.proofs.Laws.{cases, flat-append, map-take, sum-next, sum-take-drop}
 use Rattle.lists.proofs.Split.{getD-split}
-use Rattle.lists.specs.Lists.{flat, once, only, pick, split, sum}
+use Rattle.lists.specs.Lists.{flat, once, only, split, sum}
 use Rattle.pairs.proofs.Once.{all-once}
-use Rattle.pairs.specs.Pairs.{Rows, Showing, hasWiresAt, lensAt, pairsIn}
-use Rattle.pattern.proofs.Counts.{faces-counted, listings-counted, uses-counted, wires-counted}
+use Rattle.pairs.specs.Pairs.{hasWiresAt, lensAt, pairsIn}
+use Rattle.pattern.proofs.Counts.{faces-counted, wires-counted}
 use Rattle.pattern.proofs.Named.{faces-summed, wires-summed}
 use Rattle.pattern.specs.Checks.{outlines}
 use Rattle.pattern.specs.Contents.{content}

@@ -1,29 +1,29 @@
 -- The groups that the columns of the pairs give are those of the shell.
-use Prim.Native.Nat.{_+_, _-_, _<_, _≤_, suc, zero, ℕ}
-use mathlib.Core.Bool.{Bool, false}
-use mathlib.Core.List.{List, List·Memᴰ, List·Memᴰ·cases-cons, List·Memᴰ·not-nil, [], _++_, _∷_, map, map-map}
+use Prim.Native.Nat.{_+_, _-_, _<_, _≤_, suc, ℕ}
+use mathlib.Core.Bool.{false}
+use mathlib.Core.List.{List, List·Memᴰ, List·Memᴰ·cases-cons, List·Memᴰ·not-nil, [], _∷_, map, map-map}
 use mathlib.Core.Logic.{⊎-elim}
 use mathlib.Core.Path.{_∙_, _≡_, ap, refl, sym}
 use native.Mathlib.Omega.{arith}
 use lib.ListN.{drop, getD, length, length-append, length-map, length-replicate, length-take, replicate, take}
-use lib.Seq.{getD-drop, getD-take, sets, sets-eq, take-append-seam}
-use Rattle.columns.proofs.Shells.{first-is, firsts-long, listings-are, listings-inside, part-fine, records-fine, shell-named, start-is, starts-long, turned-full}
+use lib.Seq.{getD-drop, getD-take, take-append-seam}
+use Rattle.columns.proofs.Shells.{first-is, firsts-long, listings-are, listings-inside, records-fine, shell-named, start-is, starts-long, turned-full}
 use Rattle.columns.specs.Columns.{columnsIn, firstUse, firstWire}
 use Rattle.columns.specs.Sound.{Sound}
 use Rattle.components.proofs.Roots.{components-few, components-long}
-use Rattle.components.specs.Pairs.{Linkable, Paired}
+use Rattle.components.specs.Pairs.{Paired}
 use Rattle.connected.proofs.Theorem.{Placed as Placed·faces, connected-alike}
-use Rattle.connected.specs.Wired.{Cut, Wired}
+use Rattle.connected.specs.Wired.{Wired}
 use Rattle.edge.specs.Edges.{backNumber, frontNumber}
 use Rattle.edge.specs.Uses.{backOf, edgeNumber, frontOf}
 use Rattle.face.specs.Faces.{wireCount}
-use Rattle.groups.proofs.Alike.{Within, within-flat-map, within-map}
+use Rattle.groups.proofs.Alike.{within-flat-map, within-map}
 use Rattle.listing.proofs.Laws.{Placed, starts-inside, starts-rise}
 use Rattle.listing.specs.Parts.{partAt}
 use Rattle.lists.proofs.Parts.{all-place, length-only, split-flat}
 use Rattle.lists.proofs.Count.{All, all-flat-map, all-map, all-weaker}
-use Rattle.lists.proofs.Laws.{drop-replicate, length-tabulate, sum-next, sum-take-drop}
-use Rattle.lists.specs.Lists.{flat, numbers, once, only, padded, split, sum}
+use Rattle.lists.proofs.Laws.{length-tabulate, sum-next, sum-take-drop}
+use Rattle.lists.specs.Lists.{flat, numbers, only, padded, split, sum}
 use Rattle.pairs.proofs.Columns.{lens-room, sets-padded, showing-few, uses-room}
 use Rattle.pairs.specs.Pairs.{Pairs, Rows, Showing, lensAt, pairsIn, pairsOf}
 use Rattle.pattern.proofs.Counts.{edges-counted, faces-counted, points-counted, uses-counted, wires-counted}
@@ -32,7 +32,7 @@ use Rattle.pattern.specs.Checks.{outlines}
 use Rattle.pattern.specs.Contents.{content}
 use Rattle.pattern.specs.declared.Pattern.{Pattern}
 use Rattle.reports.proofs.Alike.{flat-only, in-once, no-wires, of-once}
-use Rattle.reports.proofs.Faces.{Held, flat-lengths, flat-uses, held-faces, held-parts, held-wires, pair-lens, pair-parts, pairFaces, pairs-are, pairs-named}
+use Rattle.reports.proofs.Faces.{Held, flat-lengths, flat-uses, held-parts, held-wires, pair-lens, pair-parts, pairFaces, pairs-are, pairs-named}
 use Rattle.reports.proofs.Ready.{Some, listing-some, listings-placed, use-back, use-edge, use-front}
 use Rattle.reports.specs.Figures.{Figured, figuresOf, groupsFound}
 use Rattle.shell.specs.Components.{components, componentsOf, hasWires, shellPairs}
@@ -42,7 +42,7 @@ use Rattle.shell.specs.Singular.{isSingular, singularOf, singularPoints}
 use Rattle.shell.specs.Openings.{backIn, frontIn}
 use Rattle.groups.specs.Groups.{links}
 use Rattle.singular.proofs.Theorem.{singular-alike}
-use Rattle.singular.specs.Ends.{Cornered, Wired as Wired·ends}
+use Rattle.singular.specs.Ends.{Cornered}
 
 pub sum-lengths : {A : Type 0} (xss : List (List A)) → sum (map length xss) ≡ length (flat xss)
 unfolding sum flat

@@ -1,11 +1,10 @@
 -- The tally, the condition and the walk of a shell of a sound pattern, from its columns.
-use Prim.Native.Nat.{_%_, _*_, _+_, _-_, _<_, _≤_, ℕ}
+use Prim.Native.Nat.{_%_, _*_, _-_, _<_, _≤_, ℕ}
 use mathlib.Core.List.{List, [], map}
 use mathlib.Core.Path.{_∙_, _≡_, ap, refl, sym}
 use native.Mathlib.Numerals.{add-one}
 use native.Mathlib.Omega.{arith}
 use lib.ListN.{getD, length, length-append, length-map, length-replicate, replicate, take}
-use lib.Seq.{sets}
 use Rattle.columns.proofs.Shells.{listings-are}
 use Rattle.columns.specs.Columns.{columnsIn}
 use Rattle.columns.specs.Sound.{Sound}
@@ -21,8 +20,7 @@ use Rattle.extract.specs.Listings.{AllTally, AllWalk, Extractable, Written, noU
 use Rattle.listing.proofs.Laws.{Placed}
 use Rattle.listing.specs.Parts.{partsOf}
 use Rattle.lists.proofs.Count.{All, all-weaker}
-use Rattle.lists.proofs.Laws.{length-tabulate}
-use Rattle.lists.specs.Lists.{flat, padded, tabulate}
+use Rattle.lists.specs.Lists.{flat, tabulate}
 use Rattle.openings.specs.declared.Walked.{Walked}
 use Rattle.pairs.proofs.Columns.{sets-padded}
 use Rattle.pattern.proofs.Counts.{edges-counted, points-counted}
@@ -31,7 +29,6 @@ use Rattle.pattern.specs.declared.Pattern.{Pattern}
 use Rattle.reports.proofs.Columned.{backs-are, fronts-are, listingsIn, points-are}
 use Rattle.reports.proofs.Ready.{all-tally, all-walk, shell-placed, use-front, uses-are}
 use Rattle.reports.specs.Figures.{openingsFound}
-use Rattle.reports.specs.declared.ShellOpenings.{ShellOpenings}
 use Rattle.shell.proofs.Closed.{closed-walk}
 use Rattle.shell.proofs.Level.{IsUse}
 use Rattle.shell.specs.Conditions.{condition}

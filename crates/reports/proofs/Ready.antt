@@ -1,29 +1,28 @@
 -- What the leaves ask of a shell's columns holds of every shell of a sound pattern.
-use Prim.Native.Nat.{_+_, _-_, _<_, _≤_, suc, zero, ℕ}
-use mathlib.Core.Bool.{Bool, false, true}
-use mathlib.Core.List.{List, [], _++_, _∷_, map}
-use mathlib.Core.Path.{_∙_, _≡_, ap, refl, sym}
+use Prim.Native.Nat.{_+_, _-_, _<_, _≤_, suc, ℕ}
+use mathlib.Core.List.{List, [], _∷_, map}
+use mathlib.Core.Path.{_∙_, _≡_, refl, sym}
 use native.Mathlib.Omega.{arith}
 use lib.Dec.{leb}
-use lib.ListN.{getD, length, length-map, take}
-use Rattle.columns.proofs.Shells.{content-fine, part-fine, part-is, parts-are, records-fine, shell-named, shows, uses-small}
+use lib.ListN.{getD, length, length-map}
+use Rattle.columns.proofs.Shells.{content-fine, part-fine, part-is, parts-are, shell-named, shows}
 use Rattle.columns.specs.Columns.{columnsIn}
 use Rattle.columns.specs.Sound.{Sound}
-use Rattle.condition.specs.Tallies.{EdgesBelow}
 use Rattle.edge.specs.Edges.{backNumber, frontNumber}
-use Rattle.edge.specs.Uses.{backOf, edgeNumber, frontOf}
+use Rattle.edge.specs.Uses.{EdgesBelow, backOf, edgeNumber, frontOf}
 use Rattle.errors.proofs.Laws.{none-left, none-right}
 use Rattle.errors.specs.Faults.{each}
 use Rattle.extract.specs.Listings.{AllTally, AllWalk}
 use Rattle.face.proofs.Laws.{none-mapped}
-use Rattle.face.specs.Faces.{faceFaults, faceRule, outlineFaults, sharedFaults, wireCount}
+use Rattle.face.specs.Faces.{faceFaults, faceRule, outlineFaults, sharedFaults}
 use Rattle.listing.proofs.Laws.{Placed, flat-flat, shown-keeps}
 use Rattle.listing.specs.Parts.{partAt, partsOf}
 use Rattle.lists.proofs.Parts.{all-place}
-use Rattle.lists.proofs.Count.{All, all-append, all-at, all-flat-map, all-map, all-weaker}
+use Rattle.lists.proofs.Count.{All, all-append, all-at, all-map}
 use Rattle.lists.specs.Lists.{flat}
 use Rattle.pattern.proofs.Counts.{edges-counted, points-counted}
-use Rattle.pattern.specs.Checks.{contentFaults, outlines, recordFaults}
+use Rattle.pattern.proofs.Passed.{content-passed}
+use Rattle.pattern.specs.Checks.{outlines}
 use Rattle.pattern.specs.Contents.{content}
 use Rattle.pattern.specs.declared.Pattern.{Pattern}
 use Rattle.shell.specs.Shells.{faceNumber, listingsOf, shellUses, shellWires, shownWire, shownWires}
@@ -66,7 +65,7 @@ module _ (p : Pattern) (s : Sound p) where
   listing-some l =
       all-map Some Some (shownWire l) (shown-some l) (getD (outlines (content p)) (faceNumber l) [])
       (all-at (All Some) [] tt (outlines (content p))
-      (faces-some fs bs 0 (outlines (content p)) (none-right (recordFaults (content p)) (faceRule fs bs 0 (outlines (content p))) (content-fine p s))) (faceNumber l))
+      (faces-some fs bs 0 (outlines (content p)) (content-passed (content p) (content-fine p s) .rule)) (faceNumber l))
 
   edges-few : length (content p .edges) ≤ 1024
   edges-few = omega (arith, edges-counted p (s .limits) (s .full), s .limits .edges)

@@ -5,11 +5,11 @@ use mathlib.Core.Path.{_∙_, _≡_, ap, refl, sym}
 use lib.ListN.{drop, getD, length, take}
 use lib.Seq.{take-append-seam}
 use borrow.Author.Tests.{le-leb}
-use Rattle.errors.proofs.Laws.{none-left, none-right}
 use Rattle.errors.specs.declared.Check.the-variants.{Accepted}
 use Rattle.errors.specs.declared.Refusal.{Refusal}
 use Rattle.pattern.proofs.Counts.{Full}
-use Rattle.pattern.specs.Checks.{contentFaults, countFaults, patternFaults}
+use Rattle.pattern.proofs.Passed.{pattern-passed}
+use Rattle.pattern.specs.Checks.{countFaults, patternFaults}
 use Rattle.pattern.specs.Contents.{Content, content, countsOf, stored}
 use Rattle.pattern.specs.declared.Pattern.{Pattern}
 use Rattle.pattern_file.proofs.Fits.{Fits}
@@ -25,9 +25,9 @@ use Rattle.writer.specs.declared.Written.the-variants.{Length}
 pub read-back : (p : Pattern) → Full p → length (p .counts) ≡ 7 → patternFaults p ≡ [] → Fits (content p)
     → reading (fileBytes (content p)) ≡ record { answer = Accepted; pattern = stored (content p) }
 read-back p full seven ok small =
-    let kept = none-left (countFaults (p .counts)) (contentFaults (content p)) ok in
+    let kept = pattern-passed p ok .counts in
     let few : countFaults (countsOf (content p)) ≡ [] = ap countFaults (counts-same p full seven kept) ∙ kept in
-    let back = read-of-written (content p) few (none-right (countFaults (p .counts)) (contentFaults (content p)) ok) small in
+    let back = read-of-written (content p) few (pattern-passed p ok .content) small in
     sym (reading-accepted (fileBytes (content p)) (back .0)) ∙ ap (λ (c : Content). record { answer = Accepted; pattern = stored c }) (back .1)
 
 whole : (fs : List Refusal) (file s out : List ℕ) → fs ≡ [] → file ≡ s → length s ≤ length out

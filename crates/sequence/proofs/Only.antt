@@ -1,11 +1,10 @@
 -- Laws of `only`, of tables, and of groups.
 use Prim.Native.Nat.{_<_, _≤_, suc, suc-le-suc, zero, ℕ}
-use mathlib.Core.Bool.{Bool, false, true}
-use mathlib.Core.List.{List, [], _++_, _∷_, append-assoc, append-nil, map, map-append}
+use mathlib.Core.Bool.{Bool}
+use mathlib.Core.List.{List, [], _++_, _∷_, append-nil, map, map-append}
 use mathlib.Core.Path.{_∙_, _≡_, ap, refl}
 use native.Mathlib.Omega.{arith}
 use lib.Dec.{eqb}
-use lib.ListN.{length, length-append}
 use Rattle.lists.proofs.Parts.{map-same, only-append, only-same}
 use Rattle.lists.proofs.Count.{All, all-only, count-same}
 use Rattle.lists.specs.Lists.{count, flat, numbers, only, pick, tabulate}

@@ -9,7 +9,7 @@ use lib.Dec.{eqb, leb, ltb}
 use lib.ListN.{getD, replicate}
 use borrow.Author.Tests.{eqb-true, leb-false, ltb-false, ne-eqb}
 use Rattle.edge.specs.Uses.{edgeNumber}
-use Rattle.lists.proofs.Count.{All, all-each}
+use Rattle.lists.proofs.Count.{all-each}
 use Rattle.lists.proofs.Parts.{all-place, none-counted, only-none}
 use Rattle.lists.specs.Lists.{count, pick}
 use Rattle.shell.proofs.Keeping.{get-empty}

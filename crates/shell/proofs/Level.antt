@@ -18,6 +18,7 @@ use Rattle.lists.proofs.Laws.{left-true, right-true}
 use Rattle.lists.proofs.Marks.{AllBelow}
 use Rattle.lists.specs.Lists.{count, flat, pick, split}
 use Rattle.pattern.proofs.Named.{use-named}
+use Rattle.pattern.proofs.Passed.{content-passed}
 use Rattle.pattern.specs.Checks.{contentFaults, outlines, recordFaults}
 use Rattle.pattern.specs.Contents.{Content}
 use Rattle.shell.proofs.Turned.{turned-count, turned-edge, turned-low}
@@ -130,7 +131,7 @@ module _ (c : Content) (ok : contentFaults c ≡ []) (small : AllBelow 65536 (c 
   bs = map backNumber (c .edges)
 
   pub records-ok : recordFaults c ≡ []
-  records-ok = none-left (recordFaults c) (faceRule fs bs 0 (outlines c)) ok
+  records-ok = content-passed c ok .records
 
   pub shell-fine : (n : ℕ) → Fine fs bs (length (c .edges)) (shellUses c n)
   unfolding shellWires
@@ -139,4 +140,4 @@ module _ (c : Content) (ok : contentFaults c ≡ []) (small : AllBelow 65536 (c 
       let uses : All (IsUse m) (c .uses) = all-each (IsUse m) 0 (c .uses) (λ k h. (small k h, use-named c records-ok k h)) in
       let wires : All (All (IsUse m)) (split (c .wires) (c .uses)) = all-split (IsUse m) (c .wires) (c .uses) uses in
       let faces = all-split (All (IsUse m)) (map wireCount (c .faces)) (split (c .wires) (c .uses)) wires in
-      shells-fine fs bs m (outlines c) (rule-fine fs bs m 0 (outlines c) (none-right (recordFaults c) (faceRule fs bs 0 (outlines c)) ok) faces) (listingsOf c n)
+      shells-fine fs bs m (outlines c) (rule-fine fs bs m 0 (outlines c) (content-passed c ok .rule) faces) (listingsOf c n)

@@ -28,6 +28,7 @@ use Rattle.lists.proofs.Parts.{all-place, split-flat}
 use Rattle.lists.specs.Lists.{count, disjoint, flat, has, split, sum, unless}
 use Rattle.pattern.proofs.Counts.{Full, Limited, faces-counted, limited, listings-counted, points-counted, shells-counted, wires-counted}
 use Rattle.pattern.proofs.Named.{faces-summed}
+use Rattle.pattern.proofs.Passed.{RecordsPassed, content-passed, passed-records, pattern-passed, records-passed}
 use Rattle.pattern.specs.Checks.{contentFaults, countFaults, edgeFaults, nameFaults, outlines, patternFaults, recordFaults, sumFaults}
 use Rattle.pattern.specs.Contents.{Content, content, countsOf}
 use Rattle.pattern.specs.declared.Pattern.{Pattern}
@@ -88,48 +89,18 @@ module _ (c : Content) (es : List Edge) where
       rw (map-append frontNumber (c .edges) es, map-append backNumber (c .edges) es)
       (front-longer backs fronts (map backNumber es) (map frontNumber es) u (rw (length-map (c .edges) backNumber) h) (rw (length-map (c .edges) frontNumber) h))
 
--- a row of six lists is empty exactly if each is
-none-six : (a b c d e f : List Refusal) → a ≡ [] → b ≡ [] → c ≡ [] → d ≡ [] → e ≡ [] → f ≡ [] → a ++ b ++ c ++ d ++ e ++ f ≡ []
-none-six a b c d e f ha hb hc hd he hf = rw (ha, hb, hc, hd, he, hf)
-
 module _ (c : Content) (ok : contentFaults c ≡ []) where
   pub records-fine : recordFaults c ≡ []
-  records-fine = none-left (recordFaults c) (faceRule (map frontNumber (c .edges)) (map backNumber (c .edges)) 0 (outlines c)) ok
+  records-fine = content-passed c ok .records
 
   pub rule-fine : faceRule (map frontNumber (c .edges)) (map backNumber (c .edges)) 0 (outlines c) ≡ []
-  rule-fine = none-right (recordFaults c) (faceRule (map frontNumber (c .edges)) (map backNumber (c .edges)) 0 (outlines c)) ok
+  rule-fine = content-passed c ok .rule
 
-  abbrev edge-row : List Refusal
-  edge-row = each (edgeFaults (length (c .points))) 0 (c .edges)
-
-  abbrev use-row : List Refusal
-  use-row = each (nameFaults 2 (length (c .edges))) 0 (c .uses)
-
-  abbrev wire-row : List Refusal
-  wire-row = sumFaults 3 (c .wires) (length (c .uses))
-
-  abbrev face-row : List Refusal
-  face-row = sumFaults 4 (map wireCount (c .faces)) (length (c .wires))
-
-  abbrev shell-row : List Refusal
-  shell-row = sumFaults 5 (c .shells) (length (c .listings))
-
-  abbrev listing-row : List Refusal
-  listing-row = each (nameFaults 6 (length (c .faces))) 0 (c .listings)
-
-  first-five : edge-row ++ use-row ++ wire-row ++ face-row ++ shell-row ≡ []
-  first-five = none-left (edge-row ++ use-row ++ wire-row ++ face-row ++ shell-row) listing-row records-fine
+  passed : RecordsPassed c
+  passed = records-passed c records-fine
 
   pub edges-fine : each (edgeFaults (length (c .points))) 0 (c .edges) ≡ []
-  edges-fine =
-      none-left edge-row use-row
-      (none-left (edge-row ++ use-row) wire-row (none-left (edge-row ++ use-row ++ wire-row) face-row (none-left (edge-row ++ use-row ++ wire-row ++ face-row) shell-row first-five)))
-
-  shells-fine : sumFaults 5 (c .shells) (length (c .listings)) ≡ []
-  shells-fine = none-right (edge-row ++ use-row ++ wire-row ++ face-row) shell-row first-five
-
-  listings-fine : each (nameFaults 6 (length (c .faces))) 0 (c .listings) ≡ []
-  listings-fine = none-right (edge-row ++ use-row ++ wire-row ++ face-row ++ shell-row) listing-row records-fine
+  edges-fine = passed .edges
 
   -- more edges, and as many wires as before, given by their uses
   module _ (es : List Edge) (ws : List (List ℕ)) (edges : each (edgeFaults (length (c .points))) (length (c .edges)) es ≡ []) (long : length ws ≡ length (c .wires))
@@ -138,7 +109,7 @@ module _ (c : Content) (ok : contentFaults c ≡ []) where
     new-edges =
         let z : 0 + length (c .edges) ≡ length (c .edges) = omega arith in
         each-append (edgeFaults (length (c .points))) 0 (c .edges) es
-        ∙ none-both edge-row (each (edgeFaults (length (c .points))) (0 + length (c .edges)) es) edges-fine (rw z edges)
+        ∙ none-both (each (edgeFaults (length (c .points))) 0 (c .edges)) (each (edgeFaults (length (c .points))) (0 + length (c .edges)) es) edges-fine (rw z edges)
 
     new-uses : each (nameFaults 2 (length (c .edges ++ es))) 0 (flat ws) ≡ []
     new-uses =
@@ -156,9 +127,8 @@ module _ (c : Content) (ok : contentFaults c ≡ []) where
 
     new-records : recordFaults (edited c es (flat ws) (map length ws)) ≡ []
     new-records =
-        none-six (each (edgeFaults (length (c .points))) 0 (c .edges ++ es)) (each (nameFaults 2 (length (c .edges ++ es))) 0 (flat ws))
-        (sumFaults 3 (map length ws) (length (flat ws))) (sumFaults 4 (map wireCount (c .faces)) (length (map length ws))) shell-row listing-row
-        new-edges new-uses new-wires new-faces shells-fine listings-fine
+        passed-records (edited c es (flat ws) (map length ws))
+        (record { edges = new-edges; uses = new-uses; wires = new-wires; faces = new-faces; shells = passed .shells; listings = passed .listings })
 
     pub edited-accepted : faceRule (map frontNumber (c .edges ++ es)) (map backNumber (c .edges ++ es)) 0 (split (map wireCount (c .faces)) ws) ≡ []
         → contentFaults (edited c es (flat ws) (map length ws)) ≡ []
@@ -231,10 +201,10 @@ after-accepted p faults c ok done = go (patternFaults p) faults refl
 -- an edit with room for its edges and uses
 module _ (p : Pattern) (full : Full p) (seven : length (p .counts) ≡ 7) (ok : patternFaults p ≡ []) where
   pub content-fine : contentFaults (content p) ≡ []
-  content-fine = none-right (countFaults (p .counts)) (contentFaults (content p)) ok
+  content-fine = pattern-passed p ok .content
 
   within : Limited (p .counts)
-  within = limited (p .counts) seven (none-left (countFaults (p .counts)) (contentFaults (content p)) ok)
+  within = limited (p .counts) seven (pattern-passed p ok .counts)
 
   pub edited-few : (es : List Edge) (ws : List (List ℕ)) → length (content p .edges) + length es ≤ 1024 → length (flat ws) ≤ 4096 → length ws ≡ length (content p .wires)
       → countFaults (countsOf (edited (content p) es (flat ws) (map length ws))) ≡ []

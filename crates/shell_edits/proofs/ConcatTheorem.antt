@@ -23,6 +23,7 @@ use Rattle.lists.proofs.Parts.{all-flat, flat-split}
 use Rattle.lists.specs.Lists.{flat, split, sum, unless}
 use Rattle.pattern.proofs.Counts.{Full}
 use Rattle.pattern.proofs.Named.{wires-summed}
+use Rattle.pattern.proofs.Passed.{pattern-passed}
 use Rattle.pattern.specs.Checks.{contentFaults, countFaults, outlines, patternFaults}
 use Rattle.pattern.specs.Contents.{Content, content, countsOf}
 use Rattle.pattern.specs.declared.Pattern.{Pattern}
@@ -101,7 +102,7 @@ module _ (p : Pattern) (full : Full p) (u v : ℕ) where
   pub concat-pattern-accepted : patternFaults p ≡ [] → patternFaults (afterConcat p u v) ≡ []
   concat-pattern-accepted ok =
       after-accepted p full ok (concatContent c u v) (concatFaults c u v)
-      (λ h. (few h, concat-accepted c (none-right (countFaults (p .counts)) (contentFaults c) ok) u v h))
+      (λ h. (few h, concat-accepted c (pattern-passed p ok .content) u v h))
 
   pub concat-full : patternFaults p ≡ [] → Full (afterConcat p u v)
   concat-full ok = after-full p full ok (concatContent c u v) (concatFaults c u v) few

@@ -1,6 +1,6 @@
 -- Laws of the cut: one wire, the wires of a face, the wires of all faces.
 use Prim.Native.Nat.{_+_, _-_, _<_, _≤_, suc, ℕ}
-use mathlib.Core.Bool.{Bool, _&&_, _||_, false, true, true≢false}
+use mathlib.Core.Bool.{Bool, _&&_, false, true, true≢false}
 use mathlib.Core.List.{List, [], _++_, _∷_, append-assoc, map}
 use mathlib.Core.Logic.{_⊎_, inl, inr, ⊎-elim}
 use mathlib.Core.Path.{_∙_, _≡_, ap, refl, sym}

@@ -2,7 +2,6 @@
 use Prim.Native.Nat.{_+_, _<_, _≤_, suc, ℕ}
 use mathlib.Core.Bool.{Bool, _&&_, false, not, true, true≢false}
 use mathlib.Core.List.{List, [], _++_, _∷_, map, map-append}
-use mathlib.Core.Logic.{_⊎_, ⊎-elim}
 use mathlib.Core.Path.{_∙_, _≡_, ap, refl, sym}
 use native.Mathlib.Omega.{arith}
 use lib.Dec.{eqb, leb, ltb}

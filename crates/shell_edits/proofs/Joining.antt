@@ -13,9 +13,9 @@ use Rattle.edge.specs.Uses.{backOf, frontOf}
 use Rattle.lists.proofs.Alike.{bit-one, count-noDup, noDup-count}
 use Rattle.lists.proofs.Count.{All, all-append, all-drop, all-take, bit, count-append}
 use Rattle.lists.proofs.Laws.{cases, left-true, right-true}
-use Rattle.lists.specs.Lists.{count, has, noDup, pick}
+use Rattle.lists.specs.Lists.{count, has, noDup, pick, rotated}
 use Rattle.wire.proofs.Laws.{Sound}
-use Rattle.wire.specs.Swaps.{rotated, swapPair, swapSubwire}
+use Rattle.wire_swaps.specs.Swaps.{swapPair, swapSubwire}
 use Rattle.wire.specs.Wires.{closed, points, runs}
 
 -- every number stands in the first list at most as often as in the second

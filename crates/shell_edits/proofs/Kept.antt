@@ -9,14 +9,13 @@ use Rattle.edge.specs.Uses.{backOf, frontOf}
 use Rattle.lists.proofs.Alike.{count-noDup}
 use Rattle.lists.proofs.Count.{All, all-weaker, count-append, count-flat}
 use Rattle.lists.proofs.Parts.{all-flat, flat-split, map-same}
-use Rattle.lists.specs.Lists.{count, flat, split, sum}
+use Rattle.lists.specs.Lists.{count, flat, rotated, split, sum}
 use Rattle.shell.proofs.Chain.{from}
 use Rattle.shell.proofs.Rings.{points-count}
 use Rattle.shell.proofs.Walked.{Ring}
 use Rattle.shell_edits.proofs.Accepted.{Ruled}
 use Rattle.shell_edits.proofs.Joining.{Freed, Within, closed-ends, ends-closed}
 use Rattle.wire.proofs.Laws.{Sound}
-use Rattle.wire.specs.Swaps.{rotated}
 use Rattle.wire.specs.Wires.{points}
 
 -- a claim of each two elements at the same place of two lists of one length

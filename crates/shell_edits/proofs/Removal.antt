@@ -9,7 +9,7 @@ use lib.Dec.{eqb, leb, ltb}
 use lib.ListN.{List·getD-eq-default, drop, getD, length, length-append, length-map, length-set, set, take}
 use lib.Seq.{getD-set-other, getD-set-same, set-set}
 use borrow.Author.Tests.{eqb-false, eqb-true, leb-true, ltb-false, ltb-true}
-use Rattle.edge.specs.Edges.{backNumber, edge, frontNumber}
+use Rattle.edge.specs.Edges.{backNumber, frontNumber}
 use Rattle.edge.specs.Uses.{backOf, edgeNumber, frontOf, turned}
 use Rattle.edge.specs.declared.Edge.{Edge}
 use Rattle.edit_answers.specs.declared.EditError.the-variants.{NotOneOrTwoWires, SharedFace, Unmatched, Unnamed}
@@ -19,7 +19,7 @@ use Rattle.lists.proofs.Alike.{count-both, has-none}
 use Rattle.lists.proofs.Count.{All, all-append, all-at, all-drop, all-each, all-split, all-take, all-weaker, count-only}
 use Rattle.lists.proofs.Laws.{cases, has-append, left-true, length-split, right-true}
 use Rattle.lists.proofs.Parts.{all-flat, all-place, flat-split, split-flat}
-use Rattle.lists.specs.Lists.{count, flat, has, only, pick, split, unless}
+use Rattle.lists.specs.Lists.{count, flat, has, only, pick, rotated, split, unless}
 use Rattle.pattern.proofs.Named.{ends-apart, faces-summed, use-named, wires-summed}
 use Rattle.pattern.specs.Checks.{contentFaults, outlines}
 use Rattle.pattern.specs.Contents.{Content}
@@ -33,7 +33,7 @@ use Rattle.shell_edits.proofs.Remove.{Joins, join-allowed, join-fine, n
 use Rattle.shell_edits.specs.Edits.{endPlace, endUse, endingWires, firstWire, joinFaults, joinedEdge, lastWire, listedWires, matched, nextUse, outline, placeIn, removeContent, removeFaults, removeWires, sharesFace, usesIn, wiresIn, wiresOf}
 use Rattle.shell_edits.proofs.Wires.{all-has}
 use Rattle.wire.proofs.Laws.{Sound}
-use Rattle.wire.specs.Swaps.{rotated, swapSubwire}
+use Rattle.wire_swaps.specs.Swaps.{swapSubwire}
 
 module _ {ℓ} {A : Type ℓ} where
   -- those that pass a test pass it

@@ -10,11 +10,11 @@ use lib.ListN.{getD, length, length-set, set}
 use lib.Seq.{ext-getD, getD-at, getD-set-other, getD-set-same}
 use borrow.Author.Tests.{eq-eqb, eqb-false, eqb-true, le-leb, leb-true, lt-leb, lt-ltb, not-true}
 use Rattle.curve.specs.Curves.{joinCurves, joinedSpan}
-use Rattle.edge.specs.Edges.{edge, isSpan}
+use Rattle.edge.specs.Edges.{isSpan}
 use Rattle.edge.specs.Uses.{backOf, edgeNumber, frontOf}
 use Rattle.errors.proofs.Laws.{none-left, none-right, unless-passes}
 use Rattle.lists.proofs.Laws.{cases, eqb-sym}
-use Rattle.lists.specs.Lists.{has, pick, unless}
+use Rattle.lists.specs.Lists.{has, pick, rotated, unless}
 use Rattle.edge.specs.declared.Curve.{Curve}
 use Rattle.edit_answers.specs.declared.EditError.the-variants.{NoSpace, SameEnds, SpanRefused}
 use Rattle.errors.specs.Faults.{each}
@@ -25,8 +25,7 @@ use Rattle.shell.specs.Openings.{backIn, frontIn}
 use Rattle.shell_edits.specs.Edits.{eachWire, edgeOf, isJoined, joinFaults, joinedEdge, roomForEdges}
 use Rattle.shell_edits.proofs.Wires.{each-long}
 use Rattle.wire.proofs.Laws.{getD-points}
-use Rattle.wire.specs.Swaps.{endFrom, rotated}
-use Rattle.wire.specs.Wires.{closed}
+use Rattle.wire.specs.Wires.{closed, endFrom}
 use Rattle.wire.specs.declared.Found.the-variants.{At}
 use Rattle.shell_edits.proofs.Joining.{closed-ends, length-rotated, map-rotated}
 

@@ -11,10 +11,10 @@ use Rattle.edge.specs.declared.EdgeID.{EdgeID}
 use Rattle.edit_answers.specs.declared.EditError.{EditError}
 use Rattle.edit_answers.specs.declared.EditError.the-variants.{NoSpace, NotOneOrTwoWires, SameEnds, SharedFace, SpanRefused, Unmatched, Unnamed}
 use Rattle.edit_answers.specs.declared.JoinAnswer.the-variants.{Joined, Not}
-use Rattle.errors.proofs.Laws.{none-right}
 use Rattle.lists.proofs.Count.{All, all-append}
 use Rattle.lists.specs.Lists.{has, unless}
 use Rattle.pattern.proofs.Counts.{Full}
+use Rattle.pattern.proofs.Passed.{pattern-passed}
 use Rattle.pattern.specs.Checks.{contentFaults, countFaults, patternFaults}
 use Rattle.pattern.specs.Contents.{Content, content, countsOf}
 use Rattle.pattern.specs.declared.Pattern.{Pattern}
@@ -54,7 +54,7 @@ module _ (p : Pattern) (full : Full p) (n v : ℕ) where
 
   few : patternFaults p ≡ [] → removeFaults c n v ≡ [] → countFaults (countsOf (removeContent c n v)) ≡ []
   few ok h =
-      let fine : contentFaults c ≡ [] = none-right (countFaults (p .counts)) (contentFaults c) ok in
+      let fine = pattern-passed p ok .content in
       let wires = removeWires c n v in
       edited-few p full (joinedEdge c u w ∷ []) (removeContent c n v .uses) (map length wires)
       (omega (arith, length-append (c .edges) (joinedEdge c u w ∷ []), remove-allowed c n v h .joins .room)) (omega (arith, uses-fewer c fine n v h, uses-few p full))
@@ -64,7 +64,7 @@ module _ (p : Pattern) (full : Full p) (n v : ℕ) where
   pub remove-pattern-accepted : patternFaults p ≡ [] → patternFaults (afterRemove p n v) ≡ []
   remove-pattern-accepted ok =
       after-accepted p full ok (removeContent c n v) (removeFaults c n v)
-      (λ h. (few ok h, remove-accepted c (none-right (countFaults (p .counts)) (contentFaults c) ok) n v h))
+      (λ h. (few ok h, remove-accepted c (pattern-passed p ok .content) n v h))
 
   pub remove-full : patternFaults p ≡ [] → Full (afterRemove p n v)
   remove-full ok = after-full p full ok (removeContent c n v) (removeFaults c n v) (few ok)

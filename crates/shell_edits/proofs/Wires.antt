@@ -1,7 +1,7 @@
 -- Laws of the wires of a shell: each changed by its number; the wires of a face are all listed or none.
 use Prim.Native.Nat.{_+_, _<_, _≤_, suc, zero, ℕ}
 use mathlib.Core.Bool.{Bool, _||_, false, or-true, true, true≢false}
-use mathlib.Core.List.{List, [], _++_, _∷_, map, map-append}
+use mathlib.Core.List.{List, [], _∷_, map, map-append}
 use mathlib.Core.Logic.{⊎-elim}
 use mathlib.Core.Path.{_∙_, _≡_, ap, refl, sym}
 use native.Mathlib.Nat.{not-suc-le-zero}

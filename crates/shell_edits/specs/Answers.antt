@@ -1,6 +1,6 @@
 -- What each edit answers, and what the pattern then is. The reading checks come first; refused, the pattern is as it was.
 use Prim.Native.Nat.{ℕ, _+_}
-use mathlib.Core.List.{List, [], _∷_}
+use mathlib.Core.List.{List}
 use lib.ListN.{length}
 use lib.Seq.{sets}
 use Rattle.curve.specs.declared.Parameter.{Parameter}

@@ -4,7 +4,7 @@ use mathlib.Core.Bool.{Bool, true, false, not, _&&_, _||_}
 use mathlib.Core.List.{List, [], _∷_, _++_, map}
 use lib.Dec.{eqb, leb, ltb}
 use lib.ListN.{drop, getD, length, take}
-use Rattle.lists.specs.Lists.{disjoint, flat, has, numbers, only, pick, split, unless}
+use Rattle.lists.specs.Lists.{disjoint, flat, has, numbers, only, pick, rotated, split, unless}
 use Rattle.edge.specs.Edges.{backNumber, edge, frontNumber}
 use Rattle.edge.specs.Uses.{edgeNumber, turned}
 use Rattle.edge.specs.declared.Edge.{Edge}
@@ -14,8 +14,8 @@ use Rattle.curve.specs.declared.Halves.the-variants.{Both, Refused}
 use Rattle.curve.specs.declared.Joined.{Joined}
 use Rattle.curve.specs.declared.Joined.the-variants.{Whole, Refused as NotJoined}
 use Rattle.curve.specs.declared.Parameter.{Parameter}
-use Rattle.wire.specs.Wires.{findFrom}
-use Rattle.wire.specs.Swaps.{endFrom, rotated, swapEdge, swapSubwire}
+use Rattle.wire.specs.Wires.{endFrom, findFrom}
+use Rattle.wire_swaps.specs.Swaps.{swapEdge, swapSubwire}
 use Rattle.wire.specs.declared.Found.{Found}
 use Rattle.wire.specs.declared.Found.the-variants.{At, Nothing}
 use Rattle.face.specs.Faces.{wireCount}

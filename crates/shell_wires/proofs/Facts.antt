@@ -8,14 +8,14 @@ use lib.Seq.{getD-take, sets}
 use Rattle.edge.specs.Edges.{backNumber, frontNumber}
 use Rattle.edge.specs.Uses.{edgeNumber, frontOf}
 use Rattle.edge.specs.declared.Edge.{Edge}
-use Rattle.errors.proofs.Laws.{none-left, none-right}
-use Rattle.face.specs.Faces.{faceRule, wireCount}
+use Rattle.face.specs.Faces.{wireCount}
 use Rattle.listing.proofs.Laws.{listing-named, shells-summed}
 use Rattle.lists.proofs.Laws.{map-take}
 use Rattle.lists.specs.Lists.{sum}
 use Rattle.pattern.proofs.Counts.{Full, Limited, edges-counted, faces-counted, limited, listings-counted, points-counted, shells-counted, uses-counted, wires-counted}
 use Rattle.pattern.proofs.Named.{named, point-named, tables-faces, tables-wires, use-named}
-use Rattle.pattern.specs.Checks.{contentFaults, countFaults, outlines, patternFaults, recordFaults}
+use Rattle.pattern.proofs.Passed.{content-passed, pattern-passed}
+use Rattle.pattern.specs.Checks.{patternFaults, recordFaults}
 use Rattle.pattern.specs.Contents.{content, countsOf}
 use Rattle.pattern.specs.declared.Pattern.{Pattern}
 use Rattle.shell.specs.Openings.{backIn, frontIn}
@@ -51,7 +51,7 @@ fine p ok seven full = record {
   ok = ok;
   seven = seven;
   full = full;
-  limits = limited (p .counts) seven (none-left (countFaults (p .counts)) (contentFaults (content p)) ok);
+  limits = limited (p .counts) seven (pattern-passed p ok .counts);
 }
 
 module _ (p : Pattern) (s : Fine p) where
@@ -84,9 +84,7 @@ module _ (p : Pattern) (s : Fine p) where
   backs = map backNumber (p .edges)
 
   pub records-fine : recordFaults (content p) ≡ []
-  records-fine =
-      none-left (recordFaults (content p)) (faceRule (map frontNumber (content p .edges)) (map backNumber (content p .edges)) 0 (outlines (content p)))
-      (none-right (countFaults (p .counts)) (contentFaults (content p)) (s .ok))
+  records-fine = content-passed (content p) (pattern-passed p (s .ok) .content) .records
 
   pub counts-are : countsOf (content p) ≡ p .counts
   counts-are =

@@ -6,7 +6,6 @@ use mathlib.Core.Path.{_∙_, _≡_, ap, sym}
 use native.Mathlib.Omega.{arith}
 use lib.ListN.{drop, getD, length, length-map, take}
 use lib.Seq.{getD-take, take-take}
-use Rattle.edge.specs.Edges.{backNumber, frontNumber}
 use Rattle.face.specs.Faces.{wireCount}
 use Rattle.listing.proofs.Laws.{shells-summed}
 use Rattle.lists.proofs.Laws.{map-take, sum-next, sum-take-drop}
@@ -22,7 +21,6 @@ use Rattle.shell_wires.proofs.Laws.{flagsOf, listed-flags, lists-shared
 use Rattle.shell_wires.specs.Flags.{NameFaces, listsFlagged, wireFlags}
 use Rattle.shell_wires.specs.Lent.{Lent, Listed}
 use Rattle.shell_wires.specs.ShellWires.{marksOf}
-use Rattle.shell_wires.specs.declared.Marks.{Marks}
 use Rattle.wire.specs.Wires.{Named}
 
 names-append : (xs ys : List ℕ) → NameFaces xs → NameFaces ys → NameFaces (xs ++ ys)

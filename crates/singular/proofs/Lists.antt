@@ -1,19 +1,18 @@
 -- Laws of lists.
-use Prim.Native.Nat.{_+_, _-_, _<_, _≤_, suc, zero, ℕ}
+use Prim.Native.Nat.{_+_, _-_, _<_, _≤_, suc, ℕ}
 use mathlib.Core.Bool.{Bool}
-use mathlib.Core.List.{List, [], _++_, _∷_, append-assoc, append-nil}
-use mathlib.Core.Path.{_∙_, _≡_, ap, refl, sym}
-use native.Mathlib.Nat.{le-of-suc-le-suc, not-suc-le-zero}
+use mathlib.Core.List.{List, [], _++_, _∷_, append-nil}
+use mathlib.Core.Path.{_∙_, _≡_, ap, refl}
 use native.Mathlib.Numerals.{add-one}
 use native.Mathlib.Omega.{arith}
-use lib.ListN.{drop, getD, length, length-drop, take-append-drop}
+use lib.ListN.{length}
 use lib.Seq.{length-sets, sets}
 use Rattle.lists.proofs.Parts.{only-append, only-same}
-use Rattle.lists.proofs.Count.{All, all-append, all-each}
+use Rattle.lists.proofs.Count.{All, all-each}
 use Rattle.lists.proofs.Flat.{getD-tabulate}
 use Rattle.lists.proofs.Laws.{length-tabulate, tabulate-suc}
 use Rattle.lists.proofs.Sets.{Put, put-then}
-use Rattle.lists.specs.Lists.{flat, numbers, only, pick, split, sum, tabulate}
+use Rattle.lists.specs.Lists.{numbers, only, pick, tabulate}
 
 -- the numbers that pass, of one more
 only-next : (q : ℕ → Bool) (p : ℕ) → only q (numbers (suc p)) ≡ only q (numbers p) ++ pick (q p) (p ∷ []) []

@@ -1,16 +1,12 @@
 -- The wires, as the code has them: all uses one after the other, and the lengths of the wires.
 use Prim.Native.Nat.{_*_, _<_, _≤_, ℕ}
-use mathlib.Core.List.{List, _++_, map}
+use mathlib.Core.List.{List, map}
 use mathlib.Core.Path.{_≡_}
-use lib.ListN.{drop, getD, length, replicate, take}
-use Rattle.edge.specs.Uses.{backOf, edgeNumber, frontOf}
+use lib.ListN.{getD, length, replicate}
+use Rattle.edge.specs.Uses.{EdgesBelow, backOf, frontOf}
 use Rattle.groups.specs.Forest.{joinedAll, started}
-use Rattle.lists.specs.Lists.{flat, split, sum}
+use Rattle.lists.specs.Lists.{flat, rotated, split, sum}
 use Rattle.shell.specs.Singular.{corners, firstEnd}
-
--- the next use on the wire of each, the first after the last
-abbrev pub rotated : List ℕ → List ℕ
-rotated us = drop 1 us ++ take 1 us
 
 -- for each use of a wire, the end where the next use begins
 abbrev pub nextEnds : List ℕ → List ℕ
@@ -20,10 +16,6 @@ nextEnds us = map firstEnd (rotated us)
 abbrev pub endParents : ℕ → List ℕ → List ℕ → List ℕ
 endParents edges lens uses =
     joinedAll (started (2 * edges) (replicate 2048 0) (replicate 2048 0)) (flat (map corners (split lens uses))) .parents
-
--- every use names an edge
-abbrev pub EdgesBelow : ℕ → List ℕ → Type 0
-EdgesBelow edges us = (k : ℕ) → k < length us → edgeNumber (getD us k 0) < edges
 
 -- the lengths are those of the wires, and every use names an edge
 pub record Wired (uses lens : List ℕ) (edges : ℕ) : Type 0 where

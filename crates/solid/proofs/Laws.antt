@@ -1,13 +1,12 @@
 -- The first error of a shell, case by case; that of a solid, shell by shell.
 use Prim.Native.Nat.{_<_, suc, ℕ}
 use mathlib.Core.Bool.{Bool, false, not, true}
-use mathlib.Core.List.{List, [], _++_, _∷_, append-nil, map}
-use mathlib.Core.Path.{_∙_, _≡_, ap, refl, sym}
+use mathlib.Core.List.{List, [], _++_, _∷_, map}
+use mathlib.Core.Path.{_≡_, refl, sym}
 use native.Mathlib.Omega.{arith}
 use borrow.Author.Tests.{eq-eqb, le-ltb, lt-ltb, ne-eqb, not-false, not-true}
 use Rattle.lists.proofs.Parts.{flat-numbers}
-use Rattle.lists.proofs.Laws.{flat-append, map-tabulate, tabulate-suc}
-use Rattle.lists.specs.Lists.{flat, numbers, tabulate}
+use Rattle.lists.specs.Lists.{flat, numbers}
 use Rattle.solid.specs.Solid.{andThen, errorsOf, firstError, firstOfSolid, inShell, inSolid}
 use Rattle.solid.specs.declared.ShellCheck.the-variants.{Fine, Wrong}
 use Rattle.solid.specs.declared.ShellError.{ShellError}

@@ -18,7 +18,8 @@ use Rattle.lists.proofs.Flat.{getD-tabulate}
 use Rattle.lists.proofs.Laws.{length-split, length-tabulate}
 use Rattle.lists.specs.Lists.{split}
 use Rattle.pattern.proofs.Named.{faces-summed, wires-summed}
-use Rattle.pattern.specs.Checks.{contentFaults, countFaults, outlines, recordFaults}
+use Rattle.pattern.proofs.Passed.{content-passed}
+use Rattle.pattern.specs.Checks.{contentFaults, countFaults, outlines}
 use Rattle.pattern.specs.Contents.{Content, layout, zeroEdge, zeroFace}
 use Rattle.pattern_file.proofs.Records.{span-no-nan}
 use Rattle.pattern_file.proofs.WriteBack.{span}
@@ -49,7 +50,7 @@ module _ (s : List ℕ) (bytes : Bytes s) (ok : fileFaults s ≡ []) where
 
   pub summed : Summed c
   summed =
-      let right : recordFaults c ≡ [] = none-left (recordFaults c) _ content-right in
+      let right = content-passed c content-right .records in
       record {
         few = limits s (none-left (tableFaults s) (contentFaults c) ok);
         uses = wires-summed c right;

@@ -17,7 +17,7 @@ use Rattle.errors.specs.declared.WireError.the-variants.{EmptyWire, NotClosedWi
 use Rattle.lists.proofs.Marks.{AllBelow, met-fresh}
 use Rattle.lists.specs.Lists.{noDup, unless}
 use Rattle.lists.specs.Marks.{Below, met}
-use Rattle.wire.specs.Wires.{Named, closed, findFrom, outlineOf, points, runs, wireFaults}
+use Rattle.wire.specs.Wires.{Named, closed, endFrom, findFrom, outlineOf, points, runs, wireFaults}
 use Rattle.wire.specs.declared.Found.the-variants.{At, Nothing}
 
 -- a search among the uses from place i on
@@ -162,3 +162,19 @@ module _ (fronts backs : List ℕ) where
 
   pub faultless-noDup : (us : List ℕ) → wireFaults fronts backs us ≡ [] → noDup (points fronts backs us) ≡ true
   faultless-noDup us h = faultless-sound us h .once
+
+module _ (fronts backs : List ℕ) where
+  -- a search among the uses from place i on for one that ends at point p
+  module _ (us : List ℕ) (p i : ℕ) where
+    pub end-past : length us ≤ i → endFrom fronts backs i p (drop i us) ≡ Nothing
+    unfolding endFrom
+    end-past h = rw drop-of-length-le
+
+    pub end-here : i < length us → backOf fronts backs (getD us i 0) ≡ p → endFrom fronts backs i p (drop i us) ≡ At i
+    unfolding endFrom
+    end-here h e = rw (drop-cons {A = ℕ} us i 0 h, eq-eqb (backOf fronts backs (getD us i 0)) p e)
+
+    pub end-next : i < length us → (backOf fronts backs (getD us i 0) ≡ p → ⊥)
+        → endFrom fronts backs i p (drop i us) ≡ endFrom fronts backs (i + 1) p (drop (i + 1) us)
+    unfolding endFrom
+    end-next h e = rw (drop-cons {A = ℕ} us i 0 h, ne-eqb (backOf fronts backs (getD us i 0)) p e, add-one)

@@ -42,6 +42,12 @@ unfoldable pub findFrom : ℕ → ℕ → List ℕ → Found
 findFrom i e [] = Nothing
 findFrom i e (u ∷ us) = pick (eqb (edgeNumber u) e) (At i) (findFrom (i + 1) e us)
 
+module _ (fronts backs : List ℕ) where
+  -- the place of the first use that ends at point p; the first use of the list has place i
+  unfoldable pub endFrom : ℕ → ℕ → List ℕ → Found
+  endFrom i p [] = Nothing
+  endFrom i p (u ∷ us) = pick (eqb (backOf fronts backs u) p) (At i) (endFrom (i + 1) p us)
+
 -- the part of the use list that begins at `start`, or the empty part where it would pass the end
 abbrev pub outlineOf : List ℕ → ℕ → ℕ → List ℕ
 outlineOf us start n = pick (leb (start + n) (length us)) (take n (drop start us)) []

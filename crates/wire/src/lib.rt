@@ -8,8 +8,7 @@ ghost use Rattle.lists.specs.Lists.{noDup, pick};
 ghost use Rattle.lists.specs.Marks.{stamped, met, Below};
 ghost use Rattle.errors.specs.Faults.{firstOfWire};
 ghost use Rattle.edge.specs.Uses.{edgeNumber};
-ghost use Rattle.wire.specs.Wires.{closed, points, wireFaults, Named, findFrom, outlineOf};
-ghost use Rattle.wire.specs.Swaps.{endFrom, sameEnds, swapEdge, swapSubwire};
+ghost use Rattle.wire.specs.Wires.{closed, points, wireFaults, Named, findFrom, endFrom, outlineOf};
 use edge::EdgeID;
 use edge::back_of;
 use edge::front_of;
@@ -152,84 +151,5 @@ pub fn find_end(uses: &[u16], fronts: &[u16], backs: &[u16], v: VertexID) -> Fou
             break Found::At(k);
         }
         k += 1;
-    }
-}
-
-// Writes uses from `at` on.
-pub fn put_uses(uses: &[u16], out: &mut [u16], at: usize)
-    requires { ⌜ at + length (now uses) ≤ length (now out) ⌝ }
-    ensures { λ _. ⌜ now (out .exit) ≡ sets (now (out .entry)) at (now (uses .entry)) ⌝ }
-{
-    let mut i: usize = 0;
-    while i < uses.len() {
-        out[at + i] = uses[i];
-        i += 1;
-    }
-}
-
-// Whether a wire has a use, and runs between the ends of use u.
-fn same_ends(u: u16, new: &[u16], fronts: &[u16], backs: &[u16]) -> bool
-    requires { ⌜ (edgeNumber u < length (now fronts)) × (edgeNumber u < length (now backs)) ⌝ }
-    requires { ⌜ Named (now fronts) (now backs) (now new) ⌝ }
-    ensures { λ r. ⌜ r ≡ sameEnds (now (fronts .entry)) (now (backs .entry)) u (now (new .entry)) ⌝ }
-{
-    let n = new.len();
-    if n > 0 {
-        let p = front_of(u, fronts, backs);
-        let q = front_of(new[0], fronts, backs);
-        if p == q {
-            let r = back_of(u, fronts, backs);
-            let s = back_of(new[n - 1], fronts, backs);
-            return r == s;
-        }
-    }
-    false
-}
-
-// Writes the wire, with the use at place i given way to the uses of another wire, from `at` on. If
-// the other wire has no use or other ends, writes nothing and answers false.
-pub fn swap_edge_into_wire(
-    uses: &[u16],
-    i: usize,
-    new: &[u16],
-    fronts: &[u16],
-    backs: &[u16],
-    out: &mut [u16],
-    at: usize,
-) -> bool
-    requires { ⌜ i < length (now uses) ⌝ }
-    requires { ⌜ Named (now fronts) (now backs) (now uses) ⌝ }
-    requires { ⌜ Named (now fronts) (now backs) (now new) ⌝ }
-    requires { ⌜ at + length (now uses) + length (now new) ≤ length (now out) + 1 ⌝ }
-    ensures { λ r. ⌜ r ≡ sameEnds (now (fronts .entry)) (now (backs .entry)) (getD (now (uses .entry)) i 0) (now (new .entry)) ⌝ }
-    ensures { λ _. ⌜ now (out .exit) ≡ pick (sameEnds (now (fronts .entry)) (now (backs .entry)) (getD (now (uses .entry)) i 0) (now (new .entry))) (sets (now (out .entry)) at (swapEdge (now (uses .entry)) i (now (new .entry)))) (now (out .entry)) ⌝ }
-{
-    if same_ends(uses[i], new, fronts, backs) {
-        let next = i + 1;
-        put_uses(&uses[0..i], out, at);
-        put_uses(new, out, at + i);
-        put_uses(&uses[next..uses.len()], out, at + i + new.len());
-        return true;
-    }
-    false
-}
-
-// Writes the wire, with the use at place i and the next given way to one use, from `at` on. Where
-// the use is its wire's last, the wire first rotates left by one.
-pub fn swap_subwire_into_edges(uses: &[u16], i: usize, u: u16, out: &mut [u16], at: usize)
-    requires { ⌜ i < length (now uses) ⌝ }
-    requires { ⌜ 2 ≤ length (now uses) ⌝ }
-    requires { ⌜ at + length (now uses) ≤ length (now out) + 1 ⌝ }
-    ensures { λ _. ⌜ now (out .exit) ≡ sets (now (out .entry)) at (swapSubwire (now (uses .entry)) i u) ⌝ }
-{
-    if i + 1 == uses.len() {
-        let m = i - 1;
-        put_uses(&uses[1..i], out, at);
-        out[at + m] = u;
-    } else {
-        let rest = i + 2;
-        put_uses(&uses[0..i], out, at);
-        out[at + i] = u;
-        put_uses(&uses[rest..uses.len()], out, at + i + 1);
     }
 }

@@ -1,4 +1,4 @@
-// Little-endian numbers in slices of bytes, and sums of columns.
+// Little-endian numbers in slices of bytes; columns of numbers: copies, sums.
 ghost use mathlib.Core.Path.{_≡_};
 ghost use Prim.Native.Nat.{_+_, _≤_, _<_};
 ghost use lib.ListN.{length, take};
@@ -75,6 +75,18 @@ pub fn put_u64(out: &mut [u8], at: usize, n: u64)
 {
     put_u32(out, at, (n % 4294967296) as u32);
     put_u32(out, at + 4, (n / 4294967296) as u32);
+}
+
+// Copies a list to the places from `at` on.
+pub fn copy_u16s(from: &[u16], out: &mut [u16], at: usize)
+    requires { ⌜ at + length (now from) ≤ length (now out) ⌝ }
+    ensures { λ _. ⌜ now (out .exit) ≡ sets (now (out .entry)) at (now (from .entry)) ⌝ }
+{
+    let mut i: usize = 0;
+    while i < from.len() {
+        out[at + i] = from[i];
+        i += 1;
+    }
 }
 
 // The sum of the first n numbers.

@@ -11,40 +11,18 @@ use Rattle.add_boundary.proofs.add_at.Tie as tie
 
 add-wire-requires : tie.Need-add-wire-requires
 add-wire-requires c κs =
-    let a = c .before .before .before .before .before .before .before .before .before .before .before .before .before .before .before .args in
-    let pre = c .before .before .before .before .before .before .before .before .before .before .before .before .before .before .before .pre in
-    rw (sub-zero (a .ecount), part-to (a .part .at) (a .part .uses) (a .all .now), part-to (a .part .wire) (a .part .wires) (a .wires .now))
-    (pre .1 .1 .0, (pre .1 .1 .1, (omega (arith, length-take (a .part .uses) (drop (a .part .at) (a .all .now)), length-drop (a .part .at) (a .all .now), pre .1 .0 .1), omega (arith, length-take (a .part .wires) (drop (a .part .wire) (a .wires .now)), length-drop (a .part .wire) (a .wires .now), pre .1 .0 .3))))
+    let start = c .before .before .before .before .before .before .before .before .before .before .before .before .before .before .before in
+    rw (sub-zero (start .args .ecount), part-to (start .args .part .at) (start .args .part .uses) (start .args .all .now), part-to (start .args .part .wire) (start .args .part .wires) (start .args .wires .now))
+    (start .pre .1 .1 .0, (start .pre .1 .1 .1, (omega (arith, length-take (start .args .part .uses) (drop (start .args .part .at) (start .args .all .now)), length-drop (start .args .part .at) (start .args .all .now), start .pre .1 .0 .1), omega (arith, length-take (start .args .part .wires) (drop (start .args .part .wire) (start .args .wires .now)), length-drop (start .args .part .wire) (start .args .wires .now), start .pre .1 .0 .3))))
 
 returns : tie.Need-returns
 returns c =
-    let a = c .before .before .before .before .before .before .before .before .before .before .before .before .before .before .before .before .before .before .before .before .args in
-    let pre = c .before .before .before .before .before .before .before .before .before .before .before .before .before .before .before .before .before .before .before .before .pre in
-    let long : length (take (a .part .wires) (drop (a .part .wire) (a .wires .now))) ≡ a .part .wires =
-    length-take-le (a .part .wires) (drop (a .part .wire) (a .wires .now)) (omega (arith, length-drop (a .part .wire) (a .wires .now), pre .1 .0 .2)) in
-    rw (sub-zero (a .ecount), part-to (a .part .at) (a .part .uses) (a .all .now), part-to (a .part .wire) (a .part .wires) (a .wires .now), long) at (c .before .before .before .before .add-wire .ensures)
+    let start = c .before .before .before .before .before .before .before .before .before .before .before .before .before .before .before .before .before .before .before .before in
+    let long : length (take (start .args .part .wires) (drop (start .args .part .wire) (start .args .wires .now))) ≡ start .args .part .wires =
+    length-take-le (start .args .part .wires) (drop (start .args .part .wire) (start .args .wires .now)) (omega (arith, length-drop (start .args .part .wire) (start .args .wires .now), start .pre .1 .0 .2)) in
+    rw (sub-zero (start .args .ecount), part-to (start .args .part .at) (start .args .part .uses) (start .args .all .now), part-to (start .args .part .wire) (start .args .part .wires) (start .args .wires .now), long) at (c .before .before .before .before .add-wire .ensures)
 
 pub add-at-spec : {M : Type 1} → statement M
-add-at-spec =
-    tie.close
-    (tie.spec
-    (λ c. search needs)
-    (λ c. search needs)
-    (λ c. search needs)
-    (λ c. search needs)
-    (λ c. search needs)
-    (λ c. search needs)
-    (λ c. search needs)
-    (λ c. search needs)
-    (λ c. search needs)
-    (λ c. search needs)
-    (λ c. search needs)
-    (λ c. search needs)
-    (λ c. search needs)
-    (λ c. search needs)
-    (λ c. search needs)
-    (λ c. search needs)
-    add-wire-requires
-    (λ c. search needs)
-    (λ c. search needs)
-    returns)
+add-at-spec = tie.close (tie.spec (search needs) (search needs) (search needs) (search needs) (search needs) (search needs) (search needs)
+    (search needs) (search needs) (search needs) (search needs) (search needs) (search needs) (search needs) (search needs) (search needs)
+    add-wire-requires (search needs) (search needs) returns)

@@ -14,51 +14,39 @@ use Rattle.add_boundary.proofs.add_wire.Tie as tie
 
 returns : tie.Need-returns
 returns c =
-    let a = c .before .before .before .before .before .before .before .before .before .before .before .args in
-    let es = boundaryFaults (a .fronts .now) (a .backs .now) (a .own .now) (length (a .sizes .now)) (a .wire .now) (length (a .uses .now)) (length (a .lens .now)) in
+    let args = c .before .before .before .before .before .before .before .before .before .before .before .args in
+    let es = boundaryFaults (args .fronts .now) (args .backs .now) (args .own .now) (length (args .sizes .now)) (args .wire .now) (length (args .uses .now)) (length (args .lens .now)) in
     let h = sym (c .before .before .before .judge-wire .ensures) ∙ c .before .judged .given .1 in (
-      unfit-answer es _ (Written (length (a .own .now) + length (a .wire .now)) (suc (length (a .sizes .now)))) h,
+      unfit-answer es _ (Written (length (args .own .now) + length (args .wire .now)) (suc (length (args .sizes .now)))) h,
       (
-        sets-nothing (a .uses .now) _ (unfit-out es _ (a .own .now ++ storedAs (a .reversed) (a .wire .now)) h),
-        sets-nothing (a .lens .now) _ (unfit-out es _ (a .sizes .now ++ (length (a .wire .now) ∷ [])) h),
+        sets-nothing (args .uses .now) _ (unfit-out es _ (args .own .now ++ storedAs (args .reversed) (args .wire .now)) h),
+        sets-nothing (args .lens .now) _ (unfit-out es _ (args .sizes .now ++ (length (args .wire .now) ∷ [])) h),
       ),
     )
 
 put-boundary-requires : tie.Need-put-boundary-requires
 put-boundary-requires c κs =
-    let a = c .before .before .before .before .before .before .before .before .before .before .before .args in
-    uses-fit (a .fronts .now) (a .backs .now) (a .own .now) (length (a .sizes .now)) (a .wire .now) (length (a .uses .now)) (length (a .lens .now)) (sym (c .before .before .before .judge-wire .ensures) ∙ c .before .enum-told .given .1)
+    let args = c .before .before .before .before .before .before .before .before .before .before .before .args in
+    uses-fit (args .fronts .now) (args .backs .now) (args .own .now) (length (args .sizes .now)) (args .wire .now) (length (args .uses .now)) (length (args .lens .now)) (sym (c .before .before .before .judge-wire .ensures) ∙ c .before .enum-told .given .1)
 
 put-length-requires : tie.Need-put-length-requires
 put-length-requires c κs =
-    let a = c .before .before .before .before .before .before .before .before .before .before .before .before .before .before .before .args in
+    let start = c .before .before .before .before .before .before .before .before .before .before .before .before .before .before .before in
     let h = sym (c .before .before .before .before .before .before .before .judge-wire .ensures) ∙ c .before .before .before .before .before .enum-told .given .1 in
-    (wires-fit (a .fronts .now) (a .backs .now) (a .own .now) (length (a .sizes .now)) (a .wire .now) (length (a .uses .now)) (length (a .lens .now)) h, omega (arith, is-short (a .fronts .now) (a .backs .now) (a .own .now) (length (a .sizes .now)) (a .wire .now) (length (a .uses .now)) (length (a .lens .now)) h (c .before .before .before .before .before .before .before .before .before .before .before .before .before .before .before .pre .0)))
+    (wires-fit (start .args .fronts .now) (start .args .backs .now) (start .args .own .now) (length (start .args .sizes .now)) (start .args .wire .now) (length (start .args .uses .now)) (length (start .args .lens .now)) h, omega (arith, is-short (start .args .fronts .now) (start .args .backs .now) (start .args .own .now) (length (start .args .sizes .now)) (start .args .wire .now) (length (start .args .uses .now)) (length (start .args .lens .now)) h (start .pre .0)))
 
 returns-2 : tie.Need-returns-2
 returns-2 c =
-    let a = c .before .before .before .before .before .before .before .before .before .before .before .before .before .before .before .before .before .before .args in
-    let es = boundaryFaults (a .fronts .now) (a .backs .now) (a .own .now) (length (a .sizes .now)) (a .wire .now) (length (a .uses .now)) (length (a .lens .now)) in
+    let args = c .before .before .before .before .before .before .before .before .before .before .before .before .before .before .before .before .before .before .args in
+    let es = boundaryFaults (args .fronts .now) (args .backs .now) (args .own .now) (length (args .sizes .now)) (args .wire .now) (length (args .uses .now)) (length (args .lens .now)) in
     let h = sym (c .before .before .before .before .before .before .before .before .before .before .judge-wire .ensures) ∙ c .before .before .before .before .before .before .before .before .enum-told .given .1 in (
-      rw add-one (fine-answer es (Written (length (a .own .now) + length (a .wire .now)) (suc (length (a .sizes .now)))) h),
+      rw add-one (fine-answer es (Written (length (args .own .now) + length (args .wire .now)) (suc (length (args .sizes .now)))) h),
       (
-        sets-same (a .uses .now) _ (a .own .now ++ storedAs (a .reversed) (a .wire .now)) _ (c .before .before .before .before .before .before .put-boundary .ensures) (fine-out es (a .own .now ++ storedAs (a .reversed) (a .wire .now)) h),
-        sets-same (a .lens .now) _ (a .sizes .now ++ (length (a .wire .now) ∷ [])) _ (c .before .before .put-length .ensures) (fine-out es (a .sizes .now ++ (length (a .wire .now) ∷ [])) h),
+        sets-same (args .uses .now) _ (args .own .now ++ storedAs (args .reversed) (args .wire .now)) _ (c .before .before .before .before .before .before .put-boundary .ensures) (fine-out es (args .own .now ++ storedAs (args .reversed) (args .wire .now)) h),
+        sets-same (args .lens .now) _ (args .sizes .now ++ (length (args .wire .now) ∷ [])) _ (c .before .before .put-length .ensures) (fine-out es (args .sizes .now ++ (length (args .wire .now) ∷ [])) h),
       ),
     )
 
 pub add-wire-spec : {M : Type 1} → statement M
-add-wire-spec =
-    tie.close
-    (tie.spec
-    (λ c κs. search needs)
-    (λ c. search needs)
-    returns
-    (λ c. search needs)
-    put-boundary-requires
-    put-length-requires
-    (λ c. search needs)
-    (λ c. search needs)
-    (λ c. search needs)
-    (λ c. search needs)
-    returns-2)
+add-wire-spec = tie.close (tie.spec (λ c κs. search needs) (search needs) returns (search needs) put-boundary-requires put-length-requires
+    (search needs) (search needs) (search needs) (search needs) returns-2)

@@ -6,10 +6,8 @@ use Rattle.add_boundary.proofs.disjoint_from.Tie as tie
 
 returns : tie.Need-returns
 returns c =
-    let a = c .before .before .before .before .before .before .before .before .before .before .before .before .before .args in
-    let pre = c .before .before .before .before .before .before .before .before .before .before .before .before .before .pre in
-    apart-says (a .fronts .now) (a .backs .now) (a .wire .now) (a .own .now) (a .marks .now) _ (a .stamp) _ (pre .0) (pre .1 .0) (pre .1 .1 .0) (pre .1 .1 .1 .0) (pre .1 .1 .1 .1) (c .before .before .before .before .before .before .stamp-points .ensures .1) (c .before .before .stamp-points2 .ensures .0)
+    let start = c .before .before .before .before .before .before .before .before .before .before .before .before .before in
+    apart-says (start .args .fronts .now) (start .args .backs .now) (start .args .wire .now) (start .args .own .now) (start .args .marks .now) _ _ _ (start .pre .0) (start .pre .1 .0) (start .pre .1 .1 .0) (start .pre .1 .1 .1 .0) (start .pre .1 .1 .1 .1) (c .before .before .before .before .before .before .stamp-points .ensures .1) (c .before .before .stamp-points2 .ensures .0)
 
 pub disjoint-from-spec : {M : Type 1} → statement M
-disjoint-from-spec =
-    tie.close (tie.spec (λ c κs. search needs) (λ c κs. search needs) (λ c. search needs) returns)
+disjoint-from-spec = tie.close (tie.spec (λ c κs. search needs) (λ c κs. search needs) (search needs) returns)

@@ -9,8 +9,8 @@ use Rattle.add_boundary.proofs.put_boundary.Tie as tie
 
 returns : tie.Need-returns
 returns c =
-    let a = c .before .before .before .before .before .before .before .before .before .before .before .args in
-    sets-then (a .out .now) 0 (a .own .now) (storedAs (a .reversed) (a .wire .now)) (length (a .own .now)) (omega arith) (c .before .before .before .before .before .before .put-uses .ensures) (c .before .before .put-stored .ensures)
+    let args = c .before .before .before .before .before .before .before .before .before .before .before .args in
+    sets-then (args .out .now) 0 (args .own .now) (storedAs (args .reversed) (args .wire .now)) (length (args .own .now)) (omega arith) (c .before .before .before .before .before .before .copy-u16s .ensures) (c .before .before .put-stored .ensures)
 
 pub put-boundary-spec : {M : Type 1} → statement M
-put-boundary-spec = tie.close (tie.spec (λ c κs. search needs) (λ c κs. search needs) (λ c. search needs) returns)
+put-boundary-spec = tie.close (tie.spec (search needs) (search needs) (search needs) returns)

@@ -10,9 +10,8 @@ use Rattle.add_boundary.proofs.put_length.Tie as tie
 
 returns : tie.Need-returns
 returns c =
-    let a = c .before .before .before .before .before .before .args in
-    sets-then (a .out .now) 0 (a .sizes .now) (a .n ∷ []) (length (a .sizes .now)) (omega arith) (c .before .before .put-uses .ensures) refl
+    let args = c .before .before .before .before .before .before .args in
+    sets-then (args .out .now) 0 (args .sizes .now) (args .n ∷ []) (length (args .sizes .now)) (omega arith) (c .before .before .copy-u16s .ensures) refl
 
 pub put-length-spec : {M : Type 1} → statement M
-put-length-spec =
-    tie.close (tie.spec (λ c κs. search needs) (λ c. search needs) (λ c. search needs) (λ c. search needs) (λ c. search needs) returns)
+put-length-spec = tie.close (tie.spec (search needs) (search needs) (search needs) (search needs) (λ c. search needs) returns)

@@ -6,15 +6,13 @@ use Rattle.add_boundary.proofs.put_stored.Tie as tie
 
 returns : tie.Need-returns
 returns c =
-    let a = c .before .before .before .before .before .before .before .args in
-    stored-turned (a .reversed) (a .out .now) _ (a .wire .now) (a .at) (c .before .before .before .before .if1 .taken) (c .before .before .put-turned .ensures)
+    let args = c .before .before .before .before .before .before .before .args in
+    stored-turned _ (args .out .now) _ (args .wire .now) (args .at) (c .before .before .before .before .if1 .taken) (c .before .before .put-turned .ensures)
 
 returns-2 : tie.Need-returns-2
 returns-2 c =
-    let a = c .before .before .before .before .before .before .before .args in
-    stored-along (a .reversed) (a .out .now) _ (a .wire .now) (a .at) (c .before .before .before .before .if1 .left) (c .before .before .put-uses .ensures)
+    let args = c .before .before .before .before .before .before .before .args in
+    stored-along _ (args .out .now) _ (args .wire .now) (args .at) (c .before .before .before .before .if1 .left) (c .before .before .copy-u16s .ensures)
 
 pub put-stored-spec : {M : Type 1} → statement M
-put-stored-spec =
-    tie.close
-    (tie.spec (λ c κs. search needs) (λ c κs. search needs) (λ c. search needs) returns (λ c. search needs) returns-2)
+put-stored-spec = tie.close (tie.spec (search needs) (search needs) (search needs) returns (search needs) returns-2)

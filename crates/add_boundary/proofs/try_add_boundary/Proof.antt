@@ -12,7 +12,8 @@ use Rattle.add_boundary.proofs.try_add_boundary.Statement.{statement}
 use Rattle.edge.specs.Edges.{backNumber, frontNumber}
 use Rattle.errors.proofs.Laws.{accepted-none}
 use Rattle.face.specs.Faces.{wireCount}
-use Rattle.face_parts.specs.Parts.{nameEdges, partIn}
+use Rattle.face_edits.specs.FaceEdits.{nameEdges}
+use Rattle.face_parts.specs.Parts.{partIn}
 use Rattle.face_parts.specs.declared.FaceColumns.{FaceColumns}
 use Rattle.pattern.proofs.Counts.{Full}
 use Rattle.pattern.specs.Checks.{patternFaults}
@@ -39,8 +40,8 @@ seven s = search needs
 -- the checks found no fault
 good : (c : tie.After-enum-told) → Fine (c .before .before .before .before .before .before .args .t1)
 good c =
-    let p = c .before .before .before .before .before .before .args .t1 in
-    fine p (accepted-none (patternFaults p) (sym (c .before .before .check .ensures) ∙ c .enum-told .given .1)) (seven (c .before .before .before .before .before .before)) (full (c .before .before .before .before .before .before))
+    let start = c .before .before .before .before .before .before in
+    fine (start .args .t1) (accepted-none (patternFaults (start .args .t1)) (sym (c .before .before .check .ensures) ∙ c .enum-told .given .1)) (seven start) (full start)
 
 -- the columns
 column-fronts : (c : tie.After-face-columns) → c .face-columns .result .fronts ≡ map frontNumber (c .before .before .before .before .before .before .before .before .before .before .before .before .before .args .t1 .edges)
@@ -61,59 +62,41 @@ named c = sym (c .before .before .are-uses .ensures) ∙ not-false _ (c .before 
 
 part-there : (c : tie.After-face-part) → c .face-part .result ≡ partIn (c .before .before .before .before .before .before .before .before .before .before .before .before .before .before .before .before .before .before .before .before .before .args .t1) (c .before .before .before .before .before .before .before .before .before .before .before .before .before .before .before .before .before .before .before .before .before .args .f)
 part-there c =
-    let a = c .before .before .before .before .before .before .before .before .before .before .before .before .before .before .before .before .before .before .before .before .before .args in
-    part-is (a .t1) (a .f) (a .wire .now) (a .uses .now) (a .lens .now) (good (c .before .before .before .before .before .before .before .before .before .before .before .before .before .before .before)) (there (c .before .before .before .before .before .before .before .before)) _ _ (c .before .before .before .before .before .before .before .before .before .before .before .before .before .before .index .ensures .0) (column-counts (c .before .before .before .before .before .before .before .before)) _ (c .face-part .ensures)
+    let args = c .before .before .before .before .before .before .before .before .before .before .before .before .before .before .before .before .before .before .before .before .before .args in
+    let place = c .before .before .before .before .before .before .before .before in
+    part-is (args .t1) _ (args .wire .now) (args .uses .now) (args .lens .now) (good (c .before .before .before .before .before .before .before .before .before .before .before .before .before .before .before)) (there place) _ _ (c .before .before .before .before .before .before .before .before .before .before .before .before .before .before .index .ensures .0) (column-counts place) _ (c .face-part .ensures)
 
 returns : tie.Need-returns
 returns c =
-    let a = c .before .before .before .before .before .before .before .args in
-    refused-says (a .t1) (a .f) (a .wire .now) (a .uses .now) (a .lens .now) _ (sym (c .before .before .before .check .ensures) ∙ c .before .answer .given .1)
+    refused-says _ _ _ _ _ _ (sym (c .before .before .before .check .ensures) ∙ c .before .answer .given .1)
 
 returns-2 : tie.Need-returns-2
 returns-2 c =
-    let a = c .before .before .before .before .before .before .before .before .before .args in
-    no-face (a .t1) (a .f) (a .wire .now) (a .uses .now) (a .lens .now) (good (c .before .before .before)) (omega (arith, c .if1 .taken, c .before .before .index .ensures .0))
+    no-face _ _ _ _ _ (good (c .before .before .before)) (omega (arith, c .if1 .taken, c .before .before .index .ensures .0))
 
 returns-3 : tie.Need-returns-3
 returns-3 c =
-    let a = c .before .before .before .before .before .before .before .before .before .before .before .before .args in
-    no-uses (a .t1) (a .f) (a .wire .now) (a .uses .now) (a .lens .now) (good (c .before .before .before .before .before .before)) (omega (arith, c .before .before .before .if1 .left, c .before .before .before .before .before .index .ensures .0)) (sym (c .before .are-uses .ensures) ∙ not-true _ (c .if2 .taken))
+    no-uses _ _ _ _ _ (good (c .before .before .before .before .before .before)) (omega (arith, c .before .before .before .if1 .left, c .before .before .before .before .before .index .ensures .0)) (sym (c .before .are-uses .ensures) ∙ not-true _ (c .if2 .taken))
 
 face-part-requires : tie.Need-face-part-requires
 face-part-requires c κs =
-    let a = c .before .before .before .before .before .before .before .before .before .before .before .before .before .before .before .before .before .before .before .before .args in
-    part-requires (a .t1) (a .f) (a .wire .now) (a .uses .now) (a .lens .now) (good (c .before .before .before .before .before .before .before .before .before .before .before .before .before .before)) (there (c .before .before .before .before .before .before .before)) _ _ (c .before .before .before .before .before .before .before .before .before .before .before .before .before .index .ensures .0) (column-counts (c .before .before .before .before .before .before .before))
+    let args = c .before .before .before .before .before .before .before .before .before .before .before .before .before .before .before .before .before .before .before .before .args in
+    let place = c .before .before .before .before .before .before .before in
+    part-requires (args .t1) _ (args .wire .now) (args .uses .now) (args .lens .now) (good (c .before .before .before .before .before .before .before .before .before .before .before .before .before .before)) (there place) _ _ (c .before .before .before .before .before .before .before .before .before .before .before .before .before .index .ensures .0) (column-counts place)
 
 add-at-requires : tie.Need-add-at-requires
 add-at-requires c κs =
-    let a = c .before .before .before .before .before .before .before .before .before .before .before .before .before .before .before .before .before .before .before .before .before .before .before .before .before .before .before .before .before .before .args in
-    at-requires (a .t1) (a .f) (a .wire .now) (a .uses .now) (a .lens .now) (good (c .before .before .before .before .before .before .before .before .before .before .before .before .before .before .before .before .before .before .before .before .before .before .before .before)) (there (c .before .before .before .before .before .before .before .before .before .before .before .before .before .before .before .before .before)) (named (c .before .before .before .before .before .before .before .before .before .before .before .before .before .before .before .before .before)) _ _ _ (column-fronts (c .before .before .before .before .before .before .before .before .before .before .before .before .before .before .before .before .before)) (column-backs (c .before .before .before .before .before .before .before .before .before .before .before .before .before .before .before .before .before)) (part-there (c .before .before .before .before .before .before .before .before .before))
+    let args = c .before .before .before .before .before .before .before .before .before .before .before .before .before .before .before .before .before .before .before .before .before .before .before .before .before .before .before .before .before .before .args in
+    let place = c .before .before .before .before .before .before .before .before .before .before .before .before .before .before .before .before .before in
+    at-requires (args .t1) (args .f) _ (args .uses .now) (args .lens .now) (good (c .before .before .before .before .before .before .before .before .before .before .before .before .before .before .before .before .before .before .before .before .before .before .before .before)) (there place) (named place) _ _ _ (column-fronts place) (column-backs place) (part-there (c .before .before .before .before .before .before .before .before .before))
 
 returns-4 : tie.Need-returns-4
 returns-4 c =
-    let a = c .before .before .before .before .before .before .before .before .before .before .before .before .before .before .before .before .before .before .before .before .before .before .before .before .before .before .before .before .before .before .before .before .before .before .before .args in
-    at-says (a .t1) (a .f) (a .wire .now) (a .uses .now) (a .lens .now) (good (c .before .before .before .before .before .before .before .before .before .before .before .before .before .before .before .before .before .before .before .before .before .before .before .before .before .before .before .before .before)) (there (c .before .before .before .before .before .before .before .before .before .before .before .before .before .before .before .before .before .before .before .before .before .before)) (named (c .before .before .before .before .before .before .before .before .before .before .before .before .before .before .before .before .before .before .before .before .before .before)) _ _ _ (column-fronts (c .before .before .before .before .before .before .before .before .before .before .before .before .before .before .before .before .before .before .before .before .before .before)) (column-backs (c .before .before .before .before .before .before .before .before .before .before .before .before .before .before .before .before .before .before .before .before .before .before)) (part-there (c .before .before .before .before .before .before .before .before .before .before .before .before .before .before)) _ _ _ (c .before .before .before .before .add-at .ensures)
+    let args = c .before .before .before .before .before .before .before .before .before .before .before .before .before .before .before .before .before .before .before .before .before .before .before .before .before .before .before .before .before .before .before .before .before .before .before .args in
+    let place = c .before .before .before .before .before .before .before .before .before .before .before .before .before .before .before .before .before .before .before .before .before .before in
+    at-says _ _ _ (args .uses .now) (args .lens .now) (good (c .before .before .before .before .before .before .before .before .before .before .before .before .before .before .before .before .before .before .before .before .before .before .before .before .before .before .before .before .before)) (there place) (named place) _ _ _ (column-fronts place) (column-backs place) (part-there (c .before .before .before .before .before .before .before .before .before .before .before .before .before .before)) _ _ _ (c .before .before .before .before .add-at .ensures)
 
 pub try-add-boundary-spec : {M : Type 1} → statement M
-try-add-boundary-spec =
-    tie.close
-    (tie.spec
-    (λ c κs. search needs)
-    (λ c. search needs)
-    returns
-    (λ c. search needs)
-    (λ c κs. search needs)
-    (λ c. search needs)
-    returns-2
-    (λ c. search needs)
-    (λ c κs. search needs)
-    returns-3
-    (λ c κs. search needs)
-    (λ c. search needs)
-    face-part-requires
-    (λ c. search needs)
-    (λ c. search needs)
-    add-at-requires
-    (λ c. search needs)
-    (λ c. search needs)
-    returns-4)
+try-add-boundary-spec = tie.close (tie.spec (search needs) (search needs) returns (search needs) (search needs) (search needs) returns-2
+    (search needs) (search needs) returns-3 (search needs) (λ c. search needs) face-part-requires (λ c. search needs) (λ c. search needs)
+    add-at-requires (search needs) (search needs) returns-4)

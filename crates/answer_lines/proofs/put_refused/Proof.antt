@@ -27,13 +27,13 @@ put-number-requires c κs = let s = short (c .before .before .before .before .be
 
 returns : tie.Need-returns
 returns c =
-    let s = short (c .before .before .before .before .before .before .before .before .before .before .before .before .before .before .before .before .before) in
-    let a = c .before .before .before .before .before .before .before .before .before .before .before .before .before .before .before .before .before .args in
-    let x = ascii "refused " ++ decimal (a .number) in
-    let y = ascii " body " ++ decimal (a .body) in
-    let p = put-then (a .out .now) 0 x y _ _ _ _ (c .before .before .before .before .before .before .before .before .before .before .before .before .put-field .ensures) (c .before .before .before .before .before .before .before .put-field2 .ensures) in
-    let q = put-then (a .out .now) 0 (x ++ y) (wordNumber (ascii " record ") (a .place)) _ _ _ _ p (c .before .before .put-number .ensures) in
-    let e = put-front (a .out .now) _ _ (placed-is (a .outcome) (a .number) (a .body) (a .place) (c .before .before .before .before .before .before .before .before .before .before .before .before .before .before .before .if1 .taken)) q in
+    let start = c .before .before .before .before .before .before .before .before .before .before .before .before .before .before .before .before .before in
+    let s = short start in
+    let x = ascii "refused " ++ decimal (start .args .number) in
+    let y = ascii " body " ++ decimal (start .args .body) in
+    let p = put-then (start .args .out .now) 0 x y _ _ _ _ (c .before .before .before .before .before .before .before .before .before .before .before .before .put-field .ensures) (c .before .before .before .before .before .before .before .put-field2 .ensures) in
+    let q = put-then (start .args .out .now) 0 (x ++ y) (wordNumber (ascii " record ") (start .args .place)) _ _ _ _ p (c .before .before .put-number .ensures) in
+    let e = put-front (start .args .out .now) _ _ (placed-is (start .args .outcome) (start .args .number) (start .args .body) (start .args .place) (c .before .before .before .before .before .before .before .before .before .before .before .before .before .before .before .if1 .taken)) q in
     (e .0, e .1, omega (arith, number-short (ascii " record ") 20 _ (s .2)))
 
 put-number-requires-2 : tie.Need-put-number-requires-2
@@ -41,24 +41,11 @@ put-number-requires-2 c κs = let s = short (c .before .before .before .before) 
 
 returns-2 : tie.Need-returns-2
 returns-2 c =
-    let s = short (c .before .before .before .before .before .before .before) in
-    let a = c .before .before .before .before .before .before .before .args in
-    let e = put-front (a .out .now) _ _ (plain-is (a .outcome) (a .number) (a .body) (a .place) (c .before .before .before .before .before .if1 .left)) (c .before .before .put-number2 .ensures) in
+    let start = c .before .before .before .before .before .before .before in
+    let s = short start in
+    let e = put-front (start .args .out .now) _ _ (plain-is (start .args .outcome) (start .args .number) (start .args .body) (start .args .place) (c .before .before .before .before .before .if1 .left)) (c .before .before .put-number2 .ensures) in
     (e .0, e .1, omega (arith, number-short (ascii "refused ") 20 _ (s .0)))
 
 pub put-refused-spec : {M : Type 1} → statement M
-put-refused-spec =
-    tie.close
-    (tie.spec
-    (λ c. search needs)
-    put-field-requires
-    (λ c. search needs)
-    put-field-requires-2
-    (λ c. search needs)
-    put-number-requires
-    (λ c. search needs)
-    returns
-    (λ c. search needs)
-    put-number-requires-2
-    (λ c. search needs)
-    returns-2)
+put-refused-spec = tie.close (tie.spec (search needs) put-field-requires (search needs) put-field-requires-2 (search needs)
+    put-number-requires (search needs) returns (search needs) put-number-requires-2 (search needs) returns-2)

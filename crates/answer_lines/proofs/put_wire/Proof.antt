@@ -9,9 +9,8 @@ use Rattle.answer_lines.proofs.put_wire.Statement.{statement}
 use Rattle.answer_lines.proofs.put_wire.Tie as tie
 
 returns : tie.Need-returns
-returns c = put-then (c .before .before .before .before .before .before .before .before .before .before .before .args .out .now) (c .before .before .before .before .before .before .before .before .before .before .before .args .at) (ascii " wire") (flat (map item (c .before .before .before .before .before .before .before .before .before .before .before .args .us .now))) _ _ _ _ (c .before .before .before .before .before .before .put-text .ensures) (c .before .before .put-items .ensures)
+returns c = let args = c .before .before .before .before .before .before .before .before .before .before .before .args in
+    put-then (args .out .now) _ (ascii " wire") (flat (map item (args .us .now))) _ _ _ _ (c .before .before .before .before .before .before .put-text .ensures) (c .before .before .put-items .ensures)
 
 pub put-wire-spec : {M : Type 1} → statement M
-put-wire-spec =
-    tie.close
-    (tie.spec (λ c. search needs) (λ c κs. search needs) (λ c κs. search needs) (λ c. search needs) returns)
+put-wire-spec = tie.close (tie.spec (search needs) (search needs) (search needs) (search needs) returns)

@@ -20,7 +20,7 @@ fits c = lining-fits wireText (c .before .before .before .loop .inv) (c .before 
 
 loop-holds : tie.Need-loop-holds Inv-loop μ-loop
 unfolding wiresText
-loop-holds c = lining-start wireText (c .before .before .before .args .out .now) (c .before .before .before .args .at) (c .before .before .before .args .us .now) (c .before .before .before .args .lens .now) (c .before .before .before .pre .0) (c .before .before .before .pre .1)
+loop-holds c = let pre = c .before .before .before .pre in lining-start wireText _ _ _ _ (pre .0) (pre .1)
 
 add-put-wire : tie.Need-add-put-wire Inv-loop μ-loop
 add-put-wire c = omega (arith, fits (c .before))
@@ -38,7 +38,7 @@ add-start : tie.Need-add-start Inv-loop μ-loop
 add-start c = omega (arith, fits (c .before .before .before .before .before))
 
 loop-again : tie.Need-loop-again Inv-loop μ-loop
-loop-again c = lining-next wireText (c .before .before .before .before .before .before .before .before .loop .inv) (c .before .before .before .before .before .before .before .loop-test .taken) (c .before .before .before .before .before .index .ensures .0) (c .before .before .put-wire .last .0) (c .before .before .put-wire .result) (c .before .before .put-wire .ensures)
+loop-again c = lining-next wireText (c .before .before .before .before .before .before .before .before .loop .inv) (c .before .before .before .before .before .before .before .loop-test .taken) (c .before .before .before .before .before .index .ensures .0) _ _ (c .before .before .put-wire .ensures)
 
 same-length : tie.Need-same-length Inv-loop μ-loop
 same-length c = c .before .loop .inv .putting .long
@@ -48,24 +48,6 @@ unfolding wiresText
 returns c = lining-all wireText (c .before .loop .inv) (c .loop-test .left)
 
 pub put-wires-spec : {M : Type 1} → statement M
-put-wires-spec =
-    tie.close
-    (tie.spec
-    Inv-loop
-    μ-loop
-    loop-holds
-    (λ c. search needs)
-    (λ c. search needs)
-    (λ c κs. search needs)
-    add-put-wire
-    mul-put-wire
-    (λ c. search needs)
-    (λ c. search needs)
-    part-put-wire-end
-    put-wire-requires
-    add-start
-    (λ c. search needs)
-    (λ c. search needs)
-    loop-again
-    same-length
+put-wires-spec = tie.close (tie.spec Inv-loop μ-loop loop-holds (search needs) (search needs) (search needs) add-put-wire mul-put-wire
+    (search needs) (search needs) part-put-wire-end put-wire-requires add-start (search needs) (search needs) loop-again same-length
     returns)

@@ -9,6 +9,5 @@ returns-2 : tie.Need-returns-2
 returns-2 c = rw (c .before .before .a .given .1) (c .unread .ensures)
 
 pub check-values-spec : {M : Type 1} → statement M
-check-values-spec =
-    tie.close
-    (tie.spec (λ c. search needs) (λ c κs. search needs) (λ c. search needs) (λ c κs. search needs) returns returns-2)
+check-values-spec = tie.close (tie.spec (λ c. search needs) (λ c κs. search needs) (λ c. search needs) (λ c κs. search needs) returns
+    returns-2)

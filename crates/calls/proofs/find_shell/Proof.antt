@@ -44,4 +44,5 @@ returns-3 c =
     presence-there (patternFaults (a .t1)) (passed (c .before .before)) (content (a .t1)) (a .n) (omega (arith, c .if1 .left, shells (c .before .before)))
 
 pub find-shell-spec : {M : Type 1} → statement M
-find-shell-spec = tie.close (tie.spec (λ c κs. search needs) (λ c. search needs) returns (λ c. search needs) (λ c. search needs) returns-2 returns-3)
+find-shell-spec = tie.close (tie.spec (λ c κs. search needs) (λ c. search needs) returns (λ c. search needs) (λ c. search needs) returns-2
+    returns-3)

@@ -46,56 +46,33 @@ fine s =
     (none-right (countFaults (s .args .t1 .counts)) (contentFaults c) (s .pre))
 
 loop-holds : tie.Need-loop-holds Inv-loop μ-loop
-loop-holds c = (full c .edges, column-start frontNumber noEdge (c .args .t1 .edges) _ (sym (full c .edges)), column-start backNumber noEdge (c .args .t1 .edges) _ (sym (full c .edges)))
+loop-holds c = (full c .edges, column-start frontNumber noEdge _ _ (sym (full c .edges)), column-start backNumber noEdge _ _ (sym (full c .edges)))
 
 loop-again : tie.Need-loop-again Inv-loop μ-loop
 loop-again c =
-    let v = c .before .loop .inv in
-    let es = c .before .before .args .t1 .edges in (
-      v .0,
-      column-next frontNumber noEdge es (c .before .loop .fronts) (c .before .loop .i) (v .1) (omega (arith, v .0)),
-      column-next backNumber noEdge es (c .before .loop .backs) (c .before .loop .i) (v .2) (omega (arith, v .0)),
+    let args = c .before .before .args in (
+      c .before .loop .inv .0,
+      column-next frontNumber noEdge (args .t1 .edges) (c .before .loop .fronts) _ (c .before .loop .inv .1) (omega (arith, c .before .loop .inv .0)),
+      column-next backNumber noEdge (args .t1 .edges) (c .before .loop .backs) _ (c .before .loop .inv .2) (omega (arith, c .before .loop .inv .0)),
     )
 
 put-columns-requires : tie.Need-put-columns-requires Inv-loop μ-loop
-put-columns-requires c κs = (summed (c .before .before .before .before .before .before .before .before .before .before .before .before .before .before .before .before .before .before .before .args .t1) (limits (c .before .before .before .before .before .before .before .before .before .before .before .before .before .before .before .before .before .before .before)) (full (c .before .before .before .before .before .before .before .before .before .before .before .before .before .before .before .before .before .before .before)) (fine (c .before .before .before .before .before .before .before .before .before .before .before .before .before .before .before .before .before .before .before)) _ (c .before .before .before .before .before .before .before .before .before .before .before .before .before .before .wire-counts .ensures), search needs)
+put-columns-requires c κs =
+    let start = c .before .before .before .before .before .before .before .before .before .before .before .before .before .before .before .before .before .before .before in
+    (summed (start .args .t1) (limits start) (full start) (fine start) _ (c .before .before .before .before .before .before .before .before .before .before .before .before .before .before .wire-counts .ensures), search needs)
 
 returns : tie.Need-returns Inv-loop μ-loop
 returns c =
-    let s = c .before .before .before .before .before .before .before .before .before .before .before .before .before .before .before .before .before .before .before .before .before .before .before .before .before .before .before in
-    let l = c .before .before .before .before .before .before .before .before .before .before .before .before .before .before .before .before .before .before .before .before .before .before .before .before .before .before .loop in
-    let t = c .before .before .before .before .before .before .before .put-columns .ensures in
-    let past : length (s .args .t1 .edges) ≤ l .i = omega (arith, l .inv .0, c .before .before .before .before .before .before .before .before .before .before .before .before .before .before .before .before .before .before .before .before .before .before .before .before .before .loop-test .left) in (
-      columns-made (s .args .t1) _ _ _ _ _ _ _ (c .before .before .before .before .before .before .before .before .before .before .before .before .before .before .before .before .before .before .before .before .before .before .wire-counts .ensures) (t .0)
-          (column-all frontNumber noEdge (s .args .t1 .edges) (l .fronts) (l .i) (l .inv .1) past) (column-all backNumber noEdge (s .args .t1 .edges) (l .backs) (l .i) (l .inv .2) past),
-      record { ok = s .pre; limits = limits s; full = full s; uses = λ k. t .1 k .0; listings = λ k. t .1 k .1 },
+    let start = c .before .before .before .before .before .before .before .before .before .before .before .before .before .before .before .before .before .before .before .before .before .before .before .before .before .before .before in
+    let loop = c .before .before .before .before .before .before .before .before .before .before .before .before .before .before .before .before .before .before .before .before .before .before .before .before .before .before .loop in
+    let put-columns = c .before .before .before .before .before .before .before .put-columns in
+    let past : length (start .args .t1 .edges) ≤ loop .i = omega (arith, loop .inv .0, c .before .before .before .before .before .before .before .before .before .before .before .before .before .before .before .before .before .before .before .before .before .before .before .before .before .loop-test .left) in (
+      columns-made (start .args .t1) _ _ _ _ _ _ _ (c .before .before .before .before .before .before .before .before .before .before .before .before .before .before .before .before .before .before .before .before .before .before .wire-counts .ensures) (put-columns .ensures .0)
+          (column-all frontNumber noEdge (start .args .t1 .edges) (loop .fronts) (loop .i) (loop .inv .1) past) (column-all backNumber noEdge (start .args .t1 .edges) (loop .backs) (loop .i) (loop .inv .2) past),
+      record { ok = start .pre; limits = limits start; full = full start; uses = λ k. put-columns .ensures .1 k .0; listings = λ k. put-columns .ensures .1 k .1 },
     )
 
 pub columns-of-spec : {M : Type 1} → statement M
-columns-of-spec =
-    tie.close
-    (tie.spec
-    Inv-loop
-    μ-loop
-    loop-holds
-    (λ c. search needs)
-    (λ c. search needs)
-    (λ c. search needs)
-    (λ c. search needs)
-    (λ c. search needs)
-    (λ c. search needs)
-    (λ c. search needs)
-    (λ c. search needs)
-    (λ c. search needs)
-    (λ c. search needs)
-    loop-again
-    (λ c κs. search needs)
-    (λ c. search needs)
-    (λ c. search needs)
-    (λ c. search needs)
-    (λ c. search needs)
-    (λ c. search needs)
-    put-columns-requires
-    (λ c. search needs)
-    (λ c. search needs)
-    returns)
+columns-of-spec = tie.close (tie.spec Inv-loop μ-loop loop-holds (search needs) (search needs) (search needs) (search needs) (search needs)
+    (search needs) (search needs) (search needs) (search needs) (search needs) loop-again (search needs) (search needs) (search needs)
+    (search needs) (search needs) (search needs) put-columns-requires (search needs) (search needs) returns)

@@ -15,13 +15,13 @@ abbrev μ-loop : tie.MeasureT-loop
 μ-loop counts n out₀ at₀ k₀ out at k = n - k
 
 loop-holds : tie.Need-loop-holds Inv-loop μ-loop
-loop-holds c = firsting-start _ _ (c .before .before .pre .0) (c .before .before .pre .1) _ (c .before .before .pre .2)
+loop-holds c = let pre = c .before .before .pre in firsting-start _ _ (pre .0) (pre .1) _ (pre .2)
 
 slice-write-out : tie.Need-slice-write-out Inv-loop μ-loop
 slice-write-out c = omega (arith, firsting-long (c .before .loop .inv), c .before .before .before .before .pre .0)
 
 add-at : tie.Need-add-at Inv-loop μ-loop
-add-at c = omega (arith, c .before .before .before .loop .inv .low, c .before .before .before .loop .inv .few, c .index .ensures .1)
+add-at c = let loop = c .before .before .before .loop in omega (arith, loop .inv .low, loop .inv .few, c .index .ensures .1)
 
 loop-again : tie.Need-loop-again Inv-loop μ-loop
 loop-again c = firsting-next (c .before .before .before .loop .inv) (omega arith) (c .index .ensures .0) (c .index .ensures .1)
@@ -36,22 +36,5 @@ returns : tie.Need-returns Inv-loop μ-loop
 returns c = firsting-all (c .before .loop .inv) (omega arith)
 
 pub put-firsts-spec : {M : Type 1} → statement M
-put-firsts-spec =
-    tie.close
-    (tie.spec
-    Inv-loop
-    μ-loop
-    loop-holds
-    (λ c. search needs)
-    slice-write-out
-    (λ c. search needs)
-    (λ c. search needs)
-    (λ c κs. search needs)
-    add-at
-    (λ c. search needs)
-    (λ c. search needs)
-    loop-again
-    (λ c. search needs)
-    slice-write-out-2
-    same-length
-    returns)
+put-firsts-spec = tie.close (tie.spec Inv-loop μ-loop loop-holds (search needs) slice-write-out (search needs) (search needs)
+    (search needs) add-at (search needs) (search needs) loop-again (search needs) slice-write-out-2 same-length returns)

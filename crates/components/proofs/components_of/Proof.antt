@@ -6,19 +6,16 @@ use Rattle.components.proofs.components_of.Statement.{statement}
 use Rattle.components.proofs.components_of.Tie as tie
 
 group-first-requires : tie.Need-group-first-requires
-group-first-requires c κs = (keys-room _ _ _ (c .before .before .before .before .before .before .before .before .before .before .before .pre .shown) _ _ _ (c .before .before .before .before .before .before .before .before .before .before .before .pre) _ (c .before .before .before .before .put-keys .ensures), rw (keys-part _ _ _ (c .before .before .before .before .before .before .before .before .before .before .before .pre .shown) _ _ _ (c .before .before .before .before .before .before .before .before .before .before .before .pre) _ (c .before .before .before .before .put-keys .ensures)) (keys-keyed _ _ _ (c .before .before .before .before .before .before .before .before .before .before .before .pre .shown) _ _ _ (c .before .before .before .before .before .before .before .before .before .before .before .pre)))
+group-first-requires c κs =
+    let pre = c .before .before .before .before .before .before .before .before .before .before .before .pre in
+    let put-keys = c .before .before .before .before .put-keys in
+    (keys-room _ _ _ (pre .shown) _ _ _ pre _ (put-keys .ensures), rw (keys-part _ _ _ (pre .shown) _ _ _ pre _ (put-keys .ensures)) (keys-keyed _ _ _ (pre .shown) _ _ _ pre))
 
 returns : tie.Need-returns
-returns c = let z = rw (keys-part _ _ _ (c .before .before .before .before .before .before .before .before .before .before .before .before .before .before .before .before .pre .shown) _ _ _ (c .before .before .before .before .before .before .before .before .before .before .before .before .before .before .before .before .pre) _ (c .before .before .before .before .before .before .before .before .before .put-keys .ensures), key-components _ _ _ (c .before .before .before .before .before .before .before .before .before .before .before .before .before .before .before .before .pre .shown) (c .before .before .before .before .before .before .before .before .before .before .before .before .before .before .before .before .args .pairs .now)) at (c .before .before .before .before .group-first .ensures) in (z .0, (z .1 .0, (z .1 .1, (components-long _ _ _ (c .before .before .before .before .before .before .before .before .before .before .before .before .before .before .before .before .pre .shown) _ _ _ (c .before .before .before .before .before .before .before .before .before .before .before .before .before .before .before .before .pre), omega (arith, z .1 .1, components-few _ _ _ (c .before .before .before .before .before .before .before .before .before .before .before .before .before .before .before .before .pre .shown) _ _ _ (c .before .before .before .before .before .before .before .before .before .before .before .before .before .before .before .before .pre))))))
+returns c =
+    let pre = c .before .before .before .before .before .before .before .before .before .before .before .before .before .before .before .before .pre in
+    let z = rw (keys-part _ _ _ (pre .shown) _ _ _ pre _ (c .before .before .before .before .before .before .before .before .before .put-keys .ensures), key-components _ _ _ (pre .shown) _) at (c .before .before .before .before .group-first .ensures) in (z .0, (z .1 .0, (z .1 .1, (components-long _ _ _ (pre .shown) _ _ _ pre, omega (arith, z .1 .1, components-few _ _ _ (pre .shown) _ _ _ pre)))))
 
 pub components-of-spec : {M : Type 1} → statement M
-components-of-spec =
-    tie.close
-    (tie.spec
-    (λ c. search needs)
-    (λ c κs. search needs)
-    (λ c. search needs)
-    group-first-requires
-    (λ c. search needs)
-    (λ c. search needs)
-    returns)
+components-of-spec = tie.close (tie.spec (λ c. search needs) (λ c κs. search needs) (λ c. search needs) group-first-requires
+    (λ c. search needs) (λ c. search needs) returns)

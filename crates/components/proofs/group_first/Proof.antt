@@ -6,19 +6,11 @@ use Rattle.components.proofs.group_first.Statement.{statement}
 use Rattle.components.proofs.group_first.Tie as tie
 
 groups-by-requires : tie.Need-groups-by-requires
-groups-by-requires c κs = rw (first-part (length (c .before .before .before .before .before .before .before .args .names .now)) (c .before .before .before .before .before .before .before .args .keys .now)) (c .before .before .before .before .before .before .before .pre .1)
+groups-by-requires c κs = rw (first-part (length _) _) (c .before .before .before .before .before .before .before .pre .1)
 
 returns : tie.Need-returns
-returns c = let z = rw (first-part (length (c .before .before .before .before .before .before .before .before .before .before .before .before .args .names .now)) (c .before .before .before .before .before .before .before .before .before .before .before .before .args .keys .now)) at (c .before .before .before .before .groups-by .ensures) in (z .0, (z .1 .0, z .1 .1 .0))
+returns c = let z = rw (first-part (length _) _) at (c .before .before .before .before .groups-by .ensures) in (z .0, (z .1 .0, z .1 .1 .0))
 
 pub group-first-spec : {M : Type 1} → statement M
-group-first-spec =
-    tie.close
-    (tie.spec
-    (λ c. search needs)
-    (λ c. search needs)
-    (λ c. search needs)
-    groups-by-requires
-    (λ c. search needs)
-    (λ c. search needs)
+group-first-spec = tie.close (tie.spec (search needs) (search needs) (search needs) groups-by-requires (search needs) (search needs)
     returns)

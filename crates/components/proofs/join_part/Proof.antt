@@ -21,28 +21,19 @@ loop-holds : tie.Need-loop-holds Inv-loop μ-loop
 loop-holds c = joins-start _ _ _ _ _ (c .before .before .before .pre .0)
 
 join-requires : tie.Need-join-requires Inv-loop μ-loop
-join-requires c κs = ready _ _ _ (c .before .before .before .before .before .loop .inv .forest) _ _ (omega (arith, c .before .before .before .before .before .before .before .before .before .pre .1 (c .before .before .before .before .before .loop .i) (omega arith), c .index .ensures .0)) (c .before .before .before .before .before .before .before .before .before .pre .2)
+join-requires c κs =
+    let pre = c .before .before .before .before .before .before .before .before .before .pre in
+    let loop = c .before .before .before .before .before .loop in
+    ready _ _ _ (loop .inv .forest) _ _ (omega (arith, pre .1 (loop .i) (omega arith), c .index .ensures .0)) (pre .2)
 
 loop-again : tie.Need-loop-again Inv-loop μ-loop
-loop-again c = member-next (c .before .before .before .before .before .before .before .before .before .before .before .before .before .before .args .n) (c .before .before .before .before .before .before .before .before .before .before .before .before .before .before .args .part .now) (c .before .before .before .before .before .before .before .before .before .before .before .before .before .before .args .member) (c .before .before .before .before .before .before .before .before .before .before .before .before .before .before .pre .1) (c .before .before .before .before .before .before .before .before .before .before .before .before .before .before .pre .2) (c .before .before .before .before .before .before .before .before .before .before .loop .inv) (omega arith) (c .before .before .before .before .before .index .ensures .0) (c .before .before .before .before .join .ensures)
+loop-again c = let start = c .before .before .before .before .before .before .before .before .before .before .before .before .before .before in
+    member-next (start .args .n) (start .args .part .now) (start .args .member) (start .pre .1) (start .pre .2) (c .before .before .before .before .before .before .before .before .before .before .loop .inv) (omega arith) (c .before .before .before .before .before .index .ensures .0) (c .before .before .before .before .join .ensures)
 
 returns : tie.Need-returns Inv-loop μ-loop
-returns c = member-all (c .before .before .before .before .before .args .n) (c .before .before .before .before .before .args .part .now) (c .before .before .before .before .before .args .member) (c .before .before .before .before .before .pre .1) (c .before .before .before .before .before .pre .2) (c .before .loop .inv) (omega arith)
+returns c = let start = c .before .before .before .before .before in
+    member-all (start .args .n) (start .args .part .now) (start .args .member) (start .pre .1) (start .pre .2) (c .before .loop .inv) (omega arith)
 
 pub join-part-spec : {M : Type 1} → statement M
-join-part-spec =
-    tie.close
-    (tie.spec
-    Inv-loop
-    μ-loop
-    loop-holds
-    (λ c. search needs)
-    (λ c. search needs)
-    (λ c κs. search needs)
-    join-requires
-    (λ c. search needs)
-    (λ c. search needs)
-    loop-again
-    (λ c. search needs)
-    (λ c. search needs)
-    returns)
+join-part-spec = tie.close (tie.spec Inv-loop μ-loop loop-holds (search needs) (search needs) (search needs) join-requires (search needs)
+    (search needs) loop-again (search needs) (search needs) returns)

@@ -11,19 +11,13 @@ use Rattle.components.specs.Pairs.{rootsOf}
 use Rattle.components.proofs.put_keys.Tie as tie
 
 put-roots-requires : tie.Need-put-roots-requires
-put-roots-requires c κs = roots-ready _ _ _ (c .before .before .before .before .before .before .before .before .before .before .pre .0) _ _ _ (c .before .before .before .before .link-uses .ensures .0) (search needs) _ (c .before .before .before .before .before .before .before .before .before .before .pre .1)
+put-roots-requires c κs = let pre = c .before .before .before .before .before .before .before .before .before .before .pre in
+    roots-ready _ _ _ (pre .0) _ _ _ (c .before .before .before .before .link-uses .ensures .0) (search needs) _ (pre .1)
 
 returns : tie.Need-returns
-returns c = c .before .before .put-roots .ensures ∙ ap (λ (ps : List ℕ). sets (c .before .before .before .before .before .before .before .before .before .before .before .before .before .args .keys .now) 0 (rootsOf ps (c .before .before .before .before .before .before .before .before .before .before .before .before .before .args .edges) (length (c .before .before .before .before .before .before .before .before .before .before .before .before .before .args .spans .now)))) (c .before .before .before .before .before .before .before .link-uses .ensures .0)
+returns c = let args = c .before .before .before .before .before .before .before .before .before .before .before .before .before .args in
+    c .before .before .put-roots .ensures ∙ ap (λ (ps : List ℕ). sets (args .keys .now) 0 (rootsOf ps (args .edges) (length (args .spans .now)))) (c .before .before .before .before .before .before .before .link-uses .ensures .0)
 
 pub put-keys-spec : {M : Type 1} → statement M
-put-keys-spec =
-    tie.close
-    (tie.spec
-    (λ c. search needs)
-    (λ c. search needs)
-    (λ c κs. search needs)
-    (λ c. search needs)
-    put-roots-requires
-    (λ c. search needs)
-    returns)
+put-keys-spec = tie.close (tie.spec (λ c. search needs) (λ c. search needs) (λ c κs. search needs) (λ c. search needs) put-roots-requires
+    (λ c. search needs) returns)

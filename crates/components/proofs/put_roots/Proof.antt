@@ -20,37 +20,26 @@ add-find : tie.Need-add-find Inv-loop μ-loop
 add-find c = omega (arith, roots-in _ _ _ _ (c .before .before .before .before .pre) (c .before .loop .k) (omega arith))
 
 find-requires : tie.Need-find-requires Inv-loop μ-loop
-find-requires c κs = c .before .before .before .before .pre .climbs (c .before .loop .k) (omega arith)
+find-requires c κs = c .before .before .before .before .pre .climbs _ (omega arith)
 
 cast-out : tie.Need-cast-out Inv-loop μ-loop
 cast-out c = omega (arith, roots-low _ _ _ _ (c .before .before .before .before .before .pre) (c .before .before .loop .k) (omega arith), c .find .ensures)
 
 slice-write-out : tie.Need-slice-write-out Inv-loop μ-loop
-slice-write-out c = omega (arith, putting-room _ _ _ _ _ (c .before .before .loop .inv) (omega (arith, roots-long (c .before .before .before .before .before .args .parents .now) (c .before .before .before .before .before .args .first) (c .before .before .before .before .before .args .n))))
+slice-write-out c = let args = c .before .before .before .before .before .args in
+    omega (arith, putting-room _ _ _ _ _ (c .before .before .loop .inv) (omega (arith, roots-long (args .parents .now) (args .first) (args .n))))
 
 loop-again : tie.Need-loop-again Inv-loop μ-loop
-loop-again c = putting-next _ _ _ _ _ (c .before .before .loop .inv) (omega (arith, roots-long (c .before .before .before .before .before .args .parents .now) (c .before .before .before .before .before .args .first) (c .before .before .before .before .before .args .n))) _ _ (omega arith) (root-at _ _ _ _ (c .before .before .before .before .before .pre) (c .before .before .loop .k) (omega arith) _ (c .find .ensures))
+loop-again c = let start = c .before .before .before .before .before in let loop = c .before .before .loop in
+    putting-next _ _ _ _ _ (loop .inv) (omega (arith, roots-long (start .args .parents .now) (start .args .first) (start .args .n))) _ _ (omega arith) (root-at _ _ _ _ (start .pre) (loop .k) (omega arith) _ (c .find .ensures))
 
 same-length : tie.Need-same-length Inv-loop μ-loop
 same-length c = putting-long _ _ _ _ _ (c .before .loop .inv)
 
 returns : tie.Need-returns Inv-loop μ-loop
-returns c = putting-all _ _ _ _ _ (c .before .loop .inv) (omega (arith, roots-long (c .before .before .before .before .args .parents .now) (c .before .before .before .before .args .first) (c .before .before .before .before .args .n)))
+returns c = let args = c .before .before .before .before .args in
+    putting-all _ _ _ _ _ (c .before .loop .inv) (omega (arith, roots-long (args .parents .now) (args .first) (args .n)))
 
 pub put-roots-spec : {M : Type 1} → statement M
-put-roots-spec =
-    tie.close
-    (tie.spec
-    Inv-loop
-    μ-loop
-    loop-holds
-    add-find
-    find-requires
-    cast-out
-    (λ c. search needs)
-    slice-write-out
-    (λ c. search needs)
-    (λ c. search needs)
-    loop-again
-    same-length
-    returns)
+put-roots-spec = tie.close (tie.spec Inv-loop μ-loop loop-holds add-find find-requires cast-out (search needs) slice-write-out
+    (search needs) (search needs) loop-again same-length returns)

@@ -1,7 +1,7 @@
 use mathlib.Core.List.{[]}
 use mathlib.Core.Path.{_∙_, _≡_, ap, sym}
 use native.Mathlib.Omega.{arith}
-use lib.ListN.{getD, length, length-map}
+use lib.ListN.{getD, length-map}
 use Rattle.errors.proofs.Laws.{accepted-none, none-left}
 use Rattle.pattern.proofs.Counts.{Full, Limited, edges-counted, limited}
 use Rattle.pattern.specs.Checks.{contentFaults, countFaults, patternFaults}
@@ -33,28 +33,27 @@ full s =
     }
 
 passed : (c : tie.After-enum-told) → patternFaults (c .before .before .before .args .t1) ≡ []
-passed c = accepted-none (patternFaults (c .before .before .before .args .t1)) (sym (c .before .before .check .ensures) ∙ c .enum-told .given .1)
+passed c = accepted-none (patternFaults _) (sym (c .before .before .check .ensures) ∙ c .enum-told .given .1)
 
 limits : (c : tie.After-enum-told) → Limited (c .before .before .before .args .t1 .counts)
 limits c =
-    limited (c .before .before .before .args .t1 .counts) (search needs)
-    (none-left (countFaults (c .before .before .before .args .t1 .counts)) (contentFaults (content (c .before .before .before .args .t1))) (passed c))
+    limited _ (search needs)
+    (none-left (countFaults _) (contentFaults (content (c .before .before .before .args .t1))) (passed c))
 
 made : (c : tie.After-made2) → joint (concatFaults (content (c .before .before .before .before .before .before .args .t1)) (c .before .before .before .before .before .before .args .u) (c .before .before .before .before .before .before .args .v)) (joinedEdge (content (c .before .before .before .before .before .before .args .t1)) (c .before .before .before .before .before .before .args .u) (c .before .before .before .before .before .before .args .v)) ≡ Whole (c .made2 .given .0 .0)
 made c = sym (c .before .before .concat-uses .ensures) ∙ c .made2 .given .1
 
 few : (c : tie.After-made2) → getD (c .before .before .before .before .before .before .args .t1 .counts) 1 0 < 1024
 few c =
-    let s = c .before .before .before .before .before .before in
-    let p = s .args .t1 in
-    omega (arith, edges-counted p (limits (c .before .before .before)) (full s), concat-room (content p) (s .args .u) (s .args .v) (joinedEdge (content p) (s .args .u) (s .args .v)) (made c))
+    let start = c .before .before .before .before .before .before in
+    omega (arith, edges-counted (start .args .t1) (limits (c .before .before .before)) (full start), concat-room (content (start .args .t1)) _ _ (joinedEdge (content (start .args .t1)) _ _) (made c))
 
 returns : tie.Need-returns
 returns c =
-    let s = c .before .before .before .before .args in
+    let args = c .before .before .before .before .args in
     let e = sym (c .before .before .before .check .ensures) ∙ c .before .checked .given .1 in
-    let es = concatFaults (content (s .t1)) (s .u) (s .v) in
-    (judged-refused es Refused Not (Joined (nextEdge (s .t1) 0)) (patternFaults (s .t1)) e, (judged-refused es (λ f. s .t1) (λ f. s .t1) (storedIn (s .t1) (concatContent (content (s .t1)) (s .u) (s .v))) (patternFaults (s .t1)) e, λ fine. fine))
+    let es = concatFaults (content (args .t1)) (args .u) (args .v) in
+    (judged-refused es Refused Not (Joined (nextEdge (args .t1) 0)) (patternFaults _) e, (judged-refused es (λ f. args .t1) (λ f. args .t1) (storedIn (args .t1) (concatContent (content (args .t1)) (args .u) (args .v))) (patternFaults _) e, λ fine. fine))
 
 concat-uses-requires : tie.Need-concat-uses-requires
 concat-uses-requires c κs = passed c
@@ -67,42 +66,27 @@ cast-t22 c = omega (arith, few (c .before .before .before))
 
 returns-2 : tie.Need-returns-2
 returns-2 c =
-    let s = c .before .before .before .before .before .before .before .args in
+    let args = c .before .before .before .before .before .before .before .args in
     let ok = passed (c .before .before .before .before) in
     let e = sym (c .before .before .before .concat-uses .ensures) ∙ c .before .made .given .1 in
-    let es = concatFaults (content (s .t1)) (s .u) (s .v) in
-    let d = joinedEdge (content (s .t1)) (s .u) (s .v) in
-    (judged-not es Refused Not (Joined (nextEdge (s .t1) 0)) (patternFaults (s .t1)) ok d e, (judged-not es (λ f. s .t1) (λ f. s .t1) (storedIn (s .t1) (concatContent (content (s .t1)) (s .u) (s .v))) (patternFaults (s .t1)) ok d e, λ fine. fine))
+    let es = concatFaults (content (args .t1)) (args .u) (args .v) in
+    let d = joinedEdge (content (args .t1)) (args .u) (args .v) in
+    (judged-not es Refused Not (Joined (nextEdge (args .t1) 0)) (patternFaults _) ok d e, (judged-not es (λ f. args .t1) (λ f. args .t1) (storedIn (args .t1) (concatContent (content (args .t1)) (args .u) (args .v))) (patternFaults _) ok d e, λ fine. fine))
 
 returns-3 : tie.Need-returns-3
 returns-3 c =
-    let t = c .before .before .before .before .before .before .before .before .before in
-    let s = t .args in
-    let a = c .before .before .before .before .before .before in
-    let ok = passed a in
+    let start = c .before .before .before .before .before .before .before .before .before in
+    let place = c .before .before .before .before .before .before in
+    let ok = passed place in
     let e = made (c .before .before .before) in
-    let es = concatFaults (content (s .t1)) (s .u) (s .v) in
-    let d = joinedEdge (content (s .t1)) (s .u) (s .v) in
-    let p = s .t1 in
-    let after = concatContent (content p) (s .u) (s .v) in
-    let stored = c .append-edge .ensures ∙ ap (appended p) (joint-whole es d e) ∙ stored-appended p (limits a) (full t) (search needs) d ∙ judged-done es (λ f. p) (λ f. p) (storedIn p after) (patternFaults p) ok d e in (
-      ap Joined (next-is p (limits a) (full t)) ∙ judged-done es Refused Not (Joined (nextEdge p 0)) (patternFaults p) ok d e,
-      (stored, λ fine. ap patternFaults stored ∙ concat-pattern-accepted p (full t) (s .u) (s .v) fine),
+    let es = concatFaults (content (start .args .t1)) (start .args .u) (start .args .v) in
+    let d = joinedEdge (content (start .args .t1)) (start .args .u) (start .args .v) in
+    let after = concatContent (content (start .args .t1)) (start .args .u) (start .args .v) in
+    let stored = c .append-edge .ensures ∙ ap (appended (start .args .t1)) (joint-whole es d e) ∙ stored-appended (start .args .t1) (limits place) (full start) (search needs) d ∙ judged-done es (λ f. (start .args .t1)) (λ f. (start .args .t1)) (storedIn (start .args .t1) after) (patternFaults (start .args .t1)) ok d e in (
+      ap Joined (next-is (start .args .t1) (limits place) (full start)) ∙ judged-done es Refused Not (Joined (nextEdge (start .args .t1) 0)) (patternFaults (start .args .t1)) ok d e,
+      (stored, λ fine. ap patternFaults stored ∙ concat-pattern-accepted (start .args .t1) (full start) (start .args .u) (start .args .v) fine),
     )
 
 pub concat-spec : {M : Type 1} → statement M
-concat-spec =
-    tie.close
-    (tie.spec
-    (λ c κs. search needs)
-    (λ c. search needs)
-    returns
-    (λ c. search needs)
-    concat-uses-requires
-    (λ c. search needs)
-    (λ c. search needs)
-    (λ c. search needs)
-    append-edge-requires
-    cast-t22
-    returns-2
-    returns-3)
+concat-spec = tie.close (tie.spec (search needs) (search needs) returns (search needs) concat-uses-requires (search needs) (search needs)
+    (search needs) append-edge-requires cast-t22 returns-2 returns-3)

@@ -1,11 +1,10 @@
 use Prim.Native.Nat.{_<_, _≤_}
-use mathlib.Core.List.{[]}
-use mathlib.Core.Path.{_∙_, _≡_, sym}
+use mathlib.Core.Path.{_∙_, sym}
 use native.Mathlib.Omega.{arith}
 use lib.ListN.{getD, length, length-map}
-use Rattle.errors.proofs.Laws.{accepted-none, none-left}
+use Rattle.errors.proofs.Laws.{none-left}
 use Rattle.pattern.proofs.Counts.{Full, Limited, edges-counted, limited}
-use Rattle.pattern.specs.Checks.{contentFaults, countFaults, patternFaults}
+use Rattle.pattern.specs.Checks.{contentFaults, countFaults}
 use Rattle.pattern.specs.Contents.{content}
 use Rattle.concat.proofs.Judged.{concat-judged, edge-read, first-unnamed, second-unnamed}
 use Rattle.edge.specs.Uses.{edgeNumber}
@@ -31,13 +30,13 @@ limits s = limited (s .args .t1 .counts) (search needs) (none-left (countFaults 
 
 returns : tie.Need-returns
 returns c =
-    let s = c .before .before in
-    first-unnamed (content (s .args .t1)) (s .args .u) (s .args .v) (getD (s .args .t1 .counts) 1 0) (edges-counted (s .args .t1) (limits s) (full s)) (c .if1 .taken)
+    let start = c .before .before in
+    first-unnamed (content (start .args .t1)) _ (start .args .v) (getD (start .args .t1 .counts) 1 0) (edges-counted _ (limits start) (full start)) (c .if1 .taken)
 
 returns-2 : tie.Need-returns-2
 returns-2 c =
-    let s = c .before .before .before in
-    second-unnamed (content (s .args .t1)) (s .args .u) (s .args .v) (getD (s .args .t1 .counts) 1 0) (edges-counted (s .args .t1) (limits s) (full s)) (c .if2 .taken)
+    let start = c .before .before .before in
+    second-unnamed (content (start .args .t1)) (start .args .u) _ (getD (start .args .t1 .counts) 1 0) (edges-counted _ (limits start) (full start)) (c .if2 .taken)
 
 element-copy-out-a : tie.Need-element-copy-out-a
 element-copy-out-a c = omega (arith, limits (c .before .before .before) .edges)
@@ -47,28 +46,16 @@ element-copy-out-b c = omega (arith, limits (c .before .before .before .before) 
 
 returns-3 : tie.Need-returns-3
 returns-3 c =
-    let s = c .before .before .before .before .before .before in
-    let n = getD (s .args .t1 .counts) 1 0 in
-    let fit : n ≤ length (s .args .t1 .edges) = omega (arith, limits s .edges, full s .edges) in
-    let i : edgeNumber (s .args .u) < n = omega arith in
-    let j : edgeNumber (s .args .v) < n = omega arith in
-    concat-judged (content (s .args .t1)) (s .args .u) (s .args .v) n
-    (edge-read (s .args .t1 .edges) n (edgeNumber (s .args .u)) fit i)
-    (edge-read (s .args .t1 .edges) n (edgeNumber (s .args .v)) fit j)
-    (edges-counted (s .args .t1) (limits s) (full s)) i j (c .judge-concat .ensures)
+    let start = c .before .before .before .before .before .before in
+    let n = getD (start .args .t1 .counts) 1 0 in
+    let fit : n ≤ length (start .args .t1 .edges) = omega (arith, limits start .edges, full start .edges) in
+    let i : edgeNumber (start .args .u) < n = omega arith in
+    let j : edgeNumber (start .args .v) < n = omega arith in
+    concat-judged (content (start .args .t1)) (start .args .u) (start .args .v) n
+    (edge-read (start .args .t1 .edges) n (edgeNumber (start .args .u)) fit i)
+    (edge-read (start .args .t1 .edges) n (edgeNumber (start .args .v)) fit j)
+    (edges-counted (start .args .t1) (limits start) (full start)) i j (c .judge-concat .ensures)
 
 pub concat-uses-spec : {M : Type 1} → statement M
-concat-uses-spec =
-    tie.close
-    (tie.spec
-    (λ c. search needs)
-    (λ c. search needs)
-    (λ c. search needs)
-    returns
-    returns-2
-    (λ c. search needs)
-    element-copy-out-a
-    (λ c. search needs)
-    element-copy-out-b
-    (λ c κs. search needs)
-    returns-3)
+concat-uses-spec = tie.close (tie.spec (search needs) (search needs) (search needs) returns returns-2 (search needs) element-copy-out-a
+    (search needs) element-copy-out-b (search needs) returns-3)

@@ -20,7 +20,7 @@ abbrev μ-loop2 : tie.MeasureT-loop2
 μ-loop2 n t closed₀ e₀ closed e = n - e
 
 loop-holds : tie.Need-loop-holds Inv-loop μ-loop Inv-loop2 μ-loop2
-loop-holds c = (joining-start (c .args .t1) (c .args .n), omega arith)
+loop-holds c = (joining-start _ _, omega arith)
 
 sub-loop : tie.Need-sub-loop Inv-loop μ-loop Inv-loop2 μ-loop2
 sub-loop c = omega (arith, c .loop .inv .0 .low)
@@ -30,7 +30,8 @@ element-copy-out-byte-condition :
 element-copy-out-byte-condition c = search needs
 
 loop-again : tie.Need-loop-again Inv-loop μ-loop Inv-loop2 μ-loop2
-loop-again c = (joining-four _ _ _ _ (c .before .before .before .before .loop .inv .0) (c .before .before .before .before .loop .inv .1) (c .before .before .before .loop-test .taken) _ _ (c .before .byte-condition .ensures) (c .join .ensures), omega (arith, c .before .before .before .before .loop .inv .1))
+loop-again c = let loop = c .before .before .before .before .loop in
+    (joining-four _ _ _ _ (loop .inv .0) (loop .inv .1) (c .before .before .before .loop-test .taken) _ _ (c .before .byte-condition .ensures) (c .join .ensures), omega (arith, loop .inv .1))
 
 loop2-holds : tie.Need-loop2-holds Inv-loop μ-loop Inv-loop2 μ-loop2
 loop2-holds c = c .before .loop .inv .0
@@ -42,28 +43,6 @@ returns : tie.Need-returns Inv-loop μ-loop Inv-loop2 μ-loop2
 returns c = joining-all _ _ _ _ (c .before .before .loop2 .inv) (omega arith) _ (c .join3 .ensures)
 
 pub condition-of-spec : {M : Type 1} → statement M
-condition-of-spec =
-    tie.close
-    (tie.spec
-    Inv-loop
-    μ-loop
-    Inv-loop2
-    μ-loop2
-    loop-holds
-    sub-loop
-    element-copy-out-byte-condition
-    (λ c κs. search needs)
-    (λ c κs. search needs)
-    (λ c. search needs)
-    (λ c. search needs)
-    loop-again
-    loop2-holds
-    (λ c. search needs)
-    (λ c κs. search needs)
-    (λ c κs. search needs)
-    (λ c κs. search needs)
-    (λ c. search needs)
-    (λ c. search needs)
-    loop2-again
-    (λ c κs. search needs)
-    returns)
+condition-of-spec = tie.close (tie.spec Inv-loop μ-loop Inv-loop2 μ-loop2 loop-holds sub-loop element-copy-out-byte-condition
+    (search needs) (search needs) (search needs) (search needs) loop-again loop2-holds (search needs) (search needs) (search needs)
+    (search needs) (search needs) (search needs) loop2-again (search needs) returns)

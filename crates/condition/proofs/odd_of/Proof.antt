@@ -13,7 +13,7 @@ abbrev μ-loop : tie.MeasureT-loop
 μ-loop n t out₀ e₀ out e = n - e
 
 loop-holds : tie.Need-loop-holds Inv-loop μ-loop
-loop-holds c = writing-start (c .args .t1) (c .args .n)
+loop-holds c = writing-start _ _
 
 loop-again : tie.Need-loop-again Inv-loop μ-loop
 loop-again c = writing-next _ _ _ _ (c .before .before .before .loop .inv) (c .before .before .loop-test .taken) (c .before .before .before .before .pre) _ (c .state-in .ensures .0)
@@ -22,17 +22,5 @@ returns : tie.Need-returns Inv-loop μ-loop
 returns c = writing-all _ _ _ _ (c .before .loop .inv) (omega arith)
 
 pub odd-of-spec : {M : Type 1} → statement M
-odd-of-spec =
-    tie.close
-    (tie.spec
-    Inv-loop
-    μ-loop
-    loop-holds
-    (λ c. search needs)
-    (λ c κs. search needs)
-    (λ c. search needs)
-    (λ c. search needs)
-    (λ c. search needs)
-    (λ c. search needs)
-    loop-again
-    returns)
+odd-of-spec = tie.close (tie.spec Inv-loop μ-loop loop-holds (search needs) (search needs) (search needs) (search needs) (search needs)
+    (search needs) loop-again returns)

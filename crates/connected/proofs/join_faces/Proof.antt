@@ -16,7 +16,7 @@ abbrev μ-loop : tie.MeasureT-loop
 μ-loop parents₀ sizes₀ n firsts counts at₀ k₀ parents sizes at k = length counts - k
 
 loop-holds : tie.Need-loop-holds Inv-loop μ-loop
-loop-holds c = part-joins-start neighbours _ _ _ _ _ (c .before .before .before .before .pre .0) (c .before .before .before .before .pre .1)
+loop-holds c = let pre = c .before .before .before .before .pre in part-joins-start neighbours _ _ _ _ _ (pre .0) (pre .1)
 
 add-join-next : tie.Need-add-join-next Inv-loop μ-loop
 add-join-next c = omega (arith, part-joins-fits neighbours (c .before .before .before .before .before .loop .inv) (omega arith) (c .before .before .index .ensures .0))
@@ -28,37 +28,25 @@ part-join-next-end : tie.Need-part-join-next-end Inv-loop μ-loop
 part-join-next-end c = part-joins-fits neighbours (c .before .before .before .before .before .loop .inv) (omega arith) (c .before .before .index .ensures .0)
 
 join-next-requires : tie.Need-join-next-requires Inv-loop μ-loop
-join-next-requires c κs = (c .before .before .before .before .before .before .loop .inv .forest, below-part (c .before .before .before .before .before .before .before .before .before .before .before .args .n) (c .before .before .before .before .before .before .before .before .before .before .before .args .firsts .now) (c .before .before .before .before .before .before .loop .at) (c .before .before .before .before .before .before .loop .at + c .before .before .before .index .result - c .before .before .before .before .before .before .loop .at) (c .before .before .before .before .before .before .before .before .before .before .before .pre .2))
+join-next-requires c κs =
+    let start = c .before .before .before .before .before .before .before .before .before .before .before in
+    let loop = c .before .before .before .before .before .before .loop in
+    (loop .inv .forest, below-part _ (start .args .firsts .now) (loop .at) (loop .at + c .before .before .before .index .result - loop .at) (start .pre .2))
 
 add-at : tie.Need-add-at Inv-loop μ-loop
 add-at c = omega (arith, part-joins-fits neighbours (c .before .before .before .before .before .before .before .before .before .before .before .loop .inv) (omega arith) (c .before .before .before .before .before .before .before .before .index .ensures .0))
 
 loop-again : tie.Need-loop-again Inv-loop μ-loop
-loop-again c = part-joins-next neighbours (c .before .before .before .before .before .before .before .before .before .before .before .loop .inv) (omega arith) (c .before .before .before .before .before .before .before .before .index .ensures .0) (inside-part (c .before .before .before .before .before .before .before .before .before .before .before .before .before .before .before .before .args .n) (c .before .before .before .before .before .before .before .before .before .before .before .before .before .before .before .before .args .firsts .now) (c .before .before .before .before .before .before .before .before .before .before .before .loop .at) (c .before .before .before .before .before .before .before .before .before .before .before .loop .at + c .before .before .before .before .before .before .before .before .index .result - c .before .before .before .before .before .before .before .before .before .before .before .loop .at) (c .before .before .before .before .before .before .before .before .before .before .before .before .before .before .before .before .pre .2)) (c .before .before .before .before .join-next .ensures)
+loop-again c =
+    let start = c .before .before .before .before .before .before .before .before .before .before .before .before .before .before .before .before in
+    let loop = c .before .before .before .before .before .before .before .before .before .before .before .loop in
+    let index = c .before .before .before .before .before .before .before .before .index in
+    part-joins-next neighbours (loop .inv) (omega arith) (index .ensures .0) (inside-part _ (start .args .firsts .now) (loop .at) (loop .at + index .result - loop .at) (start .pre .2)) (c .before .before .before .before .join-next .ensures)
 
 returns : tie.Need-returns Inv-loop μ-loop
 returns c = part-joins-all neighbours (c .before .loop .inv) (omega arith)
 
 pub join-faces-spec : {M : Type 1} → statement M
-join-faces-spec =
-    tie.close
-    (tie.spec
-    Inv-loop
-    μ-loop
-    loop-holds
-    (λ c. search needs)
-    (λ c. search needs)
-    (λ c κs. search needs)
-    add-join-next
-    mul-join-next
-    (λ c. search needs)
-    (λ c. search needs)
-    part-join-next-end
-    join-next-requires
-    add-at
-    (λ c. search needs)
-    (λ c. search needs)
-    loop-again
-    (λ c. search needs)
-    (λ c. search needs)
-    returns)
+join-faces-spec = tie.close (tie.spec Inv-loop μ-loop loop-holds (search needs) (search needs) (search needs) add-join-next mul-join-next
+    (search needs) (search needs) part-join-next-end join-next-requires add-at (search needs) (search needs) loop-again (search needs)
+    (search needs) returns)

@@ -8,27 +8,16 @@ use Rattle.connected.proofs.join_next.Statement.{statement}
 use Rattle.connected.proofs.join_next.Tie as tie
 
 returns : tie.Need-returns
-returns c = next-none (c .before .before .before .before .args .points .now) _ (c .if1 .taken)
+returns c = next-none _ _ (c .if1 .taken)
 
 join-all-requires : tie.Need-join-all-requires
-join-all-requires c κs = (c .before .before .before .before .before .before .before .before .pre .0, next-pairs _ (c .before .before .before .before .before .before .before .before .args .points .now) (length (c .before .before .before .before .before .before .before .before .args .points .now) - 1 - 0) (c .before .before .before .before .before .before .before .before .pre .1) (omega arith))
+join-all-requires c κs = let start = c .before .before .before .before .before .before .before .before in
+    (start .pre .0, next-pairs _ (start .args .points .now) (length (start .args .points .now) - 1 - 0) (start .pre .1) (omega arith))
 
 returns-2 : tie.Need-returns-2
-returns-2 c = next-joined (c .before .before .before .before .before .before .before .before .before .before .before .before .before .args .points .now) (length (c .before .before .before .before .before .before .before .before .before .before .before .before .before .args .points .now) - 1 - 0) _ (omega arith) (c .before .before .before .before .join-all .ensures)
+returns-2 c = let args = c .before .before .before .before .before .before .before .before .before .before .before .before .before .args in
+    next-joined (args .points .now) (length (args .points .now) - 1 - 0) _ (omega arith) (c .before .before .before .before .join-all .ensures)
 
 pub join-next-spec : {M : Type 1} → statement M
-join-next-spec =
-    tie.close
-    (tie.spec
-    returns
-    (λ c. search needs)
-    (λ c. search needs)
-    (λ c. search needs)
-    (λ c. search needs)
-    (λ c. search needs)
-    (λ c. search needs)
-    (λ c. search needs)
-    join-all-requires
-    (λ c. search needs)
-    (λ c. search needs)
-    returns-2)
+join-next-spec = tie.close (tie.spec returns (search needs) (search needs) (search needs) (search needs) (search needs) (search needs)
+    (search needs) join-all-requires (search needs) (search needs) returns-2)

@@ -28,10 +28,10 @@ back-of-requires c κs = let b = c .before .before .before .before .before .befo
 
 join-requires : tie.Need-join-requires Inv-loop μ-loop
 join-requires c κs =
-    let d = c .before .before .before .before .before .before .before .before .before .before .before .before .pre .1 in
-    let k = c .before .before .before .before .before .before .loop .k in
-    let h : k < length (c .before .before .before .before .before .before .before .before .before .before .before .before .args .uses .now) = omega arith in
-    ready _ _ _ (c .before .before .before .before .before .before .loop .inv .forest) _ _ (omega (arith, d .starts k h, d .ends k h, c .before .front-of .ensures)) (omega (arith, d .starts k h, d .ends k h, c .back-of .ensures))
+    let start = c .before .before .before .before .before .before .before .before .before .before .before .before in
+    let loop = c .before .before .before .before .before .before .loop in
+    let h : (loop .k) < length (start .args .uses .now) = omega arith in
+    ready _ _ _ (loop .inv .forest) _ _ (omega (arith, start .pre .1 .starts (loop .k) h, start .pre .1 .ends (loop .k) h, c .before .front-of .ensures)) (omega (arith, start .pre .1 .starts (loop .k) h, start .pre .1 .ends (loop .k) h, c .back-of .ensures))
 
 loop-again : tie.Need-loop-again Inv-loop μ-loop
 loop-again c = uses-next (c .before .before .before .before .before .before .before .before .before .before .before .before .before .before .before .before .before .pre .1) (c .before .before .before .before .before .before .before .before .before .before .before .loop .inv) (omega arith) (c .before .before .before .before .before .before .front-of .ensures) (c .before .before .before .before .before .back-of .ensures) (c .before .before .before .before .join .ensures)
@@ -40,20 +40,5 @@ returns : tie.Need-returns Inv-loop μ-loop
 returns c = uses-end (c .before .before .before .before .before .before .before .pre .1) (c .before .loop .inv) (omega arith)
 
 pub join-uses-spec : {M : Type 1} → statement M
-join-uses-spec =
-    tie.close
-    (tie.spec
-    Inv-loop
-    μ-loop
-    loop-holds
-    (λ c. search needs)
-    (λ c. search needs)
-    front-of-requires
-    back-of-requires
-    join-requires
-    (λ c. search needs)
-    (λ c. search needs)
-    loop-again
-    (λ c. search needs)
-    (λ c. search needs)
-    returns)
+join-uses-spec = tie.close (tie.spec Inv-loop μ-loop loop-holds (search needs) (search needs) front-of-requires back-of-requires
+    join-requires (search needs) (search needs) loop-again (search needs) (search needs) returns)

@@ -24,7 +24,7 @@ loop-holds : tie.Need-loop-holds Inv-loop μ-loop
 loop-holds c = roots-start _ _ _ (omega arith) (c .root-of .ensures)
 
 root-of-requires-2 : tie.Need-root-of-requires-2 Inv-loop μ-loop
-root-of-requires-2 c κs = c .before .before .before .before .before .before .before .before .before .before .pre (c .before .before .loop .i) (omega arith)
+root-of-requires-2 c κs = c .before .before .before .before .before .before .before .before .before .before .pre _ (omega arith)
 
 returns-2 : tie.Need-returns-2 Inv-loop μ-loop
 returns-2 c = roots-stop _ _ _ (c .before .before .before .before .loop .inv) (omega arith) (c .before .root-of2 .ensures) (c .if2 .taken)
@@ -36,20 +36,5 @@ returns-3 : tie.Need-returns-3 Inv-loop μ-loop
 returns-3 c = roots-end _ _ _ (c .before .loop .inv) (omega arith)
 
 pub one-root-spec : {M : Type 1} → statement M
-one-root-spec =
-    tie.close
-    (tie.spec
-    Inv-loop
-    μ-loop
-    returns
-    (λ c. search needs)
-    root-of-requires
-    loop-holds
-    (λ c. search needs)
-    (λ c. search needs)
-    root-of-requires-2
-    returns-2
-    (λ c. search needs)
-    (λ c. search needs)
-    loop-again
-    returns-3)
+one-root-spec = tie.close (tie.spec Inv-loop μ-loop returns (search needs) root-of-requires loop-holds (search needs) (search needs)
+    root-of-requires-2 returns-2 (search needs) (search needs) loop-again returns-3)

@@ -12,4 +12,4 @@ returns : tie.Need-returns
 returns c = c .find .ensures ∙ ap (rootOf (c .before .before .before .before .before .args .parents .now)) (c .before .front-of .ensures)
 
 pub root-of-spec : {M : Type 1} → statement M
-root-of-spec = tie.close (tie.spec (λ c κs. search needs) find-requires returns)
+root-of-spec = tie.close (tie.spec (search needs) find-requires returns)

@@ -11,32 +11,30 @@ use Rattle.corners.proofs.corner_in.Statement.{statement}
 use Rattle.corners.proofs.corner_in.Tie as tie
 
 add-corner-of : tie.Need-add-corner-of
-add-corner-of c = omega (arith, c .before .before .before .before .before .before .before .pre .1 .1, c .before .before .before .before .before .before .before .pre .1 .2, walk-fits (c .before .before .before .before .before .before .before .args .wires .now) (c .before .before .before .before .before .before .before .args .w) (c .before .before .sum-of .result) (c .index .result) (record { low = omega (arith, c .before .before .before .before .before .before .before .pre .1 .4); here = c .before .before .sum-of .ensures }) (c .before .before .before .before .before .before .before .pre .1 .4) (c .index .ensures .0))
+add-corner-of c = let pre = c .before .before .before .before .before .before .before .pre in
+    omega (arith, pre .1 .1, pre .1 .2, walk-fits _ _ _ _ (record { low = omega (arith, pre .1 .4); here = c .before .before .sum-of .ensures }) (pre .1 .4) (c .index .ensures .0))
 
 mul-corner-of : tie.Need-mul-corner-of
-mul-corner-of c = record { fits = omega (arith, c .before .before .before .before .before .before .before .pre .1 .1, c .before .before .before .before .before .before .before .pre .1 .2, walk-fits (c .before .before .before .before .before .before .before .args .wires .now) (c .before .before .before .before .before .before .before .args .w) (c .before .before .sum-of .result) (c .index .result) (record { low = omega (arith, c .before .before .before .before .before .before .before .pre .1 .4); here = c .before .before .sum-of .ensures }) (c .before .before .before .before .before .before .before .pre .1 .4) (c .index .ensures .0)) }
+mul-corner-of c = let pre = c .before .before .before .before .before .before .before .pre in
+    record { fits = omega (arith, pre .1 .1, pre .1 .2, walk-fits _ _ _ _ (record { low = omega (arith, pre .1 .4); here = c .before .before .sum-of .ensures }) (pre .1 .4) (c .index .ensures .0)) }
 
 part-corner-of-end : tie.Need-part-corner-of-end
-part-corner-of-end c = omega (arith, c .before .before .before .before .before .before .before .pre .1 .2, walk-fits (c .before .before .before .before .before .before .before .args .wires .now) (c .before .before .before .before .before .before .before .args .w) (c .before .before .sum-of .result) (c .index .result) (record { low = omega (arith, c .before .before .before .before .before .before .before .pre .1 .4); here = c .before .before .sum-of .ensures }) (c .before .before .before .before .before .before .before .pre .1 .4) (c .index .ensures .0))
+part-corner-of-end c = let pre = c .before .before .before .before .before .before .before .pre in
+    omega (arith, pre .1 .2, walk-fits _ _ _ _ (record { low = omega (arith, pre .1 .4); here = c .before .before .sum-of .ensures }) (pre .1 .4) (c .index .ensures .0))
 
 corner-of-requires : tie.Need-corner-of-requires
-corner-of-requires c κs = (named-part (c .before .before .before .before .before .before .before .before .args .fronts .now) (c .before .before .before .before .before .before .before .before .args .backs .now) (c .before .before .before .before .before .before .before .before .args .uses .now) (c .before .before .before .before .before .before .before .before .pre .0) (c .before .before .before .sum-of .result) (c .before .before .before .sum-of .result + c .before .index .result - c .before .before .before .sum-of .result), omega (arith, ap length (walk-part (c .before .before .before .before .before .before .before .before .args .wires .now) (c .before .before .before .before .before .before .before .before .args .w) (c .before .before .before .sum-of .result) (c .before .index .result) (record { low = omega (arith, c .before .before .before .before .before .before .before .before .pre .1 .4); here = c .before .before .before .sum-of .ensures }) (c .before .before .before .before .before .before .before .before .pre .1 .4) (c .before .index .ensures .0) (c .before .before .before .before .before .before .before .before .args .uses .now)), part-long (c .before .before .before .before .before .before .before .before .args .wires .now) (c .before .before .before .before .before .before .before .before .args .uses .now) (c .before .before .before .before .before .before .before .before .args .w) (c .before .before .before .before .before .before .before .before .pre .1 .2) (c .before .before .before .before .before .before .before .before .pre .1 .4), c .before .before .before .before .before .before .before .before .pre .1 .3 (c .before .before .before .before .before .before .before .before .args .w) (c .before .before .before .before .before .before .before .before .pre .1 .4)))
+corner-of-requires c κs =
+    let start = c .before .before .before .before .before .before .before .before in
+    let sum-of = c .before .before .before .sum-of in
+    (named-part (start .args .fronts .now) (start .args .backs .now) (start .args .uses .now) (start .pre .0) (sum-of .result) (sum-of .result + c .before .index .result - sum-of .result), omega (arith, ap length (walk-part (start .args .wires .now) (start .args .w) (sum-of .result) (c .before .index .result) (record { low = omega (arith, start .pre .1 .4); here = sum-of .ensures }) (start .pre .1 .4) (c .before .index .ensures .0) (start .args .uses .now)), part-long (start .args .wires .now) (start .args .uses .now) (start .args .w) (start .pre .1 .2) (start .pre .1 .4), start .pre .1 .3 (start .args .w) (start .pre .1 .4)))
 
 returns : tie.Need-returns
-returns c = corner-whole (c .before .before .before .before .before .before .before .before .before .args .fronts .now) (c .before .before .before .before .before .before .before .before .before .args .backs .now) (c .before .before .before .before .before .before .before .before .before .args .v .0) (c .before .before .before .before .before .before .before .before .before .args .uses .now) (c .before .before .before .before .sum-of .result) (c .before .before .before .before .sum-of .result + c .before .before .index .result - c .before .before .before .before .sum-of .result) (c .before .before .before .before .before .before .before .before .before .pre .0) (walk-part (c .before .before .before .before .before .before .before .before .before .args .wires .now) (c .before .before .before .before .before .before .before .before .before .args .w) (c .before .before .before .before .sum-of .result) (c .before .before .index .result) (record { low = omega (arith, c .before .before .before .before .before .before .before .before .before .pre .1 .4); here = c .before .before .before .before .sum-of .ensures }) (c .before .before .before .before .before .before .before .before .before .pre .1 .4) (c .before .before .index .ensures .0) (c .before .before .before .before .before .before .before .before .before .args .uses .now)) (omega (arith, ap length (walk-part (c .before .before .before .before .before .before .before .before .before .args .wires .now) (c .before .before .before .before .before .before .before .before .before .args .w) (c .before .before .before .before .sum-of .result) (c .before .before .index .result) (record { low = omega (arith, c .before .before .before .before .before .before .before .before .before .pre .1 .4); here = c .before .before .before .before .sum-of .ensures }) (c .before .before .before .before .before .before .before .before .before .pre .1 .4) (c .before .before .index .ensures .0) (c .before .before .before .before .before .before .before .before .before .args .uses .now)), part-long (c .before .before .before .before .before .before .before .before .before .args .wires .now) (c .before .before .before .before .before .before .before .before .before .args .uses .now) (c .before .before .before .before .before .before .before .before .before .args .w) (c .before .before .before .before .before .before .before .before .before .pre .1 .2) (c .before .before .before .before .before .before .before .before .before .pre .1 .4), c .before .before .before .before .before .before .before .before .before .pre .1 .3 (c .before .before .before .before .before .before .before .before .before .args .w) (c .before .before .before .before .before .before .before .before .before .pre .1 .4))) (c .corner-of .ensures)
+returns c =
+    let start = c .before .before .before .before .before .before .before .before .before in
+    let sum-of = c .before .before .before .before .sum-of in
+    let index = c .before .before .index in
+    corner-whole (start .args .fronts .now) (start .args .backs .now) (start .args .v .0) (start .args .uses .now) (sum-of .result) (sum-of .result + index .result - sum-of .result) (start .pre .0) (walk-part (start .args .wires .now) (start .args .w) (sum-of .result) (index .result) (record { low = omega (arith, start .pre .1 .4); here = sum-of .ensures }) (start .pre .1 .4) (index .ensures .0) (start .args .uses .now)) (omega (arith, ap length (walk-part (start .args .wires .now) (start .args .w) (sum-of .result) (index .result) (record { low = omega (arith, start .pre .1 .4); here = sum-of .ensures }) (start .pre .1 .4) (index .ensures .0) (start .args .uses .now)), part-long (start .args .wires .now) (start .args .uses .now) (start .args .w) (start .pre .1 .2) (start .pre .1 .4), start .pre .1 .3 (start .args .w) (start .pre .1 .4))) (c .corner-of .ensures)
 
 pub corner-in-spec : {M : Type 1} → statement M
-corner-in-spec =
-    tie.close
-    (tie.spec
-    (λ c κs. search needs)
-    (λ c. search needs)
-    (λ c. search needs)
-    (λ c κs. search needs)
-    add-corner-of
-    mul-corner-of
-    (λ c. search needs)
-    (λ c. search needs)
-    part-corner-of-end
-    corner-of-requires
-    returns)
+corner-in-spec = tie.close (tie.spec (search needs) (search needs) (search needs) (search needs) add-corner-of mul-corner-of (search needs)
+    (search needs) part-corner-of-end corner-of-requires returns)

@@ -7,46 +7,23 @@ use Rattle.corners.proofs.corners_in.Statement.{statement}
 use Rattle.corners.proofs.corners_in.Tie as tie
 
 corner-in-requires : tie.Need-corner-in-requires
-corner-in-requires c κs = rw (sub-zero (c .before .before .before .before .before .before .before .before .args .ucount), sub-zero (c .before .before .before .before .before .before .before .before .args .wcount), sub-zero (c .before .before .before .before .before .before .before .before .args .ecount)) (c .before .before .before .before .before .before .before .before .pre .0 .named, (omega (arith, length-take-le (c .before .before .before .before .before .before .before .before .args .wcount) (c .before .before .before .before .before .before .before .before .args .wires .now) (c .before .before .before .before .before .before .before .before .pre .0 .wires-in), c .before .before .before .before .before .before .before .before .pre .0 .few-wires), omega (arith, length-take-le (c .before .before .before .before .before .before .before .before .args .ucount) (c .before .before .before .before .before .before .before .before .args .uses .now) (c .before .before .before .before .before .before .before .before .pre .0 .uses-in), c .before .before .before .before .before .before .before .before .pre .0 .few-uses), c .before .before .before .before .before .before .before .before .pre .0 .summed ∙ sym (length-take-le (c .before .before .before .before .before .before .before .before .args .ucount) (c .before .before .before .before .before .before .before .before .args .uses .now) (c .before .before .before .before .before .before .before .before .pre .0 .uses-in)), c .before .before .before .before .before .before .before .before .pre .0 .paired, omega (arith, length-take-le (c .before .before .before .before .before .before .before .before .args .wcount) (c .before .before .before .before .before .before .before .before .args .wires .now) (c .before .before .before .before .before .before .before .before .pre .0 .wires-in), c .before .before .before .before .before .before .before .before .pre .1 .0)))
+corner-in-requires c κs = let start = c .before .before .before .before .before .before .before .before in
+    rw (sub-zero (start .args .ucount), sub-zero (start .args .wcount), sub-zero (start .args .ecount)) (start .pre .0 .named, (omega (arith, length-take-le (start .args .wcount) (start .args .wires .now) (start .pre .0 .wires-in), start .pre .0 .few-wires), omega (arith, length-take-le (start .args .ucount) (start .args .uses .now) (start .pre .0 .uses-in), start .pre .0 .few-uses), start .pre .0 .summed ∙ sym (length-take-le (start .args .ucount) (start .args .uses .now) (start .pre .0 .uses-in)), start .pre .0 .paired, omega (arith, length-take-le (start .args .wcount) (start .args .wires .now) (start .pre .0 .wires-in), start .pre .1 .0)))
 
 corner-in-requires-2 : tie.Need-corner-in-requires-2
-corner-in-requires-2 c κs = rw (sub-zero (c .before .before .before .before .before .before .before .before .before .before .before .before .before .args .ucount), sub-zero (c .before .before .before .before .before .before .before .before .before .before .before .before .before .args .wcount), sub-zero (c .before .before .before .before .before .before .before .before .before .before .before .before .before .args .ecount)) (c .before .before .before .before .before .before .before .before .before .before .before .before .before .pre .0 .named, (omega (arith, length-take-le (c .before .before .before .before .before .before .before .before .before .before .before .before .before .args .wcount) (c .before .before .before .before .before .before .before .before .before .before .before .before .before .args .wires .now) (c .before .before .before .before .before .before .before .before .before .before .before .before .before .pre .0 .wires-in), c .before .before .before .before .before .before .before .before .before .before .before .before .before .pre .0 .few-wires), omega (arith, length-take-le (c .before .before .before .before .before .before .before .before .before .before .before .before .before .args .ucount) (c .before .before .before .before .before .before .before .before .before .before .before .before .before .args .uses .now) (c .before .before .before .before .before .before .before .before .before .before .before .before .before .pre .0 .uses-in), c .before .before .before .before .before .before .before .before .before .before .before .before .before .pre .0 .few-uses), c .before .before .before .before .before .before .before .before .before .before .before .before .before .pre .0 .summed ∙ sym (length-take-le (c .before .before .before .before .before .before .before .before .before .before .before .before .before .args .ucount) (c .before .before .before .before .before .before .before .before .before .before .before .before .before .args .uses .now) (c .before .before .before .before .before .before .before .before .before .before .before .before .before .pre .0 .uses-in)), c .before .before .before .before .before .before .before .before .before .before .before .before .before .pre .0 .paired, omega (arith, length-take-le (c .before .before .before .before .before .before .before .before .before .before .before .before .before .args .wcount) (c .before .before .before .before .before .before .before .before .before .before .before .before .before .args .wires .now) (c .before .before .before .before .before .before .before .before .before .before .before .before .before .pre .0 .wires-in), c .before .before .before .before .before .before .before .before .before .before .before .before .before .pre .1 .1)))
+corner-in-requires-2 c κs = let start = c .before .before .before .before .before .before .before .before .before .before .before .before .before in
+    rw (sub-zero (start .args .ucount), sub-zero (start .args .wcount), sub-zero (start .args .ecount)) (start .pre .0 .named, (omega (arith, length-take-le (start .args .wcount) (start .args .wires .now) (start .pre .0 .wires-in), start .pre .0 .few-wires), omega (arith, length-take-le (start .args .ucount) (start .args .uses .now) (start .pre .0 .uses-in), start .pre .0 .few-uses), start .pre .0 .summed ∙ sym (length-take-le (start .args .ucount) (start .args .uses .now) (start .pre .0 .uses-in)), start .pre .0 .paired, omega (arith, length-take-le (start .args .wcount) (start .args .wires .now) (start .pre .0 .wires-in), start .pre .1 .1)))
 
 returns : tie.Need-returns
 returns c =
-    let le = length-take-le (c .before .before .before .before .before .before .before .before .before .before .before .before .before .before .args .ecount) (c .before .before .before .before .before .before .before .before .before .before .before .before .before .before .args .fronts .now) (c .before .before .before .before .before .before .before .before .before .before .before .before .before .before .pre .0 .fronts-in) in
-    let a = rw (sub-zero (c .before .before .before .before .before .before .before .before .before .before .before .before .before .before .args .ucount), sub-zero (c .before .before .before .before .before .before .before .before .before .before .before .before .before .before .args .wcount), sub-zero (c .before .before .before .before .before .before .before .before .before .before .before .before .before .before .args .ecount)) at (c .before .before .before .before .before .corner-in .ensures) in
-    let b = rw (sub-zero (c .before .before .before .before .before .before .before .before .before .before .before .before .before .before .args .ucount), sub-zero (c .before .before .before .before .before .before .before .before .before .before .before .before .before .before .args .wcount), sub-zero (c .before .before .before .before .before .before .before .before .before .before .before .before .before .before .args .ecount)) at (c .corner-in2 .ensures) in
+    let start = c .before .before .before .before .before .before .before .before .before .before .before .before .before .before in
+    let le = length-take-le (start .args .ecount) (start .args .fronts .now) (start .pre .0 .fronts-in) in
+    let a = rw (sub-zero (start .args .ucount), sub-zero (start .args .wcount), sub-zero (start .args .ecount)) at (c .before .before .before .before .before .corner-in .ensures) in
+    let b = rw (sub-zero (start .args .ucount), sub-zero (start .args .wcount), sub-zero (start .args .ecount)) at (c .corner-in2 .ensures) in
     (a .0, (b .0, (omega (arith, le, b .1 .0), omega (arith, le, b .1 .1))))
 
 pub corners-in-spec : {M : Type 1} → statement M
-corners-in-spec =
-    tie.close
-    (tie.spec
-    (λ c. search needs)
-    (λ c. search needs)
-    (λ c. search needs)
-    (λ c. search needs)
-    (λ c. search needs)
-    (λ c. search needs)
-    (λ c. search needs)
-    (λ c. search needs)
-    (λ c. search needs)
-    (λ c. search needs)
-    (λ c. search needs)
-    (λ c. search needs)
-    corner-in-requires
-    (λ c. search needs)
-    (λ c. search needs)
-    (λ c. search needs)
-    (λ c. search needs)
-    (λ c. search needs)
-    (λ c. search needs)
-    (λ c. search needs)
-    (λ c. search needs)
-    (λ c. search needs)
-    (λ c. search needs)
-    (λ c. search needs)
-    (λ c. search needs)
-    corner-in-requires-2
-    returns)
+corners-in-spec = tie.close (tie.spec (search needs) (search needs) (search needs) (search needs) (search needs) (search needs)
+    (search needs) (search needs) (search needs) (search needs) (search needs) (search needs) corner-in-requires (search needs)
+    (search needs) (search needs) (search needs) (search needs) (search needs) (search needs) (search needs) (search needs) (search needs)
+    (search needs) (search needs) corner-in-requires-2 returns)

@@ -5,11 +5,10 @@ use Rattle.corners.proofs.end_place.Statement.{statement}
 use Rattle.corners.proofs.end_place.Tie as tie
 
 returns : tie.Need-returns
-returns c = place-some (c .before .before .before .before .before .before .before .args .fronts .now) (c .before .before .before .before .before .before .before .args .backs .now) (c .before .before .before .before .before .before .before .args .v .0) (c .before .before .before .before .before .before .before .args .uses .now) (sym (c .before .before .before .find-end .ensures) ∙ c .before .found .given .1)
+returns c = place-some _ _ _ _ (sym (c .before .before .before .find-end .ensures) ∙ c .before .found .given .1)
 
 returns-2 : tie.Need-returns-2
-returns-2 c = place-none (c .before .before .before .before .before .before .args .fronts .now) (c .before .before .before .before .before .before .args .backs .now) (c .before .before .before .before .before .before .args .v .0) (c .before .before .before .before .before .before .args .uses .now) (sym (c .before .before .find-end .ensures) ∙ c .enum-told .given .1) (c .before .before .before .before .before .before .pre .1)
+returns-2 c = place-none _ _ _ _ (sym (c .before .before .find-end .ensures) ∙ c .enum-told .given .1) (c .before .before .before .before .before .before .pre .1)
 
 pub end-place-spec : {M : Type 1} → statement M
-end-place-spec =
-    tie.close (tie.spec (λ c κs. search needs) (λ c. search needs) (λ c. search needs) returns returns-2)
+end-place-spec = tie.close (tie.spec (λ c κs. search needs) (search needs) (search needs) returns returns-2)

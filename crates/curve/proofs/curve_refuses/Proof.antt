@@ -22,20 +22,18 @@ third false true c p q = cc
 returns : tie.Need-returns
 unfolding refuses
 returns c =
-    let t = c .before .args .t in
-    first (not (finite t)) _ (sym (self-difference t) ∙ c .if1 .taken)
+    first (not (finite (c .before .args .t))) _ (sym (self-difference (c .before .args .t)) ∙ c .if1 .taken)
 
 returns-2 : tie.Need-returns-2
 unfolding refuses
 returns-2 c =
-    let a = c .before .before .before .args in
-    second (not (finite (a .t))) (lt (a .t) (add binary64 (a .k .t0) tolerance)) (lt (sub binary64 (a .k .t1) tolerance) (a .t)) (c .if2 .taken)
+    let args = c .before .before .before .args in
+    second (not (finite (args .t))) (lt _ (add binary64 _ tolerance)) (lt (sub binary64 (args .k .t1) tolerance) (args .t)) (c .if2 .taken)
 
 returns-3 : tie.Need-returns-3
 unfolding refuses
 returns-3 c =
-    let a = c .before .before .before .before .args in
-    third (not (finite (a .t))) (lt (a .t) (add binary64 (a .k .t0) tolerance)) (lt (sub binary64 (a .k .t1) tolerance) (a .t)) (sym (self-difference (a .t)) ∙ c .before .before .before .if1 .left) (c .before .if2 .left)
+    third (not (finite (c .before .before .before .before .args .t))) (lt _ (add binary64 _ tolerance)) (lt (sub binary64 _ tolerance) _) (sym (self-difference _) ∙ c .before .before .before .if1 .left) (c .before .if2 .left)
 
 pub curve-refuses-spec : {M : Type 1} → statement M
 curve-refuses-spec = tie.close (tie.spec returns returns-2 returns-3)

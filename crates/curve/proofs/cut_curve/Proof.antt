@@ -29,18 +29,16 @@ cut k at t f0 f1 f e h = rw (e, h) (refl, λ s. halves-span k t (passes (fits bi
 
 returns : tie.Need-returns
 returns c =
-    let a = c .before .before .before .before .before .args in
-    refused (a .k) (a .at) (c .before .before .before .at .given .0 .0) (c .before .before .before .at .given .1) (sym (c .before .curve-refuses .ensures) ∙ c .if1 .taken)
+    let at-2 = c .before .before .before .at in
+    refused _ _ (at-2 .given .0 .0) (at-2 .given .1) (sym (c .before .curve-refuses .ensures) ∙ c .if1 .taken)
 
 returns-2 : tie.Need-returns-2
-returns-2 c = nowhere (c .before .before .args .k) (c .before .before .args .at) (c .enum-told .given .1)
+returns-2 c = nowhere _ _ (c .enum-told .given .1)
 
 returns-3 : tie.Need-returns-3
 returns-3 c =
-    let a = c .before .before .before .before .before .args in
-    let fine = c .before .before .before .before .before .good .0 .1 .1 in
-    cut (a .k) (a .at) (c .before .before .before .at .given .0 .0) (fine .0 .1) (fine .1 .0 .1) (c .before .before .known-told .given .0 .1) (c .before .before .before .at .given .1) (sym (c .before .curve-refuses .ensures) ∙ c .if1 .left)
+    let good = c .before .before .before .before .before .good in let at-2 = c .before .before .before .at in
+    cut _ _ (at-2 .given .0 .0) (good .0 .1 .1 .0 .1) (good .0 .1 .1 .1 .0 .1) (c .before .before .known-told .given .0 .1) (at-2 .given .1) (sym (c .before .curve-refuses .ensures) ∙ c .if1 .left)
 
 pub cut-curve-spec : {M : Type 1} → statement M
-cut-curve-spec =
-    tie.close (tie.spec (λ c. search needs) (λ c. search needs) (λ c κs. search needs) returns returns-2 returns-3)
+cut-curve-spec = tie.close (tie.spec (search needs) (search needs) (search needs) returns returns-2 returns-3)

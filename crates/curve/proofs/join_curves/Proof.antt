@@ -10,4 +10,4 @@ returns-2 : tie.Need-returns-2
 returns-2 c = rw (sym (c .before .is-span .ensures) ∙ c .if1 .left) refl
 
 pub join-curves-spec : {M : Type 1} → statement M
-join-curves-spec = tie.close (tie.spec (λ c κs. search needs) returns returns-2)
+join-curves-spec = tie.close (tie.spec (search needs) returns returns-2)

@@ -14,13 +14,13 @@ no-nan-upto : (n : ℕ) → n % 2 ^ 63 ≤ 0x7ff0_0000_0000_0000 → nanBits bin
 no-nan-upto n h = nanBits-above binary64 n ∙ le-ltb 0x7ff0_0000_0000_0000 (n % 2 ^ 63) h
 
 returns : tie.Need-returns
-returns c = rw (nan-above (c .before .args .bits) (c .if1 .taken)) refl
+returns c = rw (nan-above _ (c .if1 .taken)) refl
 
 float-from-bits-t4 : tie.Need-float-from-bits-t4
-float-from-bits-t4 c = rw (no-nan-upto (c .before .args .bits) (c .if1 .left)) tt
+float-from-bits-t4 c = rw (no-nan-upto _ (c .if1 .left)) tt
 
 returns-2 : tie.Need-returns-2
-returns-2 c = rw (no-nan-upto (c .before .args .bits) (c .if1 .left)) refl
+returns-2 c = rw (no-nan-upto _ (c .if1 .left)) refl
 
 pub parameter-of-spec : {M : Type 1} → statement M
 parameter-of-spec = tie.close (tie.spec returns float-from-bits-t4 returns-2)

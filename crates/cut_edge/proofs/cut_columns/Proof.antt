@@ -15,14 +15,13 @@ ends-long : (s : tie.Start) → (length (s .args .t2) ≡ 1024) × (length (s .a
 ends-long s = (search needs, search needs)
 
 judge-cut-requires : tie.Need-judge-cut-requires
-judge-cut-requires c κs = let s = c .before .before .before .before .before .before .before .before .before .before .before .before .before .before in
-    let p = s .pre .0 .0 in
-    let l = s .pre .0 .1 in
-    let u = uses-room p _ _ _ _ _ _ _ _ l in
-    let w = wires-room p _ _ _ _ _ _ _ _ l in
-    let e = edges-room p _ _ _ _ _ _ _ _ l in (
-      (u .1, u .0, w .1, omega (arith, w .0, marks-long (c .before .before .before .before .before .before)), w .0, omega (arith, e .1, ends-long s .0), omega (arith, e .1, ends-long s .1), e .1),
-      (ends-named p _ _ _ _ _ _ _ _ l, w .2),
+judge-cut-requires c κs =
+    let start = c .before .before .before .before .before .before .before .before .before .before .before .before .before .before in
+    let u = uses-room (start .pre .0 .0) _ _ _ _ _ _ _ _ (start .pre .0 .1) in
+    let w = wires-room (start .pre .0 .0) _ _ _ _ _ _ _ _ (start .pre .0 .1) in
+    let e = edges-room (start .pre .0 .0) _ _ _ _ _ _ _ _ (start .pre .0 .1) in (
+      (u .1, u .0, w .1, omega (arith, w .0, marks-long (c .before .before .before .before .before .before)), w .0, omega (arith, e .1, ends-long start .0), omega (arith, e .1, ends-long start .1), e .1),
+      (ends-named (start .pre .0 .0) _ _ _ _ _ _ _ _ (start .pre .0 .1), w .2),
     )
 
 put-halves-requires : tie.Need-put-halves-requires
@@ -42,32 +41,18 @@ put-halves-requires c κs = let s = c .before .before .before .before .before .b
     )
 
 returns : tie.Need-returns
-returns c = λ p l its. let s = c .before .before .before .before .before .before .before .before .before .before .before .before .before .before .before .before .before .before in
-    let q = s .pre .1 in
-    cut-refused p _ _ _ _ _ _ _ _ l (s .args .n) (s .args .e .0) (s .args .v .0) (s .args .at) (q .0, q .1, q .2) (c .before .before .before .before .before .before .before .before .before .before .mark-wires .result) (c .before .before .before .before .before .before .before .before .before .before .mark-wires .ensures p (l .listed)) (s .args .curve) its (c .before .before .before .before .cut-curve .result) (c .before .before .before .before .cut-curve .ensures .0) (c .before .before .before .judge-cut .result) (c .before .before .before .judge-cut .ensures) (c .before .before .before .before .cut-curve .ensures .1) _ _ _ _ _ (c .before .judged .given .1)
+returns c =
+    let pre = c .before .before .before .before .before .before .before .before .before .before .before .before .before .before .before .before .before .before .pre in
+    let cut-curve = c .before .before .before .before .cut-curve in
+    λ p l its. cut-refused p _ _ _ _ _ _ _ _ l _ _ _ _ (pre .1 .0, pre .1 .1, pre .1 .2) _ (c .before .before .before .before .before .before .before .before .before .before .mark-wires .ensures p (l .listed)) _ its _ (cut-curve .ensures .0) _ (c .before .before .before .judge-cut .ensures) (cut-curve .ensures .1) _ _ _ _ _ (c .before .judged .given .1)
 
 returns-2 : tie.Need-returns-2
-returns-2 c = λ p l its. let s = c .before .before .before .before .before .before .before .before .before .before .before .before .before .before .before .before .before .before .before .before .before .before .before .before .before .before .before .before in
-    let q = s .pre .1 in
-    let made = c .before .before .before .before .put-halves .ensures in
-    cut-made p _ _ _ _ _ _ _ _ l (s .args .n) (s .args .e .0) (s .args .v .0) (s .args .at) (q .0, q .1, q .2) (c .before .before .before .before .before .before .before .before .before .before .before .before .before .before .before .before .before .before .before .before .mark-wires .result) (c .before .before .before .before .before .before .before .before .before .before .before .before .before .before .before .before .before .before .before .before .mark-wires .ensures p (l .listed)) (s .args .curve) its (c .before .before .before .before .before .before .before .before .before .before .before .before .before .before .cut-curve .result) (c .before .before .before .before .before .before .before .before .before .before .before .before .before .before .cut-curve .ensures .0) (c .before .before .before .before .before .before .before .before .before .before .before .before .before .judge-cut .result) (c .before .before .before .before .before .before .before .before .before .before .before .before .before .judge-cut .ensures) (c .before .before .before .before .before .before .before .before .before .before .before .before .before .before .cut-curve .ensures .1) _ _ _ _ _ _ _ (c .before .before .before .before .before .before .before .before .before .before .before .judged2 .given .1) (made .0) (made .1 .0) (made .1 .1)
+returns-2 c =
+    let pre = c .before .before .before .before .before .before .before .before .before .before .before .before .before .before .before .before .before .before .before .before .before .before .before .before .before .before .before .before .pre in
+    let cut-curve = c .before .before .before .before .before .before .before .before .before .before .before .before .before .before .cut-curve in
+    let put-halves = c .before .before .before .before .put-halves in
+    λ p l its. cut-made p _ _ _ _ _ _ _ _ l _ _ _ _ (pre .1 .0, pre .1 .1, pre .1 .2) _ (c .before .before .before .before .before .before .before .before .before .before .before .before .before .before .before .before .before .before .before .before .mark-wires .ensures p (l .listed)) _ its _ (cut-curve .ensures .0) _ (c .before .before .before .before .before .before .before .before .before .before .before .before .before .judge-cut .ensures) (cut-curve .ensures .1) _ _ _ _ _ _ _ (c .before .before .before .before .before .before .before .before .before .before .before .judged2 .given .1) (put-halves .ensures .0) (put-halves .ensures .1 .0) (put-halves .ensures .1 .1)
 
 pub cut-columns-spec : {M : Type 1} → statement M
-cut-columns-spec =
-    tie.close
-    (tie.spec
-    (λ c κs. search needs)
-    (λ c. search needs)
-    (λ c. search needs)
-    (λ c. search needs)
-    (λ c. search needs)
-    (λ c. search needs)
-    (λ c κs. search needs)
-    judge-cut-requires
-    (λ c. search needs)
-    (λ c. search needs)
-    put-halves-requires
-    returns
-    (λ c. search needs)
-    (λ c. search needs)
-    returns-2)
+cut-columns-spec = tie.close (tie.spec (λ c κs. search needs) (search needs) (search needs) (search needs) (search needs) (search needs)
+    (search needs) judge-cut-requires (search needs) (search needs) put-halves-requires returns (search needs) (search needs) returns-2)

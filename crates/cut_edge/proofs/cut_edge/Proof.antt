@@ -35,15 +35,15 @@ seven s = search needs
 
 -- the reading checks are passed
 good : (c : tie.After-enum-told) → Fine (c .before .before .before .args .t1)
-good c = fine (c .before .before .before .args .t1) (accepted-none (patternFaults (c .before .before .before .args .t1)) (sym (c .before .before .check .ensures) ∙ c .enum-told .given .1)) (seven (c .before .before .before)) (full (c .before .before .before))
+good c = fine _ (accepted-none (patternFaults _) (sym (c .before .before .check .ensures) ∙ c .enum-told .given .1)) (seven (c .before .before .before)) (full (c .before .before .before))
 
 returns : tie.Need-returns
 returns c = let a = c .before .before .before .before .args in
     let h = sym (c .before .before .before .check .ensures) ∙ c .before .checked .given .1 in
     let es = cutFaults (content (a .t1)) (a .n) (a .e .0) (a .v .0) (a .at) in (
-      judged-refused Refused Not (Cut (nextEdge (a .t1) 0) (nextEdge (a .t1) 1)) (patternFaults (a .t1)) es _ h,
+      judged-refused Refused Not (Cut (nextEdge (a .t1) 0) (nextEdge (a .t1) 1)) (patternFaults _) es _ h,
       (
-        judged-refused (λ (f : Refusal). a .t1) (λ (x : EditError). a .t1) (storedIn (a .t1) (cutContent (content (a .t1)) (a .n) (a .e .0) (a .v .0) (a .at))) (patternFaults (a .t1)) es _ h,
+        judged-refused (λ (f : Refusal). a .t1) (λ (x : EditError). a .t1) (storedIn (a .t1) (cutContent (content (a .t1)) (a .n) (a .e .0) (a .v .0) (a .at))) (patternFaults _) es _ h,
         λ ok. ok,
       ),
     )
@@ -63,17 +63,5 @@ cut-named-requires c κs = let a = c .before .before .before .before .before .be
     (good (c .before .before .before .before .before) .ok, names (a .t1) (good (c .before .before .before .before .before)) (a .n) (a .e .0) (a .v .0) (a .at) (sym (c .before .all-named .ensures) ∙ not-false _ (c .if1 .left)))
 
 pub cut-edge-spec : {M : Type 1} → statement M
-cut-edge-spec =
-    tie.close
-    (tie.spec
-    (λ c κs. search needs)
-    (λ c. search needs)
-    returns
-    (λ c. search needs)
-    (λ c. search needs)
-    (λ c. search needs)
-    (λ c. search needs)
-    (λ c κs. search needs)
-    returns-2
-    cut-named-requires
-    (λ c. search needs))
+cut-edge-spec = tie.close (tie.spec (search needs) (search needs) returns (search needs) (search needs) (search needs) (search needs)
+    (search needs) returns-2 cut-named-requires (λ c. search needs))

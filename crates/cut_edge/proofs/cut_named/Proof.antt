@@ -43,7 +43,7 @@ good s = fine (s .args .t1) (s .pre .0) (seven s) (full s)
 
 -- the edge that is read
 edge-is : (c : tie.After-index) → getD (c .before .before .before .before .before .args .t1 .edges) (c .index .result) noEdge ≡ edgeAt (content (c .before .before .before .before .before .args .t1)) (c .before .before .before .before .before .args .e .0)
-edge-is c = rw (c .index .ensures .0) (sym (edge-at (c .before .before .before .before .before .args .t1) (good (c .before .before .before .before .before)) (c .before .before .before .before .before .args .e .0) (c .before .before .before .before .before .pre .1 .1)))
+edge-is c = rw (c .index .ensures .0) (sym (edge-at (c .before .before .before .before .before .args .t1) (good (c .before .before .before .before .before)) _ (c .before .before .before .before .before .pre .1 .1)))
 
 curve-is : (c : tie.After-index) → getD (c .before .before .before .before .before .args .t1 .edges) (c .index .result) noEdge .curve ≡ edgeAt (content (c .before .before .before .before .before .args .t1)) (c .before .before .before .before .before .args .e .0) .curve
 curve-is c = ap (λ (d : Edge). d .curve) (edge-is c)
@@ -66,7 +66,7 @@ lent c = record {
 }
 
 here : (c : tie.After-backs-of) → (ltb (c .before .before .before .before .before .before .before .before .before .before .before .args .n) (getD (c .before .before .before .before .before .before .before .before .before .before .before .args .t1 .counts) 5 0) && ltb (c .before .before .before .before .before .before .before .before .before .before .before .args .e .0) (getD (c .before .before .before .before .before .before .before .before .before .before .before .args .t1 .counts) 1 0) && ltb (c .before .before .before .before .before .before .before .before .before .before .before .args .v .0) (getD (c .before .before .before .before .before .before .before .before .before .before .before .args .t1 .counts) 0 0)) ≡ true
-here c = all-here (c .before .before .before .before .before .before .before .before .before .before .before .args .t1) _ _ _ _ _ _ _ _ (lent c) (c .before .before .before .before .before .before .before .before .before .before .before .args .n) (c .before .before .before .before .before .before .before .before .before .before .before .args .e .0) (c .before .before .before .before .before .before .before .before .before .before .before .args .v .0) (c .before .before .before .before .before .before .before .before .before .before .before .args .at) (c .before .before .before .before .before .before .before .before .before .before .before .pre .1)
+here c = all-here _ _ _ _ _ _ _ _ _ (lent c) _ _ _ (c .before .before .before .before .before .before .before .before .before .before .before .args .at) (c .before .before .before .before .before .before .before .before .before .before .before .pre .1)
 
 element-copy-out-d : tie.Need-element-copy-out-d
 element-copy-out-d c = omega (arith, c .index .ensures .0, c .before .before .before .before .before .pre .1 .1, good (c .before .before .before .before .before) .limits .edges)
@@ -111,24 +111,6 @@ returns-2 c = let s = c .before .before .before .before .before .before .before 
     )
 
 pub cut-named-spec : {M : Type 1} → statement M
-cut-named-spec =
-    tie.close
-    (tie.spec
-    (λ c κs. search needs)
-    (λ c κs. search needs)
-    (λ c. search needs)
-    element-copy-out-d
-    (λ c κs. search needs)
-    (λ c κs. search needs)
-    (λ c. search needs)
-    (λ c. search needs)
-    (λ c. search needs)
-    cut-columns-requires
-    (λ c. search needs)
-    (λ c. search needs)
-    store-cut-requires
-    (λ c. search needs)
-    cast-a
-    add-t57
-    returns
-    returns-2)
+cut-named-spec = tie.close (tie.spec (search needs) (search needs) (search needs) element-copy-out-d (search needs) (search needs)
+    (search needs) (search needs) (search needs) cut-columns-requires (search needs) (search needs) store-cut-requires (search needs)
+    cast-a add-t57 returns returns-2)

@@ -10,39 +10,15 @@ ends-long : (s : tie.Start) → (length (s .args .t2) ≡ 1024) × (length (s .a
 ends-long s = (search needs, search needs)
 
 put-first-requires : tie.Need-put-first-requires
-put-first-requires c κs = let s = c .before .before .before .before .before .before .before .before .before .before in
-    let a = s .args in
-    let q = s .pre in
-    let new = new-named (a .t2) (a .t3) (getD (a .t1) 1 0) (a .e .0) (a .v .0) (q .1 .0 .0) (q .1 .0 .1) (ends-long s .0) (ends-long s .1) _ (q .1 .1 .0) in
-    let halved = new-halved (a .t2) (a .t3) (getD (a .t1) 1 0) (a .e .0) (a .v .0) (q .1 .0 .0) (q .1 .0 .1) (ends-long s .0) (ends-long s .1) (q .1 .0 .2) (q .1 .0 .3) (q .1 .0 .4) in
-    (q .0, (rw (c .before .before .before .before .index .ensures .0) new, (rw (c .before .before .before .before .index .ensures .0) halved, q .1 .1 .1)))
+put-first-requires c κs =
+    let start = c .before .before .before .before .before .before .before .before .before .before in
+    let index = c .before .before .before .before .index in
+    let new = new-named (start .args .t2) (start .args .t3) (getD (start .args .t1) 1 0) (start .args .e .0) (start .args .v .0) (start .pre .1 .0 .0) (start .pre .1 .0 .1) (ends-long start .0) (ends-long start .1) _ (start .pre .1 .1 .0) in
+    let halved = new-halved (start .args .t2) (start .args .t3) (getD (start .args .t1) 1 0) (start .args .e .0) (start .args .v .0) (start .pre .1 .0 .0) (start .pre .1 .0 .1) (ends-long start .0) (ends-long start .1) (start .pre .1 .0 .2) (start .pre .1 .0 .3) (start .pre .1 .0 .4) in
+    (start .pre .0, (rw (index .ensures .0) new, (rw (index .ensures .0) halved, start .pre .1 .1 .1)))
 
 pub put-halves-spec : {M : Type 1} → statement M
-put-halves-spec =
-    tie.close
-    (tie.spec
-    (λ c. search needs)
-    (λ c κs. search needs)
-    (λ c. search needs)
-    (λ c. search needs)
-    (λ c. search needs)
-    (λ c. search needs)
-    (λ c. search needs)
-    (λ c. search needs)
-    (λ c. search needs)
-    (λ c. search needs)
-    (λ c. search needs)
-    (λ c. search needs)
-    (λ c. search needs)
-    (λ c. search needs)
-    (λ c. search needs)
-    (λ c. search needs)
-    (λ c. search needs)
-    (λ c. search needs)
-    (λ c. search needs)
-    (λ c. search needs)
-    (λ c. search needs)
-    put-first-requires
-    (λ c. search needs)
-    (λ c. search needs)
-    (λ c. search needs))
+put-halves-spec = tie.close (tie.spec (search needs) (search needs) (search needs) (search needs) (search needs) (search needs)
+    (search needs) (search needs) (search needs) (search needs) (search needs) (search needs) (search needs) (search needs) (search needs)
+    (search needs) (search needs) (search needs) (search needs) (λ c. search needs) (λ c. search needs) put-first-requires (search needs)
+    (search needs) (λ c. search needs))

@@ -7,18 +7,5 @@ returns : tie.Need-returns
 returns c = rw (c .before .new-unchecked .ensures, c .new-unchecked2 .ensures)
 
 pub store-cut-spec : {M : Type 1} → statement M
-store-cut-spec =
-    tie.close
-    (tie.spec
-    (λ c. search needs)
-    (λ c κs. search needs)
-    (λ c. search needs)
-    (λ c. search needs)
-    (λ c κs. search needs)
-    (λ c. search needs)
-    (λ c. search needs)
-    (λ c. search needs)
-    (λ c. search needs)
-    (λ c. search needs)
-    (λ c. search needs)
-    returns)
+store-cut-spec = tie.close (tie.spec (search needs) (search needs) (search needs) (search needs) (search needs) (search needs)
+    (search needs) (search needs) (search needs) (search needs) (search needs) returns)

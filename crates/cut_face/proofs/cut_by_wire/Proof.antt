@@ -8,22 +8,12 @@ use Rattle.cut_face.proofs.cut_by_wire.Statement.{statement}
 use Rattle.cut_face.proofs.cut_by_wire.Tie as tie
 
 cut-checked-requires : tie.Need-cut-checked-requires
-cut-checked-requires c κs = accepted-none (patternFaults (c .before .before .before .before .before .before .before .before .args .p)) (sym (c .before .before .before .before .check .ensures) ∙ c .before .before .enum-told .given .1)
+cut-checked-requires c κs = accepted-none (patternFaults _) (sym (c .before .before .before .before .check .ensures) ∙ c .before .before .enum-told .given .1)
 
 returns : tie.Need-returns
 returns c =
-    let s = c .before .before .before .before .before .before .before in
-    unread (s .args .p) (s .args .f) (s .args .wire .now) (s .args .uses .now) (s .args .lens .now) _ (sym (c .before .before .before .check .ensures) ∙ c .before .checked .given .1)
+    unread _ _ _ _ _ _ (sym (c .before .before .before .check .ensures) ∙ c .before .checked .given .1)
 
 pub cut-by-wire-spec : {M : Type 1} → statement M
-cut-by-wire-spec =
-    tie.close
-    (tie.spec
-    (λ c κs. search needs)
-    (λ c. search needs)
-    (λ c. search needs)
-    cut-checked-requires
-    returns
-    (λ c. search needs)
-    (λ c. search needs)
-    (λ c. search needs))
+cut-by-wire-spec = tie.close (tie.spec (search needs) (search needs) (search needs) cut-checked-requires returns (search needs)
+    (search needs) (λ c. search needs))

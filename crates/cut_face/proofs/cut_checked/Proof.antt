@@ -7,7 +7,8 @@ use lib.ListN.{getD, length, length-map}
 use borrow.Author.Needs.{needs}
 use borrow.Author.Tests.{not-false, not-true}
 use Rattle.cut_face.proofs.Top.{cut-asks, many-wires, no-face, no-uses, not-one, all-named, part-asks, part-is, top-cut, unnamed}
-use Rattle.face_parts.specs.Parts.{nameEdges, partIn}
+use Rattle.face_edits.specs.FaceEdits.{nameEdges}
+use Rattle.face_parts.specs.Parts.{partIn}
 use Rattle.face_parts.specs.declared.FacePart.{FacePart}
 use Rattle.pattern.proofs.Counts.{Full}
 use Rattle.shell.specs.Shells.{faceNumber}
@@ -44,52 +45,38 @@ named c = sym (c .before .are-uses .ensures) ∙ not-false _ (c .if2 .left)
 
 -- its part
 part : (c : tie.After-face-part) → let s = c .before .before .before .before .before .before .before .before .before .before .before .before .before .before .before .before .before in c .face-part .result ≡ partIn (s .args .t1) (s .args .f)
-part c = let s = c .before .before .before .before .before .before .before .before .before .before .before .before .before .before .before .before .before in part-is (s .args .t1) (good s) (s .args .f) (here (c .before .before .before .before .before .before .before .before .before .before)) _ (c .before .before .before .before .before .before .before .face-columns .ensures) _ (c .before .before .before .before .before .before .before .before .before .before .before .index .ensures .0) _ (c .face-part .ensures)
+part c = part-is _ (good (c .before .before .before .before .before .before .before .before .before .before .before .before .before .before .before .before .before)) _ (here (c .before .before .before .before .before .before .before .before .before .before)) _ (c .before .before .before .before .before .before .before .face-columns .ensures) _ (c .before .before .before .before .before .before .before .before .before .before .before .index .ensures .0) _ (c .face-part .ensures)
 
 returns : tie.Need-returns
 returns c =
-    let s = c .before .before .before .before .before .before .before in
-    unnamed (s .args .t1) (s .args .f) (s .args .wire .now) (s .args .uses .now) (s .args .lens .now) (s .pre) (no-face (s .args .t1) (good s) (s .args .f) (s .args .wire .now) (omega (arith, c .before .index .ensures .0)))
+    let start = c .before .before .before .before .before .before .before in
+    unnamed _ _ _ _ _ (start .pre) (no-face _ (good start) _ _ (omega (arith, c .before .index .ensures .0)))
 
 returns-2 : tie.Need-returns-2
 returns-2 c =
-    let s = c .before .before .before .before .before .before .before .before .before in
-    unnamed (s .args .t1) (s .args .f) (s .args .wire .now) (s .args .uses .now) (s .args .lens .now) (s .pre) (no-uses (s .args .t1) (good s) (s .args .f) (s .args .wire .now) (here (c .before .before)) (sym (c .before .are-uses .ensures) ∙ not-true _ (c .if2 .taken)))
+    let start = c .before .before .before .before .before .before .before .before .before in
+    unnamed _ _ _ _ _ (start .pre) (no-uses _ (good start) _ _ (here (c .before .before)) (sym (c .before .are-uses .ensures) ∙ not-true _ (c .if2 .taken)))
 
 face-part-requires : tie.Need-face-part-requires
 face-part-requires c κs =
-    let s = c .before .before .before .before .before .before .before .before .before .before .before .before .before .before .before .before in
-    part-asks (s .args .t1) (good s) (s .args .f) (here (c .before .before .before .before .before .before .before .before .before)) _ (c .before .before .before .before .before .before .face-columns .ensures) _ (c .before .before .before .before .before .before .before .before .before .before .index .ensures .0)
+    part-asks _ (good (c .before .before .before .before .before .before .before .before .before .before .before .before .before .before .before .before)) _ (here (c .before .before .before .before .before .before .before .before .before)) _ (c .before .before .before .before .before .before .face-columns .ensures) _ (c .before .before .before .before .before .before .before .before .before .before .index .ensures .0)
 
 returns-3 : tie.Need-returns-3
 returns-3 c =
-    let s = c .before .before .before .before .before .before .before .before .before .before .before .before .before .before .before .before .before .before .before in
-    not-one (s .args .t1) (s .args .f) (s .args .wire .now) (s .args .uses .now) (s .args .lens .now) (s .pre) (all-named (s .args .t1) (good s) (s .args .f) (s .args .wire .now) (here (c .before .before .before .before .before .before .before .before .before .before .before .before)) (named (c .before .before .before .before .before .before .before .before .before .before))) (many-wires (s .args .t1) (good s) (s .args .f) (s .args .wire .now) (here (c .before .before .before .before .before .before .before .before .before .before .before .before)) (λ e. c .if3 .taken (ap (λ (r : FacePart). r .wires) (part (c .before .before)) ∙ e)))
+    let start = c .before .before .before .before .before .before .before .before .before .before .before .before .before .before .before .before .before .before .before in
+    let place = c .before .before .before .before .before .before .before .before .before .before .before .before in
+    not-one _ _ _ _ _ (start .pre) (all-named _ (good start) _ _ (here place) (named (c .before .before .before .before .before .before .before .before .before .before))) (many-wires _ (good start) _ (start .args .wire .now) (here place) (λ e. c .if3 .taken (ap (λ (r : FacePart). r .wires) (part (c .before .before)) ∙ e)))
 
 cut-part-requires : tie.Need-cut-part-requires
 cut-part-requires c κs =
-    let s = c .before .before .before .before .before .before .before .before .before .before .before .before .before .before .before .before .before .before .before .before .before .before .before .before .before .before .before .before .before in
-    cut-asks (s .args .t1) (good s) (s .args .f) (here (c .before .before .before .before .before .before .before .before .before .before .before .before .before .before .before .before .before .before .before .before .before .before)) _ (c .before .before .before .before .before .before .before .before .before .before .before .before .before .before .before .before .before .before .before .face-columns .ensures) _ (part (c .before .before .before .before .before .before .before .before .before .before .before .before)) (s .args .wire .now) (named (c .before .before .before .before .before .before .before .before .before .before .before .before .before .before .before .before .before .before .before .before))
+    let start = c .before .before .before .before .before .before .before .before .before .before .before .before .before .before .before .before .before .before .before .before .before .before .before .before .before .before .before .before .before in
+    cut-asks _ (good start) (start .args .f) (here (c .before .before .before .before .before .before .before .before .before .before .before .before .before .before .before .before .before .before .before .before .before .before)) _ (c .before .before .before .before .before .before .before .before .before .before .before .before .before .before .before .before .before .before .before .face-columns .ensures) _ (part (c .before .before .before .before .before .before .before .before .before .before .before .before)) (start .args .wire .now) (named (c .before .before .before .before .before .before .before .before .before .before .before .before .before .before .before .before .before .before .before .before))
 
 returns-4 : tie.Need-returns-4
 returns-4 c =
-    let s = c .before .before .before .before .before .before .before .before .before .before .before .before .before .before .before .before .before .before .before .before .before .before .before .before .before .before .before .before .before .before .before .before .before .before in
-    top-cut (s .args .t1) (good s) (s .args .f) (here (c .before .before .before .before .before .before .before .before .before .before .before .before .before .before .before .before .before .before .before .before .before .before .before .before .before .before .before)) _ (c .before .before .before .before .before .before .before .before .before .before .before .before .before .before .before .before .before .before .before .before .before .before .before .before .face-columns .ensures) _ (part (c .before .before .before .before .before .before .before .before .before .before .before .before .before .before .before .before .before)) (s .args .wire .now) (named (c .before .before .before .before .before .before .before .before .before .before .before .before .before .before .before .before .before .before .before .before .before .before .before .before .before)) (c .before .before .before .before .before .before .before .before .before .before .before .before .before .before .before .if3 .left) (s .args .uses .now) (s .args .lens .now) _ _ _ (c .before .before .before .before .cut-part .ensures)
+    let start = c .before .before .before .before .before .before .before .before .before .before .before .before .before .before .before .before .before .before .before .before .before .before .before .before .before .before .before .before .before .before .before .before .before .before in
+    top-cut _ (good start) _ (here (c .before .before .before .before .before .before .before .before .before .before .before .before .before .before .before .before .before .before .before .before .before .before .before .before .before .before .before)) _ (c .before .before .before .before .before .before .before .before .before .before .before .before .before .before .before .before .before .before .before .before .before .before .before .before .face-columns .ensures) _ (part (c .before .before .before .before .before .before .before .before .before .before .before .before .before .before .before .before .before)) _ (named (c .before .before .before .before .before .before .before .before .before .before .before .before .before .before .before .before .before .before .before .before .before .before .before .before .before)) (c .before .before .before .before .before .before .before .before .before .before .before .before .before .before .before .if3 .left) (start .args .uses .now) (start .args .lens .now) _ _ _ (c .before .before .before .before .cut-part .ensures)
 
 pub cut-checked-spec : {M : Type 1} → statement M
-cut-checked-spec =
-    tie.close
-    (tie.spec
-    (λ c. search needs)
-    (λ c. search needs)
-    (λ c κs. search needs)
-    returns
-    (λ c κs. search needs)
-    returns-2
-    (λ c κs. search needs)
-    face-part-requires
-    returns-3
-    cut-part-requires
-    (λ c. search needs)
-    (λ c. search needs)
-    returns-4)
+cut-checked-spec = tie.close (tie.spec (search needs) (search needs) (search needs) returns (search needs) returns-2 (search needs)
+    face-part-requires returns-3 cut-part-requires (search needs) (search needs) returns-4)

@@ -16,8 +16,7 @@ abbrev μ-loop : tie.MeasureT-loop
 
 fits : (c : tie.After-index Inv-loop μ-loop) → c .before .before .before .loop .at + c .index .result ≤ length (c .before .before .before .before .before .before .before .args .uses .now)
 fits c =
-    let l = c .before .before .before .loop in
-    omega (arith, walk-fits (c .before .before .before .before .before .before .before .args .lens .now) (l .k) (l .at) (c .index .result) (l .inv .walk) (c .before .before .loop-test .taken) (c .index .ensures .0), c .before .before .before .before .before .before .before .pre .0)
+    omega (arith, walk-fits _ _ _ _ (c .before .before .before .loop .inv .walk) (c .before .before .loop-test .taken) (c .index .ensures .0), c .before .before .before .before .before .before .before .pre .0)
 
 loop-holds : tie.Need-loop-holds Inv-loop μ-loop
 loop-holds c = counting-start _ _ _ _
@@ -35,31 +34,12 @@ add-at : tie.Need-add-at Inv-loop μ-loop
 add-at c = omega (arith, fits (c .before .before .before))
 
 loop-again : tie.Need-loop-again Inv-loop μ-loop
-loop-again c = counting-next _ _ _ _ _ _ _ (c .before .before .before .before .before .before .loop .inv) (c .before .before .before .index .result) (c .wire-cuts .result) (c .before .before .before .before .before .loop-test .taken) (c .before .before .before .index .ensures .0) (c .wire-cuts .ensures .0)
+loop-again c = counting-next _ _ _ _ _ _ _ (c .before .before .before .before .before .before .loop .inv) _ _ (c .before .before .before .before .before .loop-test .taken) (c .before .before .before .index .ensures .0) (c .wire-cuts .ensures .0)
 
 returns : tie.Need-returns Inv-loop μ-loop
 returns c = (counting-all _ _ _ _ _ _ _ (c .before .loop .inv) (c .loop-test .left), omega (arith, c .before .loop .inv .low, c .before .loop .inv .walk .low, c .before .before .before .before .before .pre .3))
 
 pub count-cuts-spec : {M : Type 1} → statement M
-count-cuts-spec =
-    tie.close
-    (tie.spec
-    Inv-loop
-    μ-loop
-    loop-holds
-    (λ c. search needs)
-    (λ c. search needs)
-    (λ c κs. search needs)
-    add-wire-cuts
-    mul-wire-cuts
-    (λ c. search needs)
-    (λ c. search needs)
-    part-wire-cuts-end
-    (λ c. search needs)
-    (λ c κs. search needs)
-    (λ c. search needs)
-    add-at
-    (λ c. search needs)
-    (λ c. search needs)
-    loop-again
-    returns)
+count-cuts-spec = tie.close (tie.spec Inv-loop μ-loop loop-holds (search needs) (search needs) (search needs) add-wire-cuts mul-wire-cuts
+    (search needs) (search needs) part-wire-cuts-end (search needs) (search needs) (search needs) add-at (search needs) (search needs)
+    loop-again returns)

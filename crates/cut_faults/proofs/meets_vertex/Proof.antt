@@ -18,8 +18,7 @@ abbrev μ-loop : tie.MeasureT-loop
 
 fits : (c : tie.After-index Inv-loop μ-loop) → c .before .before .before .loop .at + c .index .result ≤ length (c .before .before .before .before .before .before .before .before .before .args .uses .now)
 fits c =
-    let l = c .before .before .before .loop in
-    omega (arith, walk-fits (c .before .before .before .before .before .before .before .before .before .args .lens .now) (l .k) (l .at) (c .index .result) (l .inv .walk) (c .before .before .loop-test .taken) (c .index .ensures .0), c .before .before .before .before .before .before .before .before .before .pre .1 .0)
+    omega (arith, walk-fits _ _ _ _ (c .before .before .before .loop .inv .walk) (c .before .before .loop-test .taken) (c .index .ensures .0), c .before .before .before .before .before .before .before .before .before .pre .1 .0)
 
 loop-holds : tie.Need-loop-holds Inv-loop μ-loop
 loop-holds c = seeking-start _ _ _ _ _
@@ -34,42 +33,22 @@ part-wire-meets-end : tie.Need-part-wire-meets-end Inv-loop μ-loop
 part-wire-meets-end c = omega (arith, fits c)
 
 wire-meets-requires : tie.Need-wire-meets-requires Inv-loop μ-loop
-wire-meets-requires c κs = let a = c .before .before .before .before .before .before .before .before .before .before .before .args in
-    let l = c .before .before .before .before .before .loop in
-    named-part (a .fronts .now) (a .backs .now) (a .uses .now) (c .before .before .before .before .before .before .before .before .before .before .before .pre .0) (l .at) (l .at + c .before .before .index .result - l .at)
+wire-meets-requires c κs = let loop = c .before .before .before .before .before .loop in
+    named-part _ _ _ (c .before .before .before .before .before .before .before .before .before .before .before .pre .0) (loop .at) (loop .at + c .before .before .index .result - loop .at)
 
 returns : tie.Need-returns Inv-loop μ-loop
-returns c = seeking-here _ _ _ _ _ _ _ (c .before .before .before .before .before .before .before .loop .inv) (c .before .before .before .before .index .result) (c .before .before .before .before .before .before .loop-test .taken) (c .before .before .before .before .index .ensures .0) (c .before .wire-meets .ensures) (c .if1 .taken)
+returns c = seeking-here _ _ _ _ _ _ _ (c .before .before .before .before .before .before .before .loop .inv) _ (c .before .before .before .before .before .before .loop-test .taken) (c .before .before .before .before .index .ensures .0) (c .before .wire-meets .ensures) (c .if1 .taken)
 
 add-at : tie.Need-add-at Inv-loop μ-loop
 add-at c = omega (arith, fits (c .before .before .before .before))
 
 loop-again : tie.Need-loop-again Inv-loop μ-loop
-loop-again c = seeking-next _ _ _ _ _ _ _ (c .before .before .before .before .before .before .before .loop .inv) (c .before .before .before .before .index .result) (c .before .before .before .before .before .before .loop-test .taken) (c .before .before .before .before .index .ensures .0) (c .before .wire-meets .ensures) (c .if1 .left)
+loop-again c = seeking-next _ _ _ _ _ _ _ (c .before .before .before .before .before .before .before .loop .inv) _ (c .before .before .before .before .before .before .loop-test .taken) (c .before .before .before .before .index .ensures .0) (c .before .wire-meets .ensures) (c .if1 .left)
 
 returns-2 : tie.Need-returns-2 Inv-loop μ-loop
 returns-2 c = seeking-none _ _ _ _ _ _ _ (c .before .loop .inv) (c .loop-test .left)
 
 pub meets-vertex-spec : {M : Type 1} → statement M
-meets-vertex-spec =
-    tie.close
-    (tie.spec
-    Inv-loop
-    μ-loop
-    loop-holds
-    (λ c. search needs)
-    (λ c. search needs)
-    (λ c κs. search needs)
-    add-wire-meets
-    mul-wire-meets
-    (λ c. search needs)
-    (λ c. search needs)
-    part-wire-meets-end
-    (λ c. search needs)
-    wire-meets-requires
-    returns
-    add-at
-    (λ c. search needs)
-    (λ c. search needs)
-    loop-again
-    returns-2)
+meets-vertex-spec = tie.close (tie.spec Inv-loop μ-loop loop-holds (search needs) (search needs) (search needs) add-wire-meets
+    mul-wire-meets (search needs) (search needs) part-wire-meets-end (search needs) wire-meets-requires returns add-at (search needs)
+    (search needs) loop-again returns-2)

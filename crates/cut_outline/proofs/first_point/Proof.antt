@@ -6,13 +6,12 @@ use Rattle.cut_outline.proofs.first_point.Statement.{statement}
 use Rattle.cut_outline.proofs.first_point.Tie as tie
 
 front-requires : tie.Need-front-requires
-front-requires c κs = rw (c .from-number .ensures) (named-edge _ _ _ (c .before .before .before .before .before .pre .1) 0 (c .before .before .before .before .before .pre .0))
+front-requires c κs = let pre = c .before .before .before .before .before .pre in rw (c .from-number .ensures) (named-edge _ _ _ (pre .1) 0 (pre .0))
 
 returns : tie.Need-returns
 returns c =
-    let s = c .before .before .before .before .before .before in
-    first-is (s .args .fronts .now) (s .args .backs .now) (s .args .wire .now) (s .pre .0) _ _ (c .before .from-number .ensures) (c .front .ensures)
+    let start = c .before .before .before .before .before .before in
+    first-is _ _ (start .args .wire .now) (start .pre .0) _ _ (c .before .from-number .ensures) (c .front .ensures)
 
 pub first-point-spec : {M : Type 1} → statement M
-first-point-spec =
-    tie.close (tie.spec (λ c. search needs) (λ c κs. search needs) front-requires returns)
+first-point-spec = tie.close (tie.spec (search needs) (search needs) front-requires returns)

@@ -10,21 +10,13 @@ use Rattle.cut_outline.proofs.last_point.Tie as tie
 
 back-requires : tie.Need-back-requires
 back-requires c κs =
-    let s = c .before .before .before .before .before in
-    rw (c .from-number .ensures) (named-edge _ _ _ (s .pre .1) (length (s .args .wire .now) - 1) (omega (arith, s .pre .0)))
+    let start = c .before .before .before .before .before in
+    rw (c .from-number .ensures) (named-edge _ _ _ (start .pre .1) (length (start .args .wire .now) - 1) (omega (arith, start .pre .0)))
 
 returns : tie.Need-returns
 returns c =
-    let s = c .before .before .before .before .before .before in
-    last-is (s .args .fronts .now) (s .args .backs .now) (s .args .wire .now) (s .pre .0) _ _ (c .before .from-number .ensures) (c .back .ensures)
+    let start = c .before .before .before .before .before .before in
+    last-is _ _ (start .args .wire .now) (start .pre .0) _ _ (c .before .from-number .ensures) (c .back .ensures)
 
 pub last-point-spec : {M : Type 1} → statement M
-last-point-spec =
-    tie.close
-    (tie.spec
-    (λ c. search needs)
-    (λ c. search needs)
-    (λ c. search needs)
-    (λ c κs. search needs)
-    back-requires
-    returns)
+last-point-spec = tie.close (tie.spec (search needs) (search needs) (search needs) (search needs) back-requires returns)

@@ -6,22 +6,8 @@ use Rattle.cut_outline.proofs.rotate_to.Tie as tie
 
 returns : tie.Need-returns
 returns c =
-    let s = c .before .before .before .before .before .before .before .before .before .before .before .before in
-    rotated-stored (s .args .outline .now) (s .args .out .now) (s .args .i) (s .pre .0) (c .before .before .before .before .before .before .before .put-uses .ensures) (c .before .before .put-uses2 .ensures)
+    rotated-stored _ _ _ (c .before .before .before .before .before .before .before .before .before .before .before .before .pre .0) (c .before .before .before .before .before .before .before .copy-u16s .ensures) (c .before .before .copy-u16s2 .ensures)
 
 pub rotate-to-spec : {M : Type 1} → statement M
-rotate-to-spec =
-    tie.close
-    (tie.spec
-    (λ c. search needs)
-    (λ c. search needs)
-    (λ c. search needs)
-    (λ c. search needs)
-    (λ c κs. search needs)
-    (λ c. search needs)
-    (λ c. search needs)
-    (λ c. search needs)
-    (λ c. search needs)
-    (λ c κs. search needs)
-    (λ c. search needs)
-    returns)
+rotate-to-spec = tie.close (tie.spec (search needs) (search needs) (search needs) (search needs) (search needs) (search needs)
+    (search needs) (search needs) (search needs) (search needs) (search needs) returns)

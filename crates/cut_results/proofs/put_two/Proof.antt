@@ -6,25 +6,8 @@ use Rattle.cut_results.proofs.put_two.Tie as tie
 
 returns : tie.Need-returns
 returns c =
-    let s = c .before .before .before .before .before .before .before .before .before .before .before .before .before .before .before .before .before .before .before .before .before in
-    two-stored (s .args .along .now) (s .args .wire .now) (s .args .out .now) (s .args .k) (s .pre .0) (c .before .before .before .before .before .before .before .before .before .before .before .before .before .before .put-uses .ensures) (c .before .before .before .before .before .before .before .before .before .before .put-uses2 .ensures) (c .before .before .before .before .before .before .put-uses3 .ensures) (c .before .before .put-turned .ensures)
+    two-stored _ _ _ _ (c .before .before .before .before .before .before .before .before .before .before .before .before .before .before .before .before .before .before .before .before .before .pre .0) (c .before .before .before .before .before .before .before .before .before .before .before .before .before .before .copy-u16s .ensures) (c .before .before .before .before .before .before .before .before .before .before .copy-u16s2 .ensures) (c .before .before .before .before .before .before .copy-u16s3 .ensures) (c .before .before .put-turned .ensures)
 
 pub put-two-spec : {M : Type 1} → statement M
-put-two-spec =
-    tie.close
-    (tie.spec
-    (λ c. search needs)
-    (λ c. search needs)
-    (λ c. search needs)
-    (λ c. search needs)
-    (λ c. search needs)
-    (λ c. search needs)
-    (λ c. search needs)
-    (λ c. search needs)
-    (λ c. search needs)
-    (λ c κs. search needs)
-    (λ c κs. search needs)
-    (λ c κs. search needs)
-    (λ c κs. search needs)
-    (λ c. search needs)
-    returns)
+put-two-spec = tie.close (tie.spec (search needs) (search needs) (search needs) (search needs) (search needs) (search needs) (search needs)
+    (search needs) (search needs) (search needs) (search needs) (search needs) (search needs) (search needs) returns)

@@ -6,7 +6,7 @@ use Rattle.wire.specs.Wires.{findFrom}
 use Rattle.cut_wires.proofs.find_flagged.Tie as tie
 
 returns : tie.Need-returns
-returns c = let a = c .before .before .before .args in found-flagged (a .flag) (findFrom 0 (a .e .0) (a .uses .now)) (c .before .if1 .taken) (c .find-use .ensures)
+returns c = found-flagged _ (findFrom 0 _ _) (c .before .if1 .taken) (c .find-use .ensures)
 
 pub find-flagged-spec : {M : Type 1} → statement M
-find-flagged-spec = tie.close (tie.spec (λ c κs. search needs) returns (λ c. search needs))
+find-flagged-spec = tie.close (tie.spec (search needs) returns (λ c. search needs))

@@ -5,10 +5,10 @@ use Rattle.cut_wires.proofs.halves_of.Statement.{statement}
 use Rattle.cut_wires.proofs.halves_of.Tie as tie
 
 returns : tie.Need-returns
-returns c = halves-reversed (c .before .args .a) (c .before .args .u) (c .before .pre) (c .if1 .taken)
+returns c = halves-reversed _ _ (c .before .pre) (c .if1 .taken)
 
 returns-2 : tie.Need-returns-2
-returns-2 c = halves-along (c .before .args .a) (c .before .args .u) (c .before .pre) (c .if1 .left)
+returns-2 c = halves-along _ _ (c .before .pre) (c .if1 .left)
 
 pub halves-of-spec : {M : Type 1} → statement M
-halves-of-spec = tie.close (tie.spec (λ c. search needs) (λ c. search needs) (λ c. search needs) returns returns-2)
+halves-of-spec = tie.close (tie.spec (search needs) (search needs) (search needs) returns returns-2)

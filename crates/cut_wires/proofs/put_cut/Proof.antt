@@ -19,12 +19,12 @@ abbrev μ-loop : tie.MeasureT-loop
 fits : (c : tie.After-index Inv-loop μ-loop) → c .before .before .before .loop .from + c .index .result ≤ length (c .before .before .before .before .before .before .before .before .before .before .before .args .uses .now)
 fits c =
     let l = c .before .before .before .loop in
-    omega (arith, walk-fits (c .before .before .before .before .before .before .before .before .before .before .before .args .lens .now) (l .k) (l .from) (c .index .result) (l .inv .walk) (c .before .before .loop-test .taken) (c .index .ensures .0), c .before .before .before .before .before .before .before .before .before .before .before .pre .1 .1 .0 .0)
+    omega (arith, walk-fits _ _ _ _ (l .inv .walk) (c .before .before .loop-test .taken) (c .index .ensures .0), c .before .before .before .before .before .before .before .before .before .before .before .pre .1 .1 .0 .0)
 
 -- there is room for the wire
 room : (c : tie.After-index Inv-loop μ-loop)
     → c .before .before .before .loop .at + length (cutFlagged (c .before .before .before .before .before .before .before .before .before .before .before .args .flags .now) (c .before .before .before .before .before .before .before .before .before .before .before .args .e .0) (c .before .before .before .before .before .before .before .before .before .before .before .args .a) (c .before .before .before .loop .k) (take (c .before .before .before .loop .from + c .index .result - c .before .before .before .loop .from) (drop (c .before .before .before .loop .from) (c .before .before .before .before .before .before .before .before .before .before .before .args .uses .now)))) ≤ length (c .before .before .before .loop .out)
-room c = putting-room _ _ _ (c .before .before .before .loop .inv) (c .index .result) (c .before .before .loop-test .taken) (c .index .ensures .0) (c .before .before .before .before .before .before .before .before .before .before .before .pre .1 .1 .1 .0)
+room c = putting-room _ _ _ (c .before .before .before .loop .inv) _ (c .before .before .loop-test .taken) (c .index .ensures .0) (c .before .before .before .before .before .before .before .before .before .before .before .pre .1 .1 .1 .0)
 
 loop-holds : tie.Need-loop-holds Inv-loop μ-loop
 loop-holds c = putting-start _ _ _ _ _
@@ -41,7 +41,7 @@ part-put-wire-end c = omega (arith, fits c)
 put-wire-requires : tie.Need-put-wire-requires Inv-loop μ-loop
 put-wire-requires c κs = let a = c .before .before .before .before .before .before .before .before .before .before .before .before .before .before .args in
     let l = c .before .before .before .before .before .before .loop in
-    (named-part (a .fronts .now) (a .backs .now) (a .uses .now) (c .before .before .before .before .before .before .before .before .before .before .before .before .before .before .pre .0) (l .from) (l .from + c .before .before .before .index .result - l .from), (c .before .before .before .before .before .before .before .before .before .before .before .before .before .before .pre .1 .0, room (c .before .before .before)))
+    (named-part _ _ _ (c .before .before .before .before .before .before .before .before .before .before .before .before .before .before .pre .0) (l .from) (l .from + c .before .before .before .index .result - l .from), (c .before .before .before .before .before .before .before .before .before .before .before .before .before .before .pre .1 .0, room (c .before .before .before)))
 
 cast-sizes : tie.Need-cast-sizes Inv-loop μ-loop
 cast-sizes c = omega (arith, room (c .before .before .before .before .before .before), c .before .before .put-wire .ensures .0, c .before .before .before .before .before .before .before .before .before .loop .inv .out-long, c .before .before .before .before .before .before .before .before .before .before .before .before .before .before .before .before .before .pre .1 .1 .1 .2)
@@ -53,36 +53,12 @@ add-at : tie.Need-add-at Inv-loop μ-loop
 add-at c = omega (arith, room (c .before .before .before .before .before .before), c .before .before .put-wire .ensures .0, c .before .before .before .before .before .before .before .before .before .loop .inv .out-long, c .before .before .before .before .before .before .before .before .before .before .before .before .before .before .before .before .before .pre .1 .1 .1 .2)
 
 loop-again : tie.Need-loop-again Inv-loop μ-loop
-loop-again c = putting-next _ _ _ (c .before .before .before .before .before .before .before .before .before .loop .inv) (c .before .before .before .before .before .before .index .result) (c .before .before .before .before .before .before .before .before .loop-test .taken) (c .before .before .before .before .before .before .index .ensures .0) (c .before .before .put-wire .result) _ (c .before .before .put-wire .ensures .0) (c .before .before .put-wire .ensures .1)
+loop-again c = putting-next _ _ _ (c .before .before .before .before .before .before .before .before .before .loop .inv) _ (c .before .before .before .before .before .before .before .before .loop-test .taken) (c .before .before .before .before .before .before .index .ensures .0) _ _ (c .before .before .put-wire .ensures .0) (c .before .before .put-wire .ensures .1)
 
 returns : tie.Need-returns Inv-loop μ-loop
 returns c = (putting-size _ _ _ (c .before .loop .inv) (c .loop-test .left), (putting-out _ _ _ (c .before .loop .inv) (c .loop-test .left), putting-lens _ _ _ (c .before .loop .inv) (c .loop-test .left)))
 
 pub put-cut-spec : {M : Type 1} → statement M
-put-cut-spec =
-    tie.close
-    (tie.spec
-    Inv-loop
-    μ-loop
-    loop-holds
-    (λ c. search needs)
-    (λ c. search needs)
-    (λ c κs. search needs)
-    add-put-wire
-    mul-put-wire
-    (λ c. search needs)
-    (λ c. search needs)
-    part-put-wire-end
-    (λ c. search needs)
-    put-wire-requires
-    cast-sizes
-    (λ c. search needs)
-    (λ c. search needs)
-    add-from
-    add-at
-    (λ c. search needs)
-    (λ c. search needs)
-    loop-again
-    (λ c. search needs)
-    (λ c. search needs)
-    returns)
+put-cut-spec = tie.close (tie.spec Inv-loop μ-loop loop-holds (search needs) (search needs) (search needs) add-put-wire mul-put-wire
+    (search needs) (search needs) part-put-wire-end (search needs) put-wire-requires cast-sizes (search needs) (search needs) add-from
+    add-at (search needs) (search needs) loop-again (search needs) (search needs) returns)

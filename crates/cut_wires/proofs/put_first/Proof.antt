@@ -18,16 +18,5 @@ returns : tie.Need-returns
 returns c = let a = c .before .before .before .before .before .before .before .before .before .before .before .before .before .before .before .before .args in rw (sub-zero (a .wcount), sub-zero (a .ucount)) at (c .before .before .before .before .put-cut .ensures)
 
 pub put-first-spec : {M : Type 1} → statement M
-put-first-spec =
-    tie.close
-    (tie.spec
-    (λ c. search needs)
-    (λ c. search needs)
-    (λ c. search needs)
-    (λ c. search needs)
-    (λ c. search needs)
-    (λ c. search needs)
-    put-cut-requires
-    (λ c. search needs)
-    (λ c. search needs)
-    returns)
+put-first-spec = tie.close (tie.spec (search needs) (search needs) (search needs) (search needs) (search needs) (search needs)
+    put-cut-requires (search needs) (search needs) returns)

@@ -30,7 +30,7 @@ put-last-returns : (t : ℕ) → put-last-lts.Need-returns (
   digit-byte-reads.Asked,
   digit-byte-reads.Learnt,
 ) (put-last-at t) put-last.Post
-put-last-returns t c = last-none (c .before .before .args .base) _ _ _ _ (c .if1 .taken)
+put-last-returns t c = last-none _ _ _ _ _ (c .if1 .taken)
 
 put-last-sub-put-last : (t : ℕ) → put-last-lts.Need-sub-put-last (
   put-last-below t,
@@ -110,7 +110,7 @@ put-last-returns-2 : (t : ℕ) → put-last-lts.Need-returns-2 (
   digit-byte-reads.Asked,
   digit-byte-reads.Learnt,
 ) (put-last-at t) put-last.Post
-put-last-returns-2 t c = last-next (c .before .before .before .before .before .before .before .args .base) _ (c .before .before .before .before .before .before .before .args .at) (c .before .before .before .before .before .before .before .args .d) (c .before .before .before .before .before .before .before .args .n) _ _ (c .before .before .before .before .before .if1 .left) (c .before .before .before .put-last .ensures) (c .digit-byte .ensures)
+put-last-returns-2 t c = last-next _ _ _ _ _ _ _ (c .before .before .before .before .before .if1 .left) (c .before .before .before .put-last .ensures) (c .digit-byte .ensures)
 
 pub +put-last-spec : {M : Type 1} → statement M
 +put-last-spec = close μ-put-last λ t. put-last-lts.spec (

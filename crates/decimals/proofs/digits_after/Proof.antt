@@ -19,13 +19,11 @@ loop-holds c = record { low = omega arith; same = refl; room = c .before .pre }
 
 returns : tie.Need-returns Inv-loop μ-loop
 returns c =
-    let l = c .before .before .before .loop in
-    parsing-stop tens _ _ _ _ _ (l .inv) (c .before .before .loop-test .taken) (under 48 _ 57 (c .if1 .taken))
+    parsing-stop tens _ _ _ _ _ (c .before .before .before .loop .inv) (c .before .before .loop-test .taken) (under 48 _ 57 (c .if1 .taken))
 
 returns-2 : tie.Need-returns-2 Inv-loop μ-loop
 returns-2 c =
-    let l = c .before .before .before .before .loop in
-    parsing-stop tens _ _ _ _ _ (l .inv) (c .before .before .before .loop-test .taken) (over 48 _ 57 (c .if2 .taken))
+    parsing-stop tens _ _ _ _ _ (c .before .before .before .before .loop .inv) (c .before .before .before .loop-test .taken) (over 48 _ 57 (c .if2 .taken))
 
 mul-m : tie.Need-mul-m Inv-loop μ-loop
 mul-m c = omega (arith, parsing-room tens _ _ _ _ _ (c .before .before .before .before .loop .inv) (c .before .before .before .loop-test .taken))
@@ -35,27 +33,11 @@ add-m c = omega (arith, parsing-room tens _ _ _ _ _ (c .before .before .before .
 
 loop-again : tie.Need-loop-again Inv-loop μ-loop
 loop-again c =
-    let l = c .before .before .before .before .before .loop in
-    rw (c .wide .ensures .0) (parsing-next tens _ _ _ _ _ (l .inv) (c .before .before .before .before .loop-test .taken) (inside 48 _ 57 (c .before .before .if1 .left) (c .before .if2 .left)))
+    rw (c .wide .ensures .0) (parsing-next tens _ _ _ _ _ (c .before .before .before .before .before .loop .inv) (c .before .before .before .before .loop-test .taken) (inside 48 _ 57 (c .before .before .if1 .left) (c .before .if2 .left)))
 
 returns-3 : tie.Need-returns-3 Inv-loop μ-loop
 returns-3 c = parsing-all tens _ _ _ _ _ (c .before .loop .inv) (omega arith)
 
 pub digits-after-spec : {M : Type 1} → statement M
-digits-after-spec =
-    tie.close
-    (tie.spec
-    Inv-loop
-    μ-loop
-    loop-holds
-    (λ c. search needs)
-    returns
-    returns-2
-    mul-m
-    (λ c κs. search needs)
-    (λ c. search needs)
-    add-m
-    (λ c. search needs)
-    (λ c. search needs)
-    loop-again
-    returns-3)
+digits-after-spec = tie.close (tie.spec Inv-loop μ-loop loop-holds (search needs) returns returns-2 mul-m (search needs) (search needs)
+    add-m (search needs) (search needs) loop-again returns-3)

@@ -28,16 +28,5 @@ returns-7 : tie.Need-returns-7
 returns-7 c = (is-none (c .before .before .before .before .before .before .before .args .b) (inr (inr (inr (omega arith)))), omega arith)
 
 pub hex-digit-spec : {M : Type 1} → statement M
-hex-digit-spec =
-    tie.close
-    (tie.spec
-    (λ c κs. search needs)
-    returns
-    returns-2
-    returns-3
-    (λ c. search needs)
-    returns-4
-    returns-5
-    (λ c. search needs)
-    returns-6
+hex-digit-spec = tie.close (tie.spec (search needs) returns returns-2 returns-3 (search needs) returns-4 returns-5 (search needs) returns-6
     returns-7)

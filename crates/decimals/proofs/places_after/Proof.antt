@@ -10,25 +10,15 @@ use Rattle.decimals.proofs.places_after.Tie as tie
 
 nearest-bits-requires : tie.Need-nearest-bits-requires
 nearest-bits-requires c κs =
-    let a = c .before .before .before .before .before .args in
-    (omega (arith, token-bound tens (a .n) (a .word .now) _ (sym (c .before .all .given .1) ∙ c .before .before .before .digits-after .ensures)), omega arith)
+    (omega (arith, token-bound tens _ _ _ (sym (c .before .all .given .1) ∙ c .before .before .before .digits-after .ensures)), omega arith)
 
 returns : tie.Need-returns
 returns c = behind-not _ _ _ _ (sym (c .enum-told .given .1) ∙ c .before .before .digits-after .ensures)
 
 returns-2 : tie.Need-returns-2
 returns-2 c =
-    let a = c .before .before .before .before .before .before .args in
     ap Value (c .nearest-bits .ensures)
-    ∙ behind-value (a .negative) (a .k) (a .n) (a .word .now) _ (sym (c .before .before .all .given .1) ∙ c .before .before .before .before .digits-after .ensures)
+    ∙ behind-value _ _ _ _ _ (sym (c .before .before .all .given .1) ∙ c .before .before .before .before .digits-after .ensures)
 
 pub places-after-spec : {M : Type 1} → statement M
-places-after-spec =
-    tie.close
-    (tie.spec
-    (λ c κs. search needs)
-    (λ c. search needs)
-    (λ c. search needs)
-    nearest-bits-requires
-    returns
-    returns-2)
+places-after-spec = tie.close (tie.spec (search needs) (search needs) (search needs) nearest-bits-requires returns returns-2)

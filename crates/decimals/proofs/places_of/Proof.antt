@@ -17,24 +17,13 @@ loop-holds : tie.Need-loop-holds Inv-loop μ-loop
 loop-holds c = (omega arith, refl)
 
 loop-again : tie.Need-loop-again Inv-loop μ-loop
-loop-again c = passed-next (c .before .before .before .before .args .bits) (c .before .before .before .loop .k) (c .before .before .before .loop .inv) (c .before .before .loop-test .taken) (sym (c .before .reads-back .ensures) ∙ c .if1 .left)
+loop-again c = passed-next _ _ (c .before .before .before .loop .inv) (c .before .before .loop-test .taken) (sym (c .before .reads-back .ensures) ∙ c .if1 .left)
 
 returns : tie.Need-returns Inv-loop μ-loop
-returns c = (passed-all (c .before .before .args .bits) (c .before .loop .k) (c .before .loop .inv) (omega arith), omega arith)
+returns c = (passed-all _ _ (c .before .loop .inv) (omega arith), omega arith)
 
 returns-2 : tie.Need-returns-2 Inv-loop μ-loop
-returns-2 c = (passed-here (c .before .before .before .before .args .bits) (c .before .before .before .loop .k) (c .before .before .before .loop .inv) (c .before .before .loop-test .taken) (sym (c .before .reads-back .ensures) ∙ c .if1 .taken), omega arith)
+returns-2 c = (passed-here _ _ (c .before .before .before .loop .inv) (c .before .before .loop-test .taken) (sym (c .before .reads-back .ensures) ∙ c .if1 .taken), omega arith)
 
 pub places-of-spec : {M : Type 1} → statement M
-places-of-spec =
-    tie.close
-    (tie.spec
-    Inv-loop
-    μ-loop
-    loop-holds
-    (λ c κs. search needs)
-    (λ c. search needs)
-    (λ c. search needs)
-    loop-again
-    returns
-    returns-2)
+places-of-spec = tie.close (tie.spec Inv-loop μ-loop loop-holds (search needs) (search needs) (search needs) loop-again returns returns-2)

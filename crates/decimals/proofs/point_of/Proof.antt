@@ -16,27 +16,16 @@ abbrev μ-loop : tie.MeasureT-loop
 μ-loop word i₀ i = length word - i
 
 loop-holds : tie.Need-loop-holds Inv-loop μ-loop
-loop-holds c = passed-start isPoint (c .args .word .now)
+loop-holds c = passed-start isPoint _
 
 loop-again : tie.Need-loop-again Inv-loop μ-loop
-loop-again c = passed-next isPoint (c .before .before .before .before .args .word .now) (c .before .before .before .loop .i) (c .before .before .before .loop .inv) (c .before .before .loop-test .taken) (ne-eqb _ 46 (c .if1 .left))
+loop-again c = passed-next isPoint _ _ (c .before .before .before .loop .inv) (c .before .before .loop-test .taken) (ne-eqb _ 46 (c .if1 .left))
 
 returns : tie.Need-returns Inv-loop μ-loop
-returns c = (passed-end isPoint (c .before .before .args .word .now) (c .before .loop .i) (c .before .loop .inv) (omega arith), omega arith)
+returns c = (passed-end isPoint _ _ (c .before .loop .inv) (omega arith), omega arith)
 
 returns-2 : tie.Need-returns-2 Inv-loop μ-loop
-returns-2 c = (passed-stop isPoint (c .before .before .before .before .args .word .now) (c .before .before .before .loop .i) (c .before .before .before .loop .inv) (c .before .before .loop-test .taken) (eq-eqb _ 46 (c .if1 .taken)), omega arith)
+returns-2 c = (passed-stop isPoint _ _ (c .before .before .before .loop .inv) (c .before .before .loop-test .taken) (eq-eqb _ 46 (c .if1 .taken)), omega arith)
 
 pub point-of-spec : {M : Type 1} → statement M
-point-of-spec =
-    tie.close
-    (tie.spec
-    Inv-loop
-    μ-loop
-    loop-holds
-    (λ c. search needs)
-    (λ c. search needs)
-    (λ c. search needs)
-    loop-again
-    returns
-    returns-2)
+point-of-spec = tie.close (tie.spec Inv-loop μ-loop loop-holds (search needs) (search needs) (search needs) loop-again returns returns-2)

@@ -12,4 +12,4 @@ unfolding ofInt
 returns c = c .nearest-u64-to-f64 .ensures ∙ ap (λ (n : ℕ). round binary64 false n 1) (c .before .ten-to .ensures .0)
 
 pub power-spec : {M : Type 1} → statement M
-power-spec = tie.close (tie.spec (λ c κs. search needs) (λ c κs. search needs) returns)
+power-spec = tie.close (tie.spec (search needs) (search needs) returns)

@@ -11,27 +11,18 @@ div-put-decimal c = omega (arith, ten-pos (c .before .before .before .before .be
 
 put-decimal-requires : tie.Need-put-decimal-requires
 put-decimal-requires c κs =
-    let a = c .before .before .before .before .before .before .before .args in
-    omega (arith, c .before .before .before .before .put-sign .kept .0, sign-short (a .negative), whole-short (a .m) (a .k) _ (c .ten-to .ensures .0) (omega arith) (omega arith))
+    let args = c .before .before .before .before .before .before .before .args in
+    omega (arith, c .before .before .before .before .put-sign .kept .0, sign-short (args .negative), whole-short (args .m) (args .k) _ (c .ten-to .ensures .0) (omega arith) (omega arith))
 
 put-places-requires : tie.Need-put-places-requires
 put-places-requires c κs =
-    let a = c .before .before .before .before .before .before .before .before .before .before .before .args in
-    omega (arith, c .before .before .before .put-decimal .kept .0, c .before .before .before .before .before .before .before .before .put-sign .kept .0, sign-short (a .negative), whole-short (a .m) (a .k) _ (c .before .before .before .before .ten-to .ensures .0) (omega arith) (omega arith))
+    let args = c .before .before .before .before .before .before .before .before .before .before .before .args in
+    omega (arith, c .before .before .before .put-decimal .kept .0, c .before .before .before .before .before .before .before .before .put-sign .kept .0, sign-short (args .negative), whole-short (args .m) (args .k) _ (c .before .before .before .before .ten-to .ensures .0) (omega arith) (omega arith))
 
 returns : tie.Need-returns
 returns c =
-    let a = c .before .before .before .before .before .before .before .before .before .before .before .before .before .before .args in
-    put-fraction (a .out .now) (a .at) (a .negative) (a .m) (a .k) _ (c .before .before .before .before .before .before .before .ten-to .ensures .0) _ _ _ _ _ _ (c .before .before .before .before .before .before .before .before .before .before .before .put-sign .ensures) (c .before .before .before .before .before .before .put-decimal .ensures) (c .before .before .put-places .ensures) (omega arith) (omega arith)
+    put-fraction _ _ _ _ _ _ (c .before .before .before .before .before .before .before .ten-to .ensures .0) _ _ _ _ _ _ (c .before .before .before .before .before .before .before .before .before .before .before .put-sign .ensures) (c .before .before .before .before .before .before .put-decimal .ensures) (c .before .before .put-places .ensures) (omega arith) (omega arith)
 
 pub put-fraction-spec : {M : Type 1} → statement M
-put-fraction-spec =
-    tie.close
-    (tie.spec
-    (λ c κs. search needs)
-    (λ c κs. search needs)
-    div-put-decimal
-    put-decimal-requires
-    put-places-requires
-    (λ c. search needs)
-    returns)
+put-fraction-spec = tie.close (tie.spec (search needs) (search needs) div-put-decimal put-decimal-requires put-places-requires
+    (search needs) returns)

@@ -7,16 +7,8 @@ use Rattle.decimals.proofs.put_hex.Tie as tie
 
 returns : tie.Need-returns
 returns c =
-    let p = put-hex (c .before .before .before .before .before .before .before .before .before .before .args .out .now) (c .before .before .before .before .before .before .before .before .before .before .args .at) (c .before .before .before .before .before .before .before .before .before .before .args .n) _ _ _ (c .before .before .before .before .before .before .put-text .ensures) (c .before .before .put-last .ensures) in
+    let p = put-hex _ _ _ _ _ _ (c .before .before .before .before .before .before .put-text .ensures) (c .before .before .put-last .ensures) in
     (p .0, p .1, omega arith)
 
 pub put-hex-spec : {M : Type 1} → statement M
-put-hex-spec =
-    tie.close
-    (tie.spec
-    (λ c. search needs)
-    (λ c κs. search needs)
-    (λ c κs. search needs)
-    (λ c. search needs)
-    (λ c. search needs)
-    returns)
+put-hex-spec = tie.close (tie.spec (search needs) (search needs) (search needs) (search needs) (search needs) returns)

@@ -8,26 +8,18 @@ use Rattle.decimals.proofs.put_places.Statement.{statement}
 use Rattle.decimals.proofs.put_places.Tie as tie
 
 returns : tie.Need-returns
-returns c = no-places (c .before .before .args .out .now) (c .before .before .args .at) (c .before .before .args .k) (c .before .before .args .m) (c .if1 .taken)
+returns c = no-places _ _ _ _ (c .if1 .taken)
 
 put-last-requires : tie.Need-put-last-requires
 put-last-requires c κs = simp length-set (omega arith)
 
 same-length : tie.Need-same-length
-same-length c = c .before .before .put-last .kept .0 ∙ length-set (c .before .before .before .before .before .before .args .out .now) (c .before .before .before .before .before .before .args .at) 46
+same-length c = let args = c .before .before .before .before .before .before .args in
+    c .before .before .put-last .kept .0 ∙ length-set (args .out .now) (args .at) 46
 
 returns-2 : tie.Need-returns-2
-returns-2 c = some-places (c .before .before .before .before .before .before .args .out .now) (c .before .before .before .before .before .before .args .at) (c .before .before .before .before .before .before .args .k) (c .before .before .before .before .before .before .args .m) (c .before .before .before .before .if1 .left) _ (c .before .before .put-last .ensures)
+returns-2 c = some-places _ _ _ _ (c .before .before .before .before .if1 .left) _ (c .before .before .put-last .ensures)
 
 pub put-places-spec : {M : Type 1} → statement M
-put-places-spec =
-    tie.close
-    (tie.spec
-    returns
-    (λ c. search needs)
-    (λ c. search needs)
-    put-last-requires
-    (λ c. search needs)
-    (λ c. search needs)
-    same-length
+put-places-spec = tie.close (tie.spec returns (search needs) (search needs) put-last-requires (search needs) (search needs) same-length
     returns-2)

@@ -7,29 +7,20 @@ use Rattle.decimals.proofs.put_real.Statement.{statement}
 use Rattle.decimals.proofs.put_real.Tie as tie
 
 returns : tie.Need-returns
-returns c = rw (hex-real (c .before .before .before .before .before .before .before .args .bits) _ (c .before .before .before .before .before .places-of .ensures .0) (omega arith)) at (c .before .before .put-hex .ensures)
+returns c = rw (hex-real _ _ (c .before .before .before .before .before .places-of .ensures .0) (omega arith)) at (c .before .before .put-hex .ensures)
 
 scaled-of-requires : tie.Need-scaled-of-requires
-scaled-of-requires c κs = (found (c .before .before .before .before .args .bits) _ (c .before .before .places-of .ensures .0) (omega arith) .small, omega arith)
+scaled-of-requires c κs = (found _ _ (c .before .before .places-of .ensures .0) (omega arith) .small, omega arith)
 
 put-fraction-requires : tie.Need-put-fraction-requires
 put-fraction-requires c κs =
-    let b = found (c .before .before .before .before .before .args .bits) (c .before .before .before .places-of .result) (c .before .before .before .places-of .ensures .0) (omega arith) in
+    let b = found _ _ (c .before .before .before .places-of .ensures .0) (omega arith) in
     (rw (c .scaled-of .ensures) (b .short), omega arith, omega arith)
 
 returns-2 : tie.Need-returns-2
 returns-2 c =
-    rw (c .before .before .before .scaled-of .ensures, decimal-real (c .before .before .before .before .before .before .before .before .args .bits) _ (c .before .before .before .before .before .before .places-of .ensures .0) (omega arith)) at (c .before .before .put-fraction .ensures)
+    rw (c .before .before .before .scaled-of .ensures, decimal-real _ _ (c .before .before .before .before .before .before .places-of .ensures .0) (omega arith)) at (c .before .before .put-fraction .ensures)
 
 pub put-real-spec : {M : Type 1} → statement M
-put-real-spec =
-    tie.close
-    (tie.spec
-    (λ c κs. search needs)
-    (λ c κs. search needs)
-    (λ c. search needs)
-    returns
-    scaled-of-requires
-    put-fraction-requires
-    (λ c. search needs)
-    returns-2)
+put-real-spec = tie.close (tie.spec (search needs) (search needs) (search needs) returns scaled-of-requires put-fraction-requires
+    (search needs) returns-2)

@@ -6,11 +6,10 @@ use Rattle.decimals.proofs.scaled_of.Statement.{statement}
 use Rattle.decimals.proofs.scaled_of.Tie as tie
 
 float-from-bits-whole-of : tie.Need-float-from-bits-whole-of
-float-from-bits-whole-of c = rw (no-nan (c .args .bits) (c .pre .0)) tt
+float-from-bits-whole-of c = rw (no-nan _ (c .pre .0)) tt
 
 returns : tie.Need-returns
-returns c = c .whole-of .ensures ∙ scaled-is (c .before .before .args .bits) (c .before .before .args .k) _ (c .before .power .ensures)
+returns c = c .whole-of .ensures ∙ scaled-is _ _ _ (c .before .power .ensures)
 
 pub scaled-of-spec : {M : Type 1} → statement M
-scaled-of-spec =
-    tie.close (tie.spec float-from-bits-whole-of (λ c κs. search needs) (λ c κs. search needs) returns)
+scaled-of-spec = tie.close (tie.spec float-from-bits-whole-of (search needs) (search needs) returns)

@@ -19,7 +19,7 @@ mul-n : tie.Need-mul-n Inv-loop μ-loop
 mul-n c = omega (arith, ten-most (c .before .loop .i) (omega arith))
 
 loop-again : tie.Need-loop-again Inv-loop μ-loop
-loop-again c = (omega arith, rw (add-one (c .before .loop .i), pow-suc 10 (c .before .loop .i), c .before .loop .inv .1))
+loop-again c = (omega arith, rw (add-one _, pow-suc 10 _, c .before .loop .inv .1))
 
 returns : tie.Need-returns Inv-loop μ-loop
 returns c =
@@ -27,5 +27,4 @@ returns c =
     (c .before .loop .inv .1 ∙ ap (λ (i : ℕ). 10 ^ i) e, omega (arith, ten-most (c .before .loop .i) (omega arith)))
 
 pub ten-to-spec : {M : Type 1} → statement M
-ten-to-spec =
-    tie.close (tie.spec Inv-loop μ-loop (λ c. search needs) mul-n (λ c. search needs) (λ c. search needs) loop-again returns)
+ten-to-spec = tie.close (tie.spec Inv-loop μ-loop (search needs) mul-n (search needs) (search needs) loop-again returns)

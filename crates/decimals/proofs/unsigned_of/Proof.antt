@@ -11,65 +11,46 @@ use Rattle.decimals.proofs.unsigned_of.Statement.{statement}
 use Rattle.decimals.proofs.unsigned_of.Tie as tie
 
 returns : tie.Need-returns
-returns c = none-before (c .before .before .before .args .negative) (c .before .before .before .args .word .now) _ (c .before .point-of .ensures .0) (c .if1 .taken)
+returns c = none-before _ _ _ (c .before .point-of .ensures .0) (c .if1 .taken)
 
 returns-2 : tie.Need-returns-2
-returns-2 c = too-long (c .before .before .before .before .args .negative) (c .before .before .before .before .args .word .now) _ (c .before .before .point-of .ensures .0) (c .if2 .taken)
+returns-2 c = too-long _ _ _ (c .before .before .point-of .ensures .0) (c .if2 .taken)
 
 returns-3 : tie.Need-returns-3
-returns-3 c = no-point-long (c .before .before .before .before .before .before .args .negative) (c .before .before .before .before .before .before .args .word .now) _ (c .before .before .before .before .point-of .ensures .0) (c .before .if3 .taken) (c .before .before .before .if1 .left) (omega arith)
+returns-3 c = no-point-long _ _ _ (c .before .before .before .before .point-of .ensures .0) (c .before .if3 .taken) (c .before .before .before .if1 .left) (omega arith)
 
 places-after-requires : tie.Need-places-after-requires
 places-after-requires c κs = (omega (arith, ten-most (length (c .before .before .before .before .before .before .args .word .now)) (omega arith)), omega arith)
 
 returns-4 : tie.Need-returns-4
-returns-4 c = c .places-after .ensures ∙ no-point-is (c .before .before .before .before .before .before .before .args .negative) (c .before .before .before .before .before .before .before .args .word .now) _ (c .before .before .before .before .before .point-of .ensures .0) (c .before .before .if3 .taken) (c .before .before .before .before .if1 .left) (c .before .if4 .left)
+returns-4 c = c .places-after .ensures ∙ no-point-is _ _ _ (c .before .before .before .before .before .point-of .ensures .0) (c .before .before .if3 .taken) (c .before .before .before .before .if1 .left) (c .before .if4 .left)
 
 returns-5 : tie.Need-returns-5
-returns-5 c = none-behind (c .before .before .before .before .before .before .args .negative) (c .before .before .before .before .before .before .args .word .now) _ (c .before .before .before .before .point-of .ensures .0) (omega arith) (c .before .before .before .if1 .left) (c .if5 .taken)
+returns-5 c = none-behind _ _ _ (c .before .before .before .before .point-of .ensures .0) (omega arith) (c .before .before .before .if1 .left) (c .if5 .taken)
 
 digits-after-requires : tie.Need-digits-after-requires
 digits-after-requires c κs =
-    let first = take (c .before .before .before .before .before .point-of .result - 0) (c .before .before .before .before .before .before .before .args .word .now) in
-    omega (arith, ten-most (length first) (omega (arith, length-take (c .before .before .before .before .before .point-of .result - 0) (c .before .before .before .before .before .before .before .args .word .now))))
+    let args = c .before .before .before .before .before .before .before .args in
+    let point-of = c .before .before .before .before .before .point-of in
+    let first = take (point-of .result - 0) (args .word .now) in
+    omega (arith, ten-most (length first) (omega (arith, length-take (point-of .result - 0) (args .word .now))))
 
 places-after-requires-2 : tie.Need-places-after-requires-2
 places-after-requires-2 c κs =
-    let w = c .before .before .before .before .before .before .before .before .before .before .before .before .args .word .now in
-    let p = c .before .before .before .before .before .before .before .before .before .before .point-of .result in
-    let m = token-bound tens 0 (take (p - 0) w) _ (sym (c .before .before .whole .given .1) ∙ c .before .before .before .before .digits-after .ensures) in
-    (room-after _ (length (take (p - 0) w)) (length (take (length w - (p + 1)) (drop (p + 1) w))) m (parts-short w p (omega arith) (omega arith)), omega arith)
+    let args = c .before .before .before .before .before .before .before .before .before .before .before .before .args in
+    let point-of = c .before .before .before .before .before .before .before .before .before .before .point-of in
+    let m = token-bound tens 0 (take ((point-of .result) - 0) (args .word .now)) _ (sym (c .before .before .whole .given .1) ∙ c .before .before .before .before .digits-after .ensures) in
+    (room-after _ (length (take ((point-of .result) - 0) (args .word .now))) (length (take (length (args .word .now) - ((point-of .result) + 1)) (drop ((point-of .result) + 1) (args .word .now)))) m (parts-short (args .word .now) (point-of .result) (omega arith) (omega arith)), omega arith)
 
 returns-6 : tie.Need-returns-6
-returns-6 c = one-point-is (c .before .before .before .before .before .before .before .before .before .before .args .negative) (c .before .before .before .before .before .before .before .before .before .before .args .word .now) _ (c .before .before .before .before .before .before .before .before .point-of .ensures .0) (omega arith) (c .before .before .before .before .before .before .before .if1 .left) (c .before .before .before .before .if5 .left) (omega arith) _ (sym (c .enum-told .given .1) ∙ c .before .before .digits-after .ensures)
+returns-6 c = one-point-is _ _ _ (c .before .before .before .before .before .before .before .before .point-of .ensures .0) (omega arith) (c .before .before .before .before .before .before .before .if1 .left) (c .before .before .before .before .if5 .left) (omega arith) _ (sym (c .enum-told .given .1) ∙ c .before .before .digits-after .ensures)
 
 returns-7 : tie.Need-returns-7
 returns-7 c =
     c .places-after2 .ensures
-    ∙ one-point-is (c .before .before .before .before .before .before .before .before .before .before .before .before .before .args .negative) (c .before .before .before .before .before .before .before .before .before .before .before .before .before .args .word .now) _ (c .before .before .before .before .before .before .before .before .before .before .before .point-of .ensures .0) (omega arith) (c .before .before .before .before .before .before .before .before .before .before .if1 .left) (c .before .before .before .before .before .before .before .if5 .left) (omega arith) _ (sym (c .before .before .before .whole .given .1) ∙ c .before .before .before .before .before .digits-after .ensures)
+    ∙ one-point-is _ _ _ (c .before .before .before .before .before .before .before .before .before .before .before .point-of .ensures .0) (omega arith) (c .before .before .before .before .before .before .before .before .before .before .if1 .left) (c .before .before .before .before .before .before .before .if5 .left) (omega arith) _ (sym (c .before .before .before .whole .given .1) ∙ c .before .before .before .before .before .digits-after .ensures)
 
 pub unsigned-of-spec : {M : Type 1} → statement M
-unsigned-of-spec =
-    tie.close
-    (tie.spec
-    (λ c κs. search needs)
-    returns
-    returns-2
-    returns-3
-    places-after-requires
-    returns-4
-    (λ c. search needs)
-    returns-5
-    (λ c. search needs)
-    (λ c. search needs)
-    (λ c. search needs)
-    digits-after-requires
-    (λ c. search needs)
-    (λ c. search needs)
-    (λ c. search needs)
-    (λ c. search needs)
-    (λ c. search needs)
-    (λ c. search needs)
-    places-after-requires-2
-    returns-6
-    returns-7)
+unsigned-of-spec = tie.close (tie.spec (search needs) returns returns-2 returns-3 places-after-requires returns-4 (search needs) returns-5
+    (search needs) (search needs) (search needs) digits-after-requires (search needs) (search needs) (search needs) (search needs)
+    (search needs) (search needs) places-after-requires-2 returns-6 returns-7)

@@ -13,11 +13,11 @@ truncating-f64-to-u64-requires c κs = (subst T (sym (c .before .if1 .taken)) tt
 
 returns-2 : tie.Need-returns-2
 unfolding ofBits neg
-returns-2 c = whole-most (c .before .before .args .x) (c .before .if1 .taken) (c .if2 .left)
+returns-2 c = whole-most _ (c .before .if1 .taken) (c .if2 .left)
 
 returns-3 : tie.Need-returns-3
 unfolding ofBits neg
-returns-3 c = whole-none (c .before .args .x) (c .if1 .left)
+returns-3 c = whole-none _ (c .if1 .left)
 
 pub whole-of-spec : {M : Type 1} → statement M
-whole-of-spec = tie.close (tie.spec truncating-f64-to-u64-requires (λ c. search needs) returns-2 returns-3)
+whole-of-spec = tie.close (tie.spec truncating-f64-to-u64-requires (search needs) returns-2 returns-3)

@@ -21,26 +21,12 @@ loop-holds c = (search needs, column-start backNumber noEdge _ _ (sym (search ne
 
 loop-again : tie.Need-loop-again Inv-loop μ-loop
 loop-again c =
-    let v = c .before .loop .inv in
-    (v .0, column-next backNumber noEdge (c .before .before .args .t1) (c .before .loop .out) (c .before .loop .i) (v .1) (omega (arith, v .0)))
+    (c .before .loop .inv .0, column-next backNumber noEdge _ (c .before .loop .out) _ (c .before .loop .inv .1) (omega (arith, c .before .loop .inv .0)))
 
 returns : tie.Need-returns Inv-loop μ-loop
 returns c =
-    let v = c .before .loop .inv in
-    column-all backNumber noEdge (c .before .before .args .t1) (c .before .loop .out) (c .before .loop .i) (v .1) (omega (arith, v .0))
+    column-all backNumber noEdge (c .before .before .args .t1) (c .before .loop .out) (c .before .loop .i) (c .before .loop .inv .1) (omega (arith, c .before .loop .inv .0))
 
 pub backs-of-spec : {M : Type 1} → statement M
-backs-of-spec =
-    tie.close
-    (tie.spec
-    Inv-loop
-    μ-loop
-    loop-holds
-    (λ c. search needs)
-    (λ c. search needs)
-    (λ c. search needs)
-    (λ c. search needs)
-    (λ c. search needs)
-    (λ c. search needs)
-    loop-again
-    returns)
+backs-of-spec = tie.close (tie.spec Inv-loop μ-loop loop-holds (search needs) (search needs) (search needs) (search needs) (search needs)
+    (search needs) loop-again returns)

@@ -12,4 +12,4 @@ unfolding frontOf
 returns c = c .before .front .ensures ∙ rw (c .before .before .from-number .ensures)
 
 pub front-of-spec : {M : Type 1} → statement M
-front-of-spec = tie.close (tie.spec (λ c κs. search needs) front-requires (λ c. search needs) returns)
+front-of-spec = tie.close (tie.spec (search needs) front-requires (search needs) returns)

@@ -15,11 +15,11 @@ none true b p = cc
 
 returns : tie.Need-returns
 unfolding inRange ofBits neg
-returns c = both (le (neg million) (c .before .args .t)) _ (c .if1 .taken)
+returns c = both (le (neg million) _) _ (c .if1 .taken)
 
 returns-2 : tie.Need-returns-2
 unfolding inRange ofBits neg
-returns-2 c = none (le (neg million) (c .before .args .t)) (le (c .before .args .t) million) (c .if1 .left)
+returns-2 c = none (le (neg million) _) (le _ million) (c .if1 .left)
 
 pub in-range-spec : {M : Type 1} → statement M
 in-range-spec = tie.close (tie.spec returns returns-2)

@@ -26,14 +26,13 @@ after s = let a = s .args in editedFile (a .s .now) (a .a) (a .b) (a .more) (a .
 abbrev newCounts : tie.After-counts-of → List ℕ
 newCounts c =
     let a = start c .args in
-    let old = c .counts-of .result in
-    set (set (set old 1 (getD old 1 0 + a .more)) 2 (a .used)) 3 (a .wired)
+    set (set (set (c .counts-of .result) 1 (getD (c .counts-of .result) 1 0 + a .more)) 2 (a .used)) 3 (a .wired)
 
 counted : (c : tie.After-counts-of) → newCounts c ≡ countsOf (after (start c))
 counted c =
     let a = start c .args in
     let given = start c .pre in
-    counts-edited (a .s .now) (given .0) (a .a) (a .b) (a .more) (a .uses .now) (a .used) (a .wires .now) (a .wired) (given .1 .0 .1) (given .1 .1 .1) (given .1 .1 .3) (c .counts-of .result) (c .counts-of .ensures)
+    counts-edited (a .s .now) (given .0) (a .a) (a .b) (a .more) (a .uses .now) (a .used) (a .wires .now) (a .wired) (given .1 .0 .1) (given .1 .1 .1) (given .1 .1 .3) _ (c .counts-of .ensures)
 
 few : (c : tie.After-counts-of) → countFaults (newCounts c) ≡ []
 few c =
@@ -47,7 +46,8 @@ end : (c : tie.After-starts-of) → getD (c .starts-of .result) 7 0 ≡ length (
 end c = end-is (after (start (c .before))) (newCounts (c .before)) _ (counted (c .before)) (c .starts-of .ensures)
 
 counts-of-requires : tie.Need-counts-of-requires
-counts-of-requires c κs = let s = c .before .before .before .before in table-long (s .args .s .now) (table-right (s .args .s .now) (s .pre .0))
+counts-of-requires c κs = let start = c .before .before .before .before in
+    table-long (start .args .s .now) (table-right (start .args .s .now) (start .pre .0))
 
 add-counts : tie.Need-add-counts
 add-counts c =
@@ -62,42 +62,29 @@ returns c = let s = start (c .before .before) in write-short (fileBytes (after s
 
 starts-of-requires-2 : tie.Need-starts-of-requires-2
 starts-of-requires-2 c κs =
-    let s = start (c .before .before) in
+    let place = c .before .before in
+    let s = start place in
     let f = s .args .s .now in
-    ap countFaults (c .before .before .counts-of .ensures) ∙ table-counts f (table-right f (s .pre .0))
+    ap countFaults (place .counts-of .ensures) ∙ table-counts f (table-right f (s .pre .0))
 
 put-parts-requires : tie.Need-put-parts-requires
 put-parts-requires c κs =
-    let k = c .before .before .before .before in
-    let given = start k .pre in
+    let start-2 = c .before .before .before .before in
+    let given = start start-2 .pre in
     let more = given .1 .0 in
     let first = given .1 .1 in (
-      (given .0, c .before .starts-of2 .ensures ∙ ap (λ (ns : List ℕ). tabulate 8 (startOf ns)) (k .counts-of .ensures)),
-      ((more .0, more .1, more .2, more .3), ((first .1, first .3), ((few k, counted k), (c .before .before .before .starts-of .ensures, c .before .before .if1 .left)))),
+      (given .0, c .before .starts-of2 .ensures ∙ ap (λ (ns : List ℕ). tabulate 8 (startOf ns)) (start-2 .counts-of .ensures)),
+      ((more .0, more .1, more .2, more .3), ((first .1, first .3), ((few start-2, counted start-2), (c .before .before .before .starts-of .ensures, c .before .before .if1 .left)))),
     )
 
 returns-2 : tie.Need-returns-2
 returns-2 c =
-    let t = c .before .before .before .before .before .before in
-    let s = start (t .before) in
+    let place = c .before .before .before .before .before .before in
+    let s = start (c .before .before .before .before .before .before .before) in
     let file = fileBytes (after s) in
     let out = s .args .out .now in
-    write-whole file out [] refl _ _ (omega (arith, end t, c .before .before .before .before .before .if1 .left)) (end t) (c .before .before .put-parts .ensures ∙ ap (λ (n : ℕ). file ++ drop n out) (end t))
+    write-whole file out [] refl _ _ (omega (arith, end place, c .before .before .before .before .before .if1 .left)) (end place) (c .before .before .put-parts .ensures ∙ ap (λ (n : ℕ). file ++ drop n out) (end place))
 
 pub put-edited-spec : {M : Type 1} → statement M
-put-edited-spec =
-    tie.close
-    (tie.spec
-    counts-of-requires
-    (λ c. search needs)
-    add-counts
-    (λ c. search needs)
-    (λ c. search needs)
-    (λ c. search needs)
-    starts-of-requires
-    (λ c. search needs)
-    returns
-    starts-of-requires-2
-    put-parts-requires
-    (λ c. search needs)
-    returns-2)
+put-edited-spec = tie.close (tie.spec counts-of-requires (search needs) add-counts (search needs) (search needs) (search needs)
+    starts-of-requires (search needs) returns starts-of-requires-2 put-parts-requires (search needs) returns-2)

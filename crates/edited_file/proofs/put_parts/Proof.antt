@@ -7,7 +7,7 @@ use lib.ListN.{length, take}
 use lib.Seq.{length-take-le}
 use borrow.Author.Needs.{needs}
 use Rattle.edge.specs.declared.Edge.{Edge}
-use Rattle.edited_file.proofs.Splice.{Ready, Stage, at-edges, at-kept, at-rest, at-uses, at-wires, kept-inside, stage-all, stage-long, stage-next, stage-room, table-room}
+use Rattle.edited_file.proofs.Splice.{Ready, Stage, at-edges, at-kept, at-rest, at-uses, at-wires, kept-inside, stage-all, stage-next, stage-room, table-room}
 use Rattle.lists.proofs.Flat.{length-flat}
 use Rattle.lists.specs.Lists.{flat}
 use Rattle.pattern_file.specs.File.{edgeBytes}
@@ -49,11 +49,11 @@ known1 c = c .before .before
 stage1 : (c : tie.After-put-table) → Stage (ready (known1 c)) 1 (c .put-table .last .0)
 stage1 c = c .put-table .ensures
 
-abbrev known2 : tie.After-put-bytes → tie.After-slice-known
+abbrev known2 : tie.After-put-text → tie.After-slice-known
 known2 c = known1 (c .before .before .before .before .before)
 
-stage2 : (c : tie.After-put-bytes) → Stage (ready (known2 c)) 2 (c .put-bytes .last .0)
-stage2 c = let r = ready (known2 c) in stage-next r 1 56 (at-kept r) (stage1 (c .before .before .before .before .before)) (c .put-bytes .ensures)
+stage2 : (c : tie.After-put-text) → Stage (ready (known2 c)) 2 (c .put-text .last .0)
+stage2 c = let r = ready (known2 c) in stage-next r 1 56 (at-kept r) (stage1 (c .before .before .before .before .before)) (c .put-text .ensures .0)
 
 abbrev known3 : tie.After-put-new → tie.After-slice-known
 known3 c = known2 (c .before .before .before .before)
@@ -73,78 +73,60 @@ known5 c = known4 (c .before .before .before .before)
 stage5 : (c : tie.After-put-u16s2) → Stage (ready (known5 c)) 5 (c .put-u16s2 .last .0)
 stage5 c = let r = ready (known5 c) in stage-next r 4 _ (at-wires r) (stage4 (c .before .before .before .before)) (c .put-u16s2 .ensures)
 
-abbrev known6 : tie.After-put-bytes2 → tie.After-slice-known
+abbrev known6 : tie.After-put-text2 → tie.After-slice-known
 known6 c = known5 (c .before .before .before .before .before)
 
-stage6 : (c : tie.After-put-bytes2) → Stage (ready (known6 c)) 6 (c .put-bytes2 .last .0)
-stage6 c = let r = ready (known6 c) in stage-next r 5 _ (at-rest r) (stage5 (c .before .before .before .before .before)) (c .put-bytes2 .ensures)
+stage6 : (c : tie.After-put-text2) → Stage (ready (known6 c)) 6 (c .put-text2 .last .0)
+stage6 c = let r = ready (known6 c) in stage-next r 5 _ (at-rest r) (stage5 (c .before .before .before .before .before)) (c .put-text2 .ensures .0)
 
 put-table-requires : tie.Need-put-table-requires
 put-table-requires c κs = let r = ready (c .before) in (table-room r, start (c .before) .pre .1 .1 .1 .0 .0, r .placed)
 
-sub-put-bytes : tie.Need-sub-put-bytes
-sub-put-bytes c = omega (arith, kept-inside (ready (c .before .before .before .before .before)) .0)
+sub-put-text : tie.Need-sub-put-text
+sub-put-text c = omega (arith, kept-inside (ready (c .before .before .before .before .before)) .0)
 
-part-put-bytes-start : tie.Need-part-put-bytes-start
-part-put-bytes-start c = kept-inside (ready (c .before .before .before .before .before)) .0
+part-put-text-start : tie.Need-part-put-text-start
+part-put-text-start c = kept-inside (ready (c .before .before .before .before .before)) .0
 
-part-put-bytes-end : tie.Need-part-put-bytes-end
-part-put-bytes-end c = kept-inside (ready (c .before .before .before .before .before)) .1
+part-put-text-end : tie.Need-part-put-text-end
+part-put-text-end c = kept-inside (ready (c .before .before .before .before .before)) .1
 
-put-bytes-requires : tie.Need-put-bytes-requires
-put-bytes-requires c κs = let r = ready (c .before .before .before .before .before .before) in stage-room r 1 56 (at-kept r) (stage1 (c .before .before .before .before)) (omega arith)
+put-text-requires : tie.Need-put-text-requires
+put-text-requires c κs = let r = ready (c .before .before .before .before .before .before) in stage-room r 1 56 (at-kept r) (stage1 (c .before .before .before .before)) (omega arith)
 
 put-new-requires : tie.Need-put-new-requires
 put-new-requires c κs =
-    let t = c .before .before .before in
-    let r = ready (known2 t) in
-    let given = start (known2 t) .pre .1 .0 in
-    ((given .0, given .1, omega (arith, stage-room r 2 _ (at-edges r) (stage2 t) (omega arith), edges-long (start (known2 t)))), (given .2, given .3))
+    let place = c .before .before .before in
+    let r = ready (known2 place) in
+    let given = start (known2 place) .pre .1 .0 in
+    ((given .0, given .1, omega (arith, stage-room r 2 _ (at-edges r) (stage2 place) (omega arith), edges-long (start (known2 place)))), (given .2, given .3))
 
 put-u16s-requires : tie.Need-put-u16s-requires
 put-u16s-requires c κs =
-    let t = c .before .before .before in
-    let r = ready (known3 t) in
-    numbers-fit (start (known3 t) .args .uses .now) _ _ _ (start (known3 t) .pre .1 .1 .0 .0) (stage-room r 3 _ (at-uses r) (stage3 t) (omega arith))
+    let place = c .before .before .before in
+    let r = ready (known3 place) in
+    numbers-fit (start (known3 place) .args .uses .now) _ _ _ (start (known3 place) .pre .1 .1 .0 .0) (stage-room r 3 _ (at-uses r) (stage3 place) (omega arith))
 
 put-u16s-requires-2 : tie.Need-put-u16s-requires-2
 put-u16s-requires-2 c κs =
-    let t = c .before .before .before in
-    let r = ready (known4 t) in
-    numbers-fit (start (known4 t) .args .wires .now) _ _ _ (start (known4 t) .pre .1 .1 .0 .1) (stage-room r 4 _ (at-wires r) (stage4 t) (omega arith))
+    let place = c .before .before .before in
+    let r = ready (known4 place) in
+    numbers-fit (start (known4 place) .args .wires .now) _ _ _ (start (known4 place) .pre .1 .1 .0 .1) (stage-room r 4 _ (at-wires r) (stage4 place) (omega arith))
 
-sub-put-bytes-2 : tie.Need-sub-put-bytes-2
-sub-put-bytes-2 c = omega (arith, kept-inside (ready (known5 (c .before .before .before))) .2)
+sub-put-text-2 : tie.Need-sub-put-text-2
+sub-put-text-2 c = omega (arith, kept-inside (ready (known5 (c .before .before .before))) .2)
 
-part-put-bytes-start-2 : tie.Need-part-put-bytes-start-2
-part-put-bytes-start-2 c = kept-inside (ready (known5 (c .before .before .before))) .2
+part-put-text-start-2 : tie.Need-part-put-text-start-2
+part-put-text-start-2 c = kept-inside (ready (known5 (c .before .before .before))) .2
 
-put-bytes-requires-2 : tie.Need-put-bytes-requires-2
-put-bytes-requires-2 c κs = let t = c .before .before .before .before in let r = ready (known5 t) in stage-room r 5 _ (at-rest r) (stage5 t) (omega arith)
+put-text-requires-2 : tie.Need-put-text-requires-2
+put-text-requires-2 c κs = let place = c .before .before .before .before in
+    let r = ready (known5 place) in stage-room r 5 _ (at-rest r) (stage5 place) (omega arith)
 
 returns : tie.Need-returns
-returns c = let t = c .before .before in stage-all (ready (known6 t)) (stage6 t)
+returns c = let place = c .before .before in stage-all (ready (known6 place)) (stage6 place)
 
 pub put-parts-spec : {M : Type 1} → statement M
-put-parts-spec =
-    tie.close
-    (tie.spec
-    (λ c. search needs)
-    (λ c. search needs)
-    put-table-requires
-    sub-put-bytes
-    part-put-bytes-start
-    part-put-bytes-end
-    put-bytes-requires
-    put-new-requires
-    (λ c. search needs)
-    put-u16s-requires
-    (λ c. search needs)
-    put-u16s-requires-2
-    (λ c. search needs)
-    sub-put-bytes-2
-    part-put-bytes-start-2
-    (λ c. search needs)
-    put-bytes-requires-2
-    (λ c. search needs)
-    returns)
+put-parts-spec = tie.close (tie.spec (search needs) (search needs) put-table-requires sub-put-text part-put-text-start part-put-text-end
+    put-text-requires put-new-requires (search needs) put-u16s-requires (search needs) put-u16s-requires-2 (search needs) sub-put-text-2
+    part-put-text-start-2 (search needs) put-text-requires-2 (search needs) returns)

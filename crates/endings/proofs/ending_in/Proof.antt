@@ -15,45 +15,25 @@ flags-long : (s : tie.After-wire-ends) → length (s .wire-ends .result) ≡ 102
 flags-long s = search needs
 
 wire-ends-requires : tie.Need-wire-ends-requires
-wire-ends-requires c κs = rw (sub-zero (c .before .before .before .before .before .before .before .before .before .before .args .ucount), sub-zero (c .before .before .before .before .before .before .before .before .before .before .args .wcount), sub-zero (c .before .before .before .before .before .before .before .before .before .before .args .ecount)) (c .before .before .before .before .before .before .before .before .before .before .pre .0 .named, (omega (arith, length-take-le (c .before .before .before .before .before .before .before .before .before .before .args .wcount) (c .before .before .before .before .before .before .before .before .before .before .args .wires .now) (c .before .before .before .before .before .before .before .before .before .before .pre .0 .wires-in), c .before .before .before .before .before .before .before .before .before .before .pre .0 .few-wires), omega (arith, length-take-le (c .before .before .before .before .before .before .before .before .before .before .args .ucount) (c .before .before .before .before .before .before .before .before .before .before .args .uses .now) (c .before .before .before .before .before .before .before .before .before .before .pre .0 .uses-in), c .before .before .before .before .before .before .before .before .before .before .pre .0 .few-uses), c .before .before .before .before .before .before .before .before .before .before .pre .0 .summed ∙ sym (length-take-le (c .before .before .before .before .before .before .before .before .before .before .args .ucount) (c .before .before .before .before .before .before .before .before .before .before .args .uses .now) (c .before .before .before .before .before .before .before .before .before .before .pre .0 .uses-in))))
+wire-ends-requires c κs = let start = c .before .before .before .before .before .before .before .before .before .before in
+    rw (sub-zero (start .args .ucount), sub-zero (start .args .wcount), sub-zero (start .args .ecount)) (start .pre .0 .named, (omega (arith, length-take-le (start .args .wcount) (start .args .wires .now) (start .pre .0 .wires-in), start .pre .0 .few-wires), omega (arith, length-take-le (start .args .ucount) (start .args .uses .now) (start .pre .0 .uses-in), start .pre .0 .few-uses), start .pre .0 .summed ∙ sym (length-take-le (start .args .ucount) (start .args .uses .now) (start .pre .0 .uses-in))))
 
 ending-wires-requires : tie.Need-ending-wires-requires
 ending-wires-requires c κs =
-    let lf = length-take-le (c .before .before .before .before .before .before .before .before .before .before .before .before .before .before .args .fcount) (c .before .before .before .before .before .before .before .before .before .before .before .before .before .before .args .counts .now) (c .before .before .before .before .before .before .before .before .before .before .before .before .before .before .pre .1 .0 .0) in
-    let ll = length-take-le (c .before .before .before .before .before .before .before .before .before .before .before .before .before .before .args .end - c .before .before .before .before .before .before .before .before .before .before .before .before .before .before .args .start) (drop (c .before .before .before .before .before .before .before .before .before .before .before .before .before .before .args .start) (c .before .before .before .before .before .before .before .before .before .before .before .before .before .before .args .listings .now)) (omega (arith, length-drop (c .before .before .before .before .before .before .before .before .before .before .before .before .before .before .args .start) (c .before .before .before .before .before .before .before .before .before .before .before .before .before .before .args .listings .now), c .before .before .before .before .before .before .before .before .before .before .before .before .before .before .pre .1 .1 .1)) in
-    rw (sub-zero (c .before .before .before .before .before .before .before .before .before .before .before .before .before .before .args .fcount)) ((omega (arith, lf, c .before .before .before .before .before .before .before .before .before .before .before .before .before .before .pre .1 .0 .1), omega (arith, c .before .before .before .before .before .before .before .before .before .before .before .before .before .before .pre .1 .0 .2, c .before .before .before .before .before .before .before .before .before .before .before .before .before .before .pre .0 .few-wires, flags-long (c .before .before .before)), omega (arith, c .before .before .before .before .before .before .before .before .before .before .before .before .before .before .pre .1 .0 .2, c .before .before .before .before .before .before .before .before .before .before .before .before .before .before .pre .0 .few-wires)), (omega (arith, ll, c .before .before .before .before .before .before .before .before .before .before .before .before .before .before .pre .1 .1 .2), c .before .before .before .before .before .before .before .before .before .before .before .before .before .before .pre .1 .1 .3))
+    let start = c .before .before .before .before .before .before .before .before .before .before .before .before .before .before in
+    let lf = length-take-le (start .args .fcount) (start .args .counts .now) (start .pre .1 .0 .0) in
+    let ll = length-take-le (start .args .end - start .args .start) (drop (start .args .start) (start .args .listings .now)) (omega (arith, length-drop (start .args .start) (start .args .listings .now), start .pre .1 .1 .1)) in
+    rw (sub-zero (start .args .fcount)) ((omega (arith, lf, start .pre .1 .0 .1), omega (arith, start .pre .1 .0 .2, start .pre .0 .few-wires, flags-long (c .before .before .before)), omega (arith, start .pre .1 .0 .2, start .pre .0 .few-wires)), (omega (arith, ll, start .pre .1 .1 .2), start .pre .1 .1 .3))
 
 returns : tie.Need-returns
 returns c =
-    let ls = take (c .before .before .before .before .before .before .before .before .before .before .before .before .before .before .before .args .end - c .before .before .before .before .before .before .before .before .before .before .before .before .before .before .before .args .start) (drop (c .before .before .before .before .before .before .before .before .before .before .before .before .before .before .before .args .start) (c .before .before .before .before .before .before .before .before .before .before .before .before .before .before .before .args .listings .now)) in
-    let made = rw (sub-zero (c .before .before .before .before .before .before .before .before .before .before .before .before .before .before .before .args .ucount), sub-zero (c .before .before .before .before .before .before .before .before .before .before .before .before .before .before .before .args .wcount), sub-zero (c .before .before .before .before .before .before .before .before .before .before .before .before .before .before .before .args .ecount)) at (c .before .before .before .before .wire-ends .ensures) in
-    let found = rw (sub-zero (c .before .before .before .before .before .before .before .before .before .before .before .before .before .before .before .args .fcount), c .before .before .before .before .before .before .before .before .before .before .before .before .before .before .before .pre .1 .0 .2) at (c .ending-wires .ensures) in
-    found ∙ ap endingOf (flags-are (take (c .before .before .before .before .before .before .before .before .before .before .before .before .before .before .before .args .ecount) (c .before .before .before .before .before .before .before .before .before .before .before .before .before .before .before .args .fronts .now)) (take (c .before .before .before .before .before .before .before .before .before .before .before .before .before .before .before .args .ecount) (c .before .before .before .before .before .before .before .before .before .before .before .before .before .before .before .args .backs .now)) (c .before .before .before .before .before .before .before .before .before .before .before .before .before .before .before .args .v .0) (take (c .before .before .before .before .before .before .before .before .before .before .before .before .before .before .before .args .wcount) (c .before .before .before .before .before .before .before .before .before .before .before .before .before .before .before .args .wires .now)) (take (c .before .before .before .before .before .before .before .before .before .before .before .before .before .before .before .args .ucount) (c .before .before .before .before .before .before .before .before .before .before .before .before .before .before .before .args .uses .now)) (listedWires (take (c .before .before .before .before .before .before .before .before .before .before .before .before .before .before .before .args .fcount) (c .before .before .before .before .before .before .before .before .before .before .before .before .before .before .before .args .counts .now)) (c .before .before .before .before .before .before .before .before .before .before .before .before .before .before .before .args .wcount) ls) made)
+    let start = c .before .before .before .before .before .before .before .before .before .before .before .before .before .before .before in
+    let ls = take (start .args .end - start .args .start) (drop (start .args .start) (start .args .listings .now)) in
+    let made = rw (sub-zero _, sub-zero _, sub-zero _) at (c .before .before .before .before .wire-ends .ensures) in
+    let found = rw (sub-zero _, start .pre .1 .0 .2) at (c .ending-wires .ensures) in
+    found ∙ ap endingOf (flags-are (take (start .args .ecount) (start .args .fronts .now)) (take (start .args .ecount) (start .args .backs .now)) _ (take (start .args .wcount) (start .args .wires .now)) (take (start .args .ucount) (start .args .uses .now)) (listedWires (take (start .args .fcount) (start .args .counts .now)) (start .args .wcount) ls) made)
 
 pub ending-in-spec : {M : Type 1} → statement M
-ending-in-spec =
-    tie.close
-    (tie.spec
-    (λ c. search needs)
-    (λ c. search needs)
-    (λ c. search needs)
-    (λ c. search needs)
-    (λ c. search needs)
-    (λ c. search needs)
-    (λ c. search needs)
-    (λ c. search needs)
-    (λ c. search needs)
-    (λ c. search needs)
-    (λ c. search needs)
-    (λ c. search needs)
-    wire-ends-requires
-    (λ c. search needs)
-    (λ c. search needs)
-    (λ c. search needs)
-    (λ c. search needs)
-    (λ c. search needs)
-    (λ c. search needs)
-    (λ c. search needs)
-    (λ c. search needs)
-    ending-wires-requires
-    returns)
+ending-in-spec = tie.close (tie.spec (search needs) (search needs) (search needs) (search needs) (search needs) (search needs)
+    (search needs) (search needs) (search needs) (search needs) (search needs) (search needs) wire-ends-requires (search needs)
+    (search needs) (search needs) (search needs) (search needs) (search needs) (search needs) (search needs) ending-wires-requires returns)

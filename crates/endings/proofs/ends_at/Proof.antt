@@ -5,10 +5,10 @@ use Rattle.endings.proofs.ends_at.Statement.{statement}
 use Rattle.endings.proofs.ends_at.Tie as tie
 
 returns : tie.Need-returns
-returns c = ends-some (c .before .before .before .before .before .before .args .fronts .now) (c .before .before .before .before .before .before .args .backs .now) (c .before .before .before .before .before .before .args .v .0) (c .before .before .before .before .before .before .args .uses .now) (sym (c .before .before .find-end .ensures) ∙ c .enum-told .given .1)
+returns c = ends-some _ _ _ _ (sym (c .before .before .find-end .ensures) ∙ c .enum-told .given .1)
 
 returns-2 : tie.Need-returns-2
-returns-2 c = ends-none (c .before .before .before .before .before .before .args .fronts .now) (c .before .before .before .before .before .before .args .backs .now) (c .before .before .before .before .before .before .args .v .0) (c .before .before .before .before .before .before .args .uses .now) (sym (c .before .before .find-end .ensures) ∙ c .enum-told2 .given .1)
+returns-2 c = ends-none _ _ _ _ (sym (c .before .before .find-end .ensures) ∙ c .enum-told2 .given .1)
 
 pub ends-at-spec : {M : Type 1} → statement M
-ends-at-spec = tie.close (tie.spec (λ c κs. search needs) (λ c. search needs) (λ c. search needs) returns returns-2)
+ends-at-spec = tie.close (tie.spec (λ c κs. search needs) (search needs) (search needs) returns returns-2)

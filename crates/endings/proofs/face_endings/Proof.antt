@@ -14,38 +14,24 @@ abbrev μ-loop : tie.MeasureT-loop
 μ-loop flags counts out₀ at₀ f₀ out at f = length counts - f
 
 loop-holds : tie.Need-loop-holds Inv-loop μ-loop
-loop-holds c = faces-start (c .before .before .args .flags .now) (c .before .before .args .counts .now)
+loop-holds c = faces-start _ _
 
 ending-among-requires : tie.Need-ending-among-requires Inv-loop μ-loop
-ending-among-requires c κs = (omega (arith, walk-fits (c .before .before .before .before .before .before .args .counts .now) (c .before .before .before .loop .f) (c .before .before .before .loop .at) (c .index .result) (c .before .before .before .loop .inv .walk) (omega arith) (c .index .ensures .0), c .before .before .before .before .before .before .pre .1), omega (arith, walk-fits (c .before .before .before .before .before .before .args .counts .now) (c .before .before .before .loop .f) (c .before .before .before .loop .at) (c .index .result) (c .before .before .before .loop .inv .walk) (omega arith) (c .index .ensures .0), c .before .before .before .before .before .before .pre .2))
+ending-among-requires c κs = let pre = c .before .before .before .before .before .before .pre in let loop = c .before .before .before .loop in
+    (omega (arith, walk-fits _ _ _ _ (loop .inv .walk) (omega arith) (c .index .ensures .0), pre .1), omega (arith, walk-fits _ _ _ _ (loop .inv .walk) (omega arith) (c .index .ensures .0), pre .2))
 
 array-set-from-out : tie.Need-array-set-from-out Inv-loop μ-loop
 array-set-from-out c = omega (arith, c .before .before .before .before .before .before .before .pre .0)
 
 add-at : tie.Need-add-at Inv-loop μ-loop
-add-at c = omega (arith, walk-fits (c .before .before .before .before .before .before .before .args .counts .now) (c .before .before .before .before .loop .f) (c .before .before .before .before .loop .at) (c .before .index .result) (c .before .before .before .before .loop .inv .walk) (omega arith) (c .before .index .ensures .0), c .before .before .before .before .before .before .before .pre .2)
+add-at c = omega (arith, walk-fits _ _ _ _ (c .before .before .before .before .loop .inv .walk) (omega arith) (c .before .index .ensures .0), c .before .before .before .before .before .before .before .pre .2)
 
 loop-again : tie.Need-loop-again Inv-loop μ-loop
-loop-again c = faces-next (c .before .before .before .before .before .before .before .args .flags .now) (c .before .before .before .before .before .before .before .args .counts .now) (c .before .before .before .before .loop .inv) (omega arith) (c .before .before .before .before .before .before .before .pre .0) (c .before .index .ensures .0) (c .ending-among .ensures)
+loop-again c = faces-next _ _ (c .before .before .before .before .loop .inv) (omega arith) (c .before .before .before .before .before .before .before .pre .0) (c .before .index .ensures .0) (c .ending-among .ensures)
 
 returns : tie.Need-returns Inv-loop μ-loop
-returns c = faces-all (c .before .before .before .before .args .flags .now) (c .before .before .before .before .args .counts .now) (c .before .loop .inv) (omega arith)
+returns c = faces-all _ _ (c .before .loop .inv) (omega arith)
 
 pub face-endings-spec : {M : Type 1} → statement M
-face-endings-spec =
-    tie.close
-    (tie.spec
-    Inv-loop
-    μ-loop
-    loop-holds
-    (λ c. search needs)
-    (λ c. search needs)
-    (λ c κs. search needs)
-    ending-among-requires
-    (λ c. search needs)
-    array-set-from-out
-    add-at
-    (λ c. search needs)
-    (λ c. search needs)
-    loop-again
-    returns)
+face-endings-spec = tie.close (tie.spec Inv-loop μ-loop loop-holds (search needs) (search needs) (search needs) ending-among-requires
+    (search needs) array-set-from-out add-at (search needs) (search needs) loop-again returns)

@@ -18,16 +18,17 @@ loop-holds : tie.Need-loop-holds Inv-loop μ-loop
 loop-holds c = passing-start _ _ _ _ _ _ _ _ _ (c .before .before .before .before .before .before .before .before .before .pre .1)
 
 part-of-requires : tie.Need-part-of-requires Inv-loop μ-loop
-part-of-requires c κs = c .before .before .before .before .before .before .before .before .before .before .before .before .before .pre .0 (c .before .before .before .loop .j) (c .before .before .loop-test .taken) .shows
+part-of-requires c κs = c .before .before .before .before .before .before .before .before .before .before .before .before .before .pre .0 _ (c .before .before .loop-test .taken) .shows
 
 walk-part-requires : tie.Need-walk-part-requires Inv-loop μ-loop
-walk-part-requires c κs = (rw (c .before .before .part-of .ensures) (c .before .before .before .before .before .before .before .before .before .before .before .before .before .before .before .before .pre .0 (c .before .before .before .before .before .before .loop .j) (c .before .before .before .before .before .loop-test .taken) .begins), c .before .before .before .before .before .before .loop .inv .ready)
+walk-part-requires c κs = (rw (c .before .before .part-of .ensures) (c .before .before .before .before .before .before .before .before .before .before .before .before .before .before .before .before .pre .0 _ (c .before .before .before .before .before .loop-test .taken) .begins), c .before .before .before .before .before .before .loop .inv .ready)
 
 add-j : tie.Need-add-j Inv-loop μ-loop
 add-j c = omega (arith, c .before .before .before .before .before .before .before .before .before .before .before .before .loop-test .taken, c .before .before .before .before .before .before .before .before .before .before .before .before .before .before .before .before .before .before .before .before .before .before .before .good .1 .0 .0)
 
 loop-again : tie.Need-loop-again Inv-loop μ-loop
-loop-again c = passing-next _ _ _ _ _ _ _ _ _ _ _ _ _ _ (c .before .before .before .before .before .before .before .before .before .before .before .before .before .loop .inv) (c .before .before .before .before .before .before .before .before .before .before .before .before .loop-test .taken) _ _ _ _ _ (c .before .before .before .before .before .before .before .before .before .part-of .ensures) (c .before .before .before .before .before .before .walk-part .ensures .0) (c .before .before .before .before .before .before .walk-part .ensures .1)
+loop-again c = let walk-part = c .before .before .before .before .before .before .walk-part in
+    passing-next _ _ _ _ _ _ _ _ _ _ _ _ _ _ (c .before .before .before .before .before .before .before .before .before .before .before .before .before .loop .inv) (c .before .before .before .before .before .before .before .before .before .before .before .before .loop-test .taken) _ _ _ _ _ (c .before .before .before .before .before .before .before .before .before .part-of .ensures) (walk-part .ensures .0) (walk-part .ensures .1)
 
 same-length : tie.Need-same-length Inv-loop μ-loop
 same-length c = c .before .loop .inv .ready .points ∙ sym (c .before .before .before .before .before .before .before .before .before .before .before .pre .1 .points)
@@ -42,20 +43,5 @@ returns : tie.Need-returns Inv-loop μ-loop
 returns c = (passing-all _ _ _ _ _ _ _ _ _ _ _ _ _ _ (c .before .loop .inv) (omega arith), c .before .loop .inv .ready)
 
 pub walk-listings-spec : {M : Type 1} → statement M
-walk-listings-spec =
-    tie.close
-    (tie.spec
-    Inv-loop
-    μ-loop
-    loop-holds
-    (λ c. search needs)
-    (λ c. search needs)
-    part-of-requires
-    walk-part-requires
-    add-j
-    (λ c. search needs)
-    loop-again
-    same-length
-    same-length-2
-    same-length-3
-    returns)
+walk-listings-spec = tie.close (tie.spec Inv-loop μ-loop loop-holds (search needs) (search needs) part-of-requires walk-part-requires add-j
+    (search needs) loop-again same-length same-length-2 same-length-3 returns)

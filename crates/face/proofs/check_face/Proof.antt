@@ -23,29 +23,24 @@ shared s = sharedFaults (s .args .fronts .now) (s .args .backs .now) [] (s .args
 
 disjoint-wires-requires : tie.Need-disjoint-wires-requires
 disjoint-wires-requires c κs =
-    (c .before .before .before .before .before .before .before .before .before .before .before .before .pre .0, (search needs, (search needs, (c .before .before .before .before .before .check-wires .ensures .1, accepted-none (alone (c .before .before .before .before .before .before .before .before .before .before .before .before)) (sym (c .before .before .before .before .before .check-wires .ensures .0) ∙ c .before .enum-told .given .1)))))
+    let start = c .before .before .before .before .before .before .before .before .before .before .before .before in
+    let check-wires = c .before .before .before .before .before .check-wires in
+    (start .pre .0, (search needs, (search needs, (check-wires .ensures .1, accepted-none (alone start) (sym (check-wires .ensures .0) ∙ c .before .enum-told .given .1)))))
 
 returns : tie.Need-returns
 returns c =
-    let a = c .before .before .before .before .before .before .before .before .before .before .before .before .args in (
-      sym (refused-first (alone (c .before .before .before .before .before .before .before .before .before .before .before .before)) (shared (c .before .before .before .before .before .before .before .before .before .before .before .before)) _ (sym (c .before .before .before .before .before .check-wires .ensures .0) ∙ c .before .alone .given .1)),
-      below-later (a .stamp + length (a .lengths .now)) (a .stamp + length (a .lengths .now) + 1) (c .before .before .before .before .before .check-wires .last .1 .1 .1 .1 .0) (c .before .before .before .before .before .check-wires .ensures .1) (omega arith),
+    let start = c .before .before .before .before .before .before .before .before .before .before .before .before in
+    let check-wires = c .before .before .before .before .before .check-wires in (
+      sym (refused-first (alone start) (shared start) _ (sym (check-wires .ensures .0) ∙ c .before .alone .given .1)),
+      below-later (start .args .stamp + length (start .args .lengths .now)) (start .args .stamp + length (start .args .lengths .now) + 1) (check-wires .last .1 .1 .1 .1 .0) (check-wires .ensures .1) (omega arith),
     )
 
 returns-2 : tie.Need-returns-2
 returns-2 c =
-    (c .before .before .disjoint-wires .ensures .0 ∙ sym (passed-first (alone (c .before .before .before .before .before .before .before .before .before .before .before .before .before .before .before)) (shared (c .before .before .before .before .before .before .before .before .before .before .before .before .before .before .before)) (sym (c .before .before .before .before .before .before .before .before .check-wires .ensures .0) ∙ c .before .before .before .before .enum-told .given .1)), c .before .before .disjoint-wires .ensures .1)
+    let place = c .before .before .before .before .before .before .before .before .before .before .before .before .before .before .before in
+    let disjoint-wires = c .before .before .disjoint-wires in
+    (disjoint-wires .ensures .0 ∙ sym (passed-first (alone place) (shared place) (sym (c .before .before .before .before .before .before .before .before .check-wires .ensures .0) ∙ c .before .before .before .before .enum-told .given .1)), disjoint-wires .ensures .1)
 
 pub check-face-spec : {M : Type 1} → statement M
-check-face-spec =
-    tie.close
-    (tie.spec
-    (λ c κs. search needs)
-    (λ c. search needs)
-    (λ c. search needs)
-    (λ c. search needs)
-    disjoint-wires-requires
-    (λ c. search needs)
-    returns
-    (λ c. search needs)
-    returns-2)
+check-face-spec = tie.close (tie.spec (λ c κs. search needs) (λ c. search needs) (λ c. search needs) (λ c. search needs)
+    disjoint-wires-requires (λ c. search needs) returns (λ c. search needs) returns-2)

@@ -24,32 +24,37 @@ abbrev μ-loop : tie.MeasureT-loop
 
 -- face k is one of the first n, and its wires end inside the list
 inside : (c : tie.After-index Inv-loop μ-loop) → c .before .before .before .loop .k < length (take (c .before .before .before .before .before .before .before .before .before .args .n) (c .before .before .before .before .before .before .before .before .before .args .counts .now))
-inside c = omega (arith, length-take-le (c .before .before .before .before .before .before .before .before .before .args .n) (c .before .before .before .before .before .before .before .before .before .args .counts .now) (c .before .before .before .before .before .before .before .before .before .pre .1 .0 .0))
+inside c = let start = c .before .before .before .before .before .before .before .before .before in
+    omega (arith, length-take-le (start .args .n) (start .args .counts .now) (start .pre .1 .0 .0))
 
 counted : (c : tie.After-index Inv-loop μ-loop) → c .index .result ≡ getD (take (c .before .before .before .before .before .before .before .before .before .args .n) (c .before .before .before .before .before .before .before .before .before .args .counts .now)) (c .before .before .before .loop .k) 0
-counted c = c .index .ensures .0 ∙ sym (getD-take (c .before .before .before .before .before .before .before .before .before .args .n) (c .before .before .before .before .before .before .before .before .before .args .counts .now) (c .before .before .before .loop .k) 0 (c .before .before .loop-test .taken))
+counted c = c .index .ensures .0 ∙ sym (getD-take _ _ _ 0 (c .before .before .loop-test .taken))
 
 fits : (c : tie.After-index Inv-loop μ-loop) → c .before .before .before .loop .first + c .index .result ≤ length (c .before .before .before .before .before .before .before .before .before .args .lengths .now)
-fits c = omega (arith, walk-fits (take (c .before .before .before .before .before .before .before .before .before .args .n) (c .before .before .before .before .before .before .before .before .before .args .counts .now)) (c .before .before .before .loop .k) (c .before .before .before .loop .first) (c .index .result) (c .before .before .before .loop .inv .0) (inside c) (counted c), c .before .before .before .before .before .before .before .before .before .pre .1 .1 .0)
+fits c = let start = c .before .before .before .before .before .before .before .before .before in let loop = c .before .before .before .loop in
+    omega (arith, walk-fits (take (start .args .n) (start .args .counts .now)) (loop .k) (loop .first) (c .index .result) (loop .inv .0) (inside c) (counted c), start .pre .1 .1 .0)
 
 -- the face that the loop is at
 face : (c : tie.After-sum-of Inv-loop μ-loop)
     → FaceAt (take (c .before .before .before .before .before .before .before .before .before .before .before .args .n) (c .before .before .before .before .before .before .before .before .before .before .before .args .counts .now)) (c .before .before .before .before .before .before .before .before .before .before .before .args .lengths .now) (c .before .before .before .before .before .before .before .before .before .before .before .args .uses .now) (c .before .before .before .before .before .loop .k) (c .before .before .before .before .before .loop .first) (c .before .before .before .before .before .loop .at) (c .before .before .index .result) (c .sum-of .result)
-face c = record {
-  walk = c .before .before .before .before .before .loop .inv .0;
-  here = c .before .before .before .before .before .loop .inv .1;
-  inside = inside (c .before .before);
-  is = counted (c .before .before);
-  all-wires = c .before .before .before .before .before .before .before .before .before .before .before .pre .1 .1 .0;
-  all-uses = c .before .before .before .before .before .before .before .before .before .before .before .pre .1 .1 .1;
-  its-uses = c .sum-of .ensures;
-}
+face c =
+    let pre = c .before .before .before .before .before .before .before .before .before .before .before .pre in
+    let loop = c .before .before .before .before .before .loop in let place = c .before .before in
+    record {
+      walk = loop .inv .0;
+      here = loop .inv .1;
+      inside = inside place;
+      is = counted place;
+      all-wires = pre .1 .1 .0;
+      all-uses = pre .1 .1 .1;
+      its-uses = c .sum-of .ensures;
+    }
 
 loop-holds : tie.Need-loop-holds Inv-loop μ-loop
 unfolding sum
 loop-holds c =
-    let a = c .before .before .before .before .before .args in
-    (walk-start (take (a .n) (a .counts .now)), refl, ruled-start (a .fronts .now) (a .backs .now) _, refl, below-zeros 2048)
+    let args = c .before .before .before .before .before .args in
+    (walk-start (take (args .n) (args .counts .now)), refl, ruled-start _ _ _, refl, below-zeros 2048)
 
 add-part : tie.Need-add-part Inv-loop μ-loop
 add-part c = omega (arith, fits c)
@@ -62,9 +67,9 @@ part-part-end c = omega (arith, fits c)
 
 sum-of-requires : tie.Need-sum-of-requires Inv-loop μ-loop
 sum-of-requires c κs =
-    let l = c .before .before .before .before .loop in
-    let n = c .before .index .result in
-    (omega (arith, fits (c .before), length-take (l .first + n - l .first) (drop (l .first) (c .before .before .before .before .before .before .before .before .before .before .args .lengths .now)), length-drop (l .first) (c .before .before .before .before .before .before .before .before .before .before .args .lengths .now)), omega (arith, fits (c .before)))
+    let args = c .before .before .before .before .before .before .before .before .before .before .args in
+    let loop = c .before .before .before .before .loop in
+    (omega (arith, fits (c .before), length-take (loop .first + (c .before .index .result) - loop .first) (drop (loop .first) (args .lengths .now)), length-drop (loop .first) (args .lengths .now)), omega (arith, fits (c .before)))
 
 add-check-face : tie.Need-add-check-face Inv-loop μ-loop
 add-check-face c = omega (arith, uses-fit (face c))
@@ -83,17 +88,16 @@ add-check-face-3 c = omega (arith, wires-fit (face (c .before .before)))
 
 check-face-requires : tie.Need-check-face-requires Inv-loop μ-loop
 check-face-requires c κs =
-    let a = c .before .before .before .before .before .before .before .before .before .before .before .before .before .args in
-    let l = c .before .before .before .before .before .before .before .loop in
-    let f = face (c .before .before) in (
-      named-part (a .fronts .now) (a .backs .now) (a .uses .now) (c .before .before .before .before .before .before .before .before .before .before .before .before .before .pre .0) (l .at) (l .at + c .before .before .sum-of .result - l .at),
-      ((omega (arith, part-sum f, uses-long f), omega (arith, part-long f, wires-fit f), omega (arith, part-long f, wires-fit f)), (l .inv .3, l .inv .4)),
+    let start = c .before .before .before .before .before .before .before .before .before .before .before .before .before in
+    let loop = c .before .before .before .before .before .before .before .loop in let place = c .before .before in
+    let f = face place in (
+      named-part (start .args .fronts .now) (start .args .backs .now) (start .args .uses .now) (start .pre .0) (loop .at) (loop .at + place .sum-of .result - loop .at),
+      ((omega (arith, part-sum f, uses-long f), omega (arith, part-long f, wires-fit f), omega (arith, part-long f, wires-fit f)), (loop .inv .3, loop .inv .4)),
     )
 
 returns : tie.Need-returns Inv-loop μ-loop
 returns c =
-    let a = c .before .before .before .before .before .before .before .before .before .before .before .before .before .before .before .before .before .before .args in
-    sym (ruled-stop (a .fronts .now) (a .backs .now) (face (c .before .before .before .before .before .before .before)) (c .before .before .before .before .before .before .before .before .before .before .before .before .loop .inv .2) _ (sym (c .before .before .before .before .check-face .ensures .0) ∙ c .before .answer .given .1))
+    sym (ruled-stop _ _ (face (c .before .before .before .before .before .before .before)) (c .before .before .before .before .before .before .before .before .before .before .before .before .loop .inv .2) _ (sym (c .before .before .before .before .check-face .ensures .0) ∙ c .before .answer .given .1))
 
 add-at : tie.Need-add-at Inv-loop μ-loop
 add-at c = omega (arith, uses-fit (face (c .before .before .before .before .before .before)))
@@ -103,54 +107,24 @@ add-first c = omega (arith, wires-fit (face (c .before .before .before .before .
 
 loop-again : tie.Need-loop-again Inv-loop μ-loop
 loop-again c =
-    let a = c .before .before .before .before .before .before .before .before .before .before .before .before .before .before .before .before .before .args in
-    let l = c .before .before .before .before .before .before .before .before .before .before .before .loop in
+    let args = c .before .before .before .before .before .before .before .before .before .before .before .before .before .before .before .before .before .args in
+    let check-face = c .before .before .before .check-face in
     let f = face (c .before .before .before .before .before .before) in (
-      walk-next (take (a .n) (a .counts .now)) (l .k) (l .first) (c .before .before .before .before .before .before .before .before .index .result) (f .walk) (f .inside) (f .is),
+      walk-next (take (args .n) (args .counts .now)) _ _ _ (f .walk) (f .inside) (f .is),
       uses-next f,
-      ruled-next (a .fronts .now) (a .backs .now) f (l .inv .2) (sym (c .before .before .before .check-face .ensures .0) ∙ c .enum-told .given .1),
+      ruled-next _ _ f (c .before .before .before .before .before .before .before .before .before .before .before .loop .inv .2) (sym (check-face .ensures .0) ∙ c .enum-told .given .1),
       search needs,
-      below-later _ _ (c .before .before .before .check-face .last .1 .1 .1 .1 .0) (c .before .before .before .check-face .ensures .1) (omega (arith, part-long f)),
+      below-later _ _ (check-face .last .1 .1 .1 .1 .0) (check-face .ensures .1) (omega (arith, part-long f)),
     )
 
 returns-2 : tie.Need-returns-2 Inv-loop μ-loop
 returns-2 c =
-    let a = c .before .before .before .before .before .before .before .args in
-    let l = c .before .loop in
-    ap first (sym (ruled-all (a .fronts .now) (a .backs .now) (split (take (a .n) (a .counts .now)) (split (a .lengths .now) (a .uses .now))) (l .k) (l .first) (l .inv .2)
-    (rw (length-split (take (a .n) (a .counts .now)) (split (a .lengths .now) (a .uses .now)), length-take-le (a .n) (a .counts .now) (c .before .before .before .before .before .before .before .pre .1 .0 .0)) (omega arith))))
+    let start = c .before .before .before .before .before .before .before in
+    ap first (sym (ruled-all (start .args .fronts .now) (start .args .backs .now) (split (take (start .args .n) (start .args .counts .now)) (split (start .args .lengths .now) (start .args .uses .now))) (c .before .loop .k) (c .before .loop .first) (c .before .loop .inv .2)
+    (rw (length-split (take (start .args .n) (start .args .counts .now)) (split (start .args .lengths .now) (start .args .uses .now)), length-take-le (start .args .n) (start .args .counts .now) (start .pre .1 .0 .0)) (omega arith))))
 
 pub check-faces-spec : {M : Type 1} → statement M
-check-faces-spec =
-    tie.close
-    (tie.spec
-    Inv-loop
-    μ-loop
-    loop-holds
-    (λ c. search needs)
-    (λ c. search needs)
-    (λ c κs. search needs)
-    add-part
-    mul-part
-    (λ c. search needs)
-    (λ c. search needs)
-    part-part-end
-    sum-of-requires
-    add-check-face
-    mul-check-face
-    (λ c. search needs)
-    (λ c. search needs)
-    part-check-face-end
-    (λ c. search needs)
-    add-check-face-2
-    add-check-face-3
-    check-face-requires
-    (λ c. search needs)
-    returns
-    (λ c. search needs)
-    add-at
-    add-first
-    (λ c. search needs)
-    (λ c. search needs)
-    loop-again
-    returns-2)
+check-faces-spec = tie.close (tie.spec Inv-loop μ-loop loop-holds (λ c. search needs) (λ c. search needs) (λ c κs. search needs) add-part
+    mul-part (λ c. search needs) (λ c. search needs) part-part-end sum-of-requires add-check-face mul-check-face (λ c. search needs)
+    (λ c. search needs) part-check-face-end (λ c. search needs) add-check-face-2 add-check-face-3 check-face-requires (λ c. search needs)
+    returns (λ c. search needs) add-at add-first (λ c. search needs) (λ c. search needs) loop-again returns-2)

@@ -27,14 +27,13 @@ abbrev μ-loop : tie.MeasureT-loop
 -- the uses of wire k end inside the list
 fits : (c : tie.After-index Inv-loop μ-loop) → c .before .before .before .loop .at + c .index .result ≤ length (c .before .before .before .before .before .before .before .before .before .args .uses .now)
 fits c =
-    let l = c .before .before .before .loop in
-    omega (arith, walk-fits (c .before .before .before .before .before .before .before .before .before .args .lengths .now) (l .k) (l .at) (c .index .result) (l .inv .0) (c .before .before .loop-test .taken) (c .index .ensures .0))
+    omega (arith, walk-fits _ _ _ _ (c .before .before .before .loop .inv .0) (c .before .before .loop-test .taken) (c .index .ensures .0))
 
 loop-holds : tie.Need-loop-holds Inv-loop μ-loop
 loop-holds c =
-    let a = c .before .before .before .before .before .args in
-    let z : a .stamp + 0 ≡ a .stamp = omega arith in
-    (walk-start (a .lengths .now), passed-start (outlineFaults (a .fronts .now) (a .backs .now)) [] _ (a .first), c .before .before .before .before .before .pre .1 .1 .0, rw z (c .before .before .before .before .before .pre .1 .1 .1))
+    let start = c .before .before .before .before .before in
+    let z : start .args .stamp + 0 ≡ start .args .stamp = omega arith in
+    (walk-start _, passed-start (outlineFaults _ _) [] _ _, start .pre .1 .1 .0, rw z (start .pre .1 .1 .1))
 
 add-check-wire : tie.Need-add-check-wire Inv-loop μ-loop
 add-check-wire c = omega (arith, fits c)
@@ -47,17 +46,18 @@ part-check-wire-end c = omega (arith, fits c)
 
 check-wire-requires : tie.Need-check-wire-requires Inv-loop μ-loop
 check-wire-requires c κs =
-    let a = c .before .before .before .before .before .before .before .before .before .before .before .args in
-    let v = c .before .before .before .before .before .loop .inv in
-    (named-part (a .fronts .now) (a .backs .now) (a .uses .now) (c .before .before .before .before .before .before .before .before .before .before .before .pre .0) (c .before .before .before .before .before .loop .at) (c .before .before .before .before .before .loop .at + c .before .before .index .result - c .before .before .before .before .before .loop .at), (v .2, v .3))
+    let loop = c .before .before .before .before .before .loop in
+    (named-part _ _ _ (c .before .before .before .before .before .before .before .before .before .before .before .pre .0) (loop .at) (loop .at + c .before .before .index .result - loop .at), (loop .inv .2, loop .inv .3))
 
 returns : tie.Need-returns Inv-loop μ-loop
 returns c =
-    let a = c .before .before .before .before .before .before .before .before .before .before .before .before .before .before .before .before .before .args in
-    let l = c .before .before .before .before .before .before .before .before .before .before .before .loop in (
-      sym (outline-stop (a .fronts .now) (a .backs .now) (a .lengths .now) (a .uses .now) (a .first) (l .k) (l .at) (c .before .before .before .before .before .before .before .before .index .result) (l .inv .1) (l .inv .0)
-          (c .before .before .before .before .before .before .before .before .before .before .loop-test .taken) (c .before .before .before .before .before .before .before .before .index .ensures .0) _ (sym (c .before .before .before .before .before .check-wire .ensures .0) ∙ c .before .answer .given .1)),
-      below-later (a .stamp + l .k + 1) _ (c .before .before .before .before .before .check-wire .last .1 .1 .1 .0) (c .before .before .before .before .before .check-wire .ensures .1) (omega arith),
+    let args = c .before .before .before .before .before .before .before .before .before .before .before .before .before .before .before .before .before .args in
+    let loop = c .before .before .before .before .before .before .before .before .before .before .before .loop in
+    let index = c .before .before .before .before .before .before .before .before .index in
+    let check-wire = c .before .before .before .before .before .check-wire in (
+      sym (outline-stop (args .fronts .now) (args .backs .now) (args .lengths .now) (args .uses .now) (args .first) (loop .k) (loop .at) (index .result) (loop .inv .1) (loop .inv .0)
+          (c .before .before .before .before .before .before .before .before .before .before .loop-test .taken) (index .ensures .0) _ (sym (check-wire .ensures .0) ∙ c .before .answer .given .1)),
+      below-later (args .stamp + loop .k + 1) _ (check-wire .last .1 .1 .1 .0) (check-wire .ensures .1) (omega arith),
     )
 
 add-at : tie.Need-add-at Inv-loop μ-loop
@@ -65,49 +65,25 @@ add-at c = omega (arith, fits (c .before .before .before .before .before .before
 
 loop-again : tie.Need-loop-again Inv-loop μ-loop
 loop-again c =
-    let a = c .before .before .before .before .before .before .before .before .before .before .before .before .before .before .before .before .args in
-    let l = c .before .before .before .before .before .before .before .before .before .before .loop in (
-      walk-next (a .lengths .now) (l .k) (l .at) (c .before .before .before .before .before .before .before .index .result) (l .inv .0) (c .before .before .before .before .before .before .before .before .before .loop-test .taken) (c .before .before .before .before .before .before .before .index .ensures .0),
-      outline-next (a .fronts .now) (a .backs .now) (a .lengths .now) (a .uses .now) (a .first) (l .k) (l .at) (c .before .before .before .before .before .before .before .index .result) (l .inv .1) (l .inv .0)
-          (c .before .before .before .before .before .before .before .before .before .loop-test .taken) (c .before .before .before .before .before .before .before .index .ensures .0) (sym (c .before .before .before .before .check-wire .ensures .0) ∙ c .enum-told .given .1),
+    let args = c .before .before .before .before .before .before .before .before .before .before .before .before .before .before .before .before .args in
+    let loop = c .before .before .before .before .before .before .before .before .before .before .loop in
+    let loop-test = c .before .before .before .before .before .before .before .before .before .loop-test in
+    let index = c .before .before .before .before .before .before .before .index in let check-wire = c .before .before .before .before .check-wire in (
+      walk-next (args .lengths .now) (loop .k) (loop .at) (index .result) (loop .inv .0) (loop-test .taken) (index .ensures .0),
+      outline-next (args .fronts .now) (args .backs .now) (args .lengths .now) (args .uses .now) (args .first) (loop .k) (loop .at) (index .result) (loop .inv .1) (loop .inv .0)
+          (loop-test .taken) (index .ensures .0) (sym (check-wire .ensures .0) ∙ c .enum-told .given .1),
       search needs,
-      below-later (a .stamp + l .k + 1) _ (c .before .before .before .before .check-wire .last .1 .1 .1 .0) (c .before .before .before .before .check-wire .ensures .1) (omega arith),
+      below-later (args .stamp + loop .k + 1) _ (check-wire .last .1 .1 .1 .0) (check-wire .ensures .1) (omega arith),
     )
 
 returns-2 : tie.Need-returns-2 Inv-loop μ-loop
-returns-2 c =
-    let a = c .before .before .before .before .before .before .before .args in
-    let l = c .before .loop in (
-      ap first (sym (passed-all (outlineFaults (a .fronts .now) (a .backs .now)) [] (split (a .lengths .now) (a .uses .now)) (a .first) (l .k) (l .inv .1) (rw (length-split (a .lengths .now) (a .uses .now)) (omega arith)))),
-      below-later (a .stamp + l .k) _ (l .marks) (l .inv .3) (omega (arith, l .inv .0 .low)),
-    )
+returns-2 c = (
+  ap first (sym (passed-all (outlineFaults _ _) [] (split _ _) _ _ (c .before .loop .inv .1) (rw (length-split _ _) (omega arith)))),
+  below-later (c .before .before .before .before .before .before .before .args .stamp + c .before .loop .k) _ (c .before .loop .marks) (c .before .loop .inv .3) (omega (arith, c .before .loop .inv .0 .low)),
+)
 
 pub check-wires-spec : {M : Type 1} → statement M
-check-wires-spec =
-    tie.close
-    (tie.spec
-    Inv-loop
-    μ-loop
-    loop-holds
-    (λ c. search needs)
-    (λ c. search needs)
-    (λ c κs. search needs)
-    add-check-wire
-    mul-check-wire
-    (λ c. search needs)
-    (λ c. search needs)
-    part-check-wire-end
-    (λ c. search needs)
-    (λ c. search needs)
-    check-wire-requires
-    (λ c. search needs)
-    (λ c. search needs)
-    (λ c. search needs)
-    returns
-    (λ c. search needs)
-    add-at
-    (λ c. search needs)
-    (λ c. search needs)
-    loop-again
-    (λ c. search needs)
-    returns-2)
+check-wires-spec = tie.close (tie.spec Inv-loop μ-loop loop-holds (λ c. search needs) (λ c. search needs) (λ c κs. search needs)
+    add-check-wire mul-check-wire (λ c. search needs) (λ c. search needs) part-check-wire-end (λ c. search needs) (λ c. search needs)
+    check-wire-requires (λ c. search needs) (λ c. search needs) (λ c. search needs) returns (λ c. search needs) add-at (λ c. search needs)
+    (λ c. search needs) loop-again (λ c. search needs) returns-2)

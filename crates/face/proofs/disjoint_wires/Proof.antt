@@ -24,16 +24,14 @@ abbrev μ-loop : tie.MeasureT-loop
 -- the uses of wire k end inside the list
 fits : (c : tie.After-index Inv-loop μ-loop) → c .before .before .before .loop .start + c .index .result ≤ length (c .before .before .before .before .before .before .before .before .before .args .uses .now)
 fits c =
-    let l = c .before .before .before .loop in
-    omega (arith, walk-fits (c .before .before .before .before .before .before .before .before .before .args .lengths .now) (l .k) (l .start) (c .index .result) (l .inv .0) (c .before .before .loop-test .taken) (c .index .ensures .0))
+    omega (arith, walk-fits _ _ _ _ (c .before .before .before .loop .inv .0) (c .before .before .loop-test .taken) (c .index .ensures .0))
 
 loop-holds : tie.Need-loop-holds Inv-loop μ-loop
 loop-holds c =
-    let a = c .before .before .before .before .before .args in
-    let pre = c .before .before .before .before .before .pre in (
-      walk-start (a .lengths .now),
-      apart-start (a .fronts .now) (a .backs .now) (split (a .lengths .now) (a .uses .now)) (a .first) (a .stamp) (a .marks .now) (pre .1 .1 .0) (pre .1 .1 .1 .0),
-      below-later (a .stamp) (a .stamp + 1) (a .marks .now) (pre .1 .1 .1 .0) (omega arith),
+    let start = c .before .before .before .before .before in (
+      walk-start (start .args .lengths .now),
+      apart-start (start .args .fronts .now) (start .args .backs .now) (split (start .args .lengths .now) (start .args .uses .now)) (start .args .first) (start .args .stamp) (start .args .marks .now) (start .pre .1 .1 .0) (start .pre .1 .1 .1 .0),
+      below-later (start .args .stamp) (start .args .stamp + 1) (start .args .marks .now) (start .pre .1 .1 .1 .0) (omega arith),
     )
 
 add-stamp-points : tie.Need-add-stamp-points Inv-loop μ-loop
@@ -47,17 +45,17 @@ part-stamp-points-end c = omega (arith, fits c)
 
 stamp-points-requires : tie.Need-stamp-points-requires Inv-loop μ-loop
 stamp-points-requires c κs =
-    let a = c .before .before .before .before .before .before .before .before .before .before .before .args in
-    (named-part (a .fronts .now) (a .backs .now) (a .uses .now) (c .before .before .before .before .before .before .before .before .before .before .before .pre .0) (c .before .before .before .before .before .loop .start) (c .before .before .before .before .before .loop .start + c .before .before .index .result - c .before .before .before .before .before .loop .start), c .before .before .before .before .before .loop .inv .1 .marked .long)
+    let loop = c .before .before .before .before .before .loop in
+    (named-part _ _ _ (c .before .before .before .before .before .before .before .before .before .before .before .pre .0) (loop .start) (loop .start + c .before .before .index .result - loop .start), loop .inv .1 .marked .long)
 
 returns : tie.Need-returns Inv-loop μ-loop
 returns c =
-    let a = c .before .before .before .before .before .before .before .before .before .before .before .before .before .before .before .args in
-    let l = c .before .before .before .before .before .before .before .before .before .loop in
-    let said = c .before .before .before .stamp-points .ensures in (
-      sym (apart-stop (a .fronts .now) (a .backs .now) (a .lengths .now) (a .uses .now) (a .first) (a .stamp) (l .marks) (l .k) (l .start) (c .before .before .before .before .before .before .index .result) (l .inv .1) (l .inv .0)
-          (c .before .before .before .before .before .before .before .before .loop-test .taken) (c .before .before .before .before .before .before .index .ensures .0) (c .before .before .before .before .before .before .before .before .before .before .before .before .before .before .before .pre .0) (c .before .before .before .before .before .before .before .before .before .before .before .before .before .before .before .pre .1 .1 .1 .1) (sym (said .0) ∙ c .if1 .taken)),
-      rw (said .1) (below-stamped (a .stamp) (a .stamp + 1) _ (l .marks) (l .inv .2) (omega arith)),
+    let start = c .before .before .before .before .before .before .before .before .before .before .before .before .before .before .before in
+    let loop = c .before .before .before .before .before .before .before .before .before .loop in
+    let index = c .before .before .before .before .before .before .index in let stamp-points = c .before .before .before .stamp-points in (
+      sym (apart-stop (start .args .fronts .now) (start .args .backs .now) (start .args .lengths .now) (start .args .uses .now) (start .args .first) (start .args .stamp) (loop .marks) (loop .k) (loop .start) (index .result) (loop .inv .1) (loop .inv .0)
+          (c .before .before .before .before .before .before .before .before .loop-test .taken) (index .ensures .0) (start .pre .0) (start .pre .1 .1 .1 .1) (sym (stamp-points .ensures .0) ∙ c .if1 .taken)),
+      rw (stamp-points .ensures .1) (below-stamped (start .args .stamp) (start .args .stamp + 1) _ (loop .marks) (loop .inv .2) (omega arith)),
     )
 
 add-start : tie.Need-add-start Inv-loop μ-loop
@@ -65,44 +63,22 @@ add-start c = omega (arith, fits (c .before .before .before .before .before .bef
 
 loop-again : tie.Need-loop-again Inv-loop μ-loop
 loop-again c =
-    let a = c .before .before .before .before .before .before .before .before .before .before .before .before .before .before .before .args in
-    let l = c .before .before .before .before .before .before .before .before .before .loop in
-    let said = c .before .before .before .stamp-points .ensures in (
-      walk-next (a .lengths .now) (l .k) (l .start) (c .before .before .before .before .before .before .index .result) (l .inv .0) (c .before .before .before .before .before .before .before .before .loop-test .taken) (c .before .before .before .before .before .before .index .ensures .0),
-      rw (said .1) (apart-next (a .fronts .now) (a .backs .now) (a .lengths .now) (a .uses .now) (a .first) (a .stamp) (l .marks) (l .k) (l .start) (c .before .before .before .before .before .before .index .result) (l .inv .1) (l .inv .0)
-          (c .before .before .before .before .before .before .before .before .loop-test .taken) (c .before .before .before .before .before .before .index .ensures .0) (c .before .before .before .before .before .before .before .before .before .before .before .before .before .before .before .pre .0) (c .before .before .before .before .before .before .before .before .before .before .before .before .before .before .before .pre .1 .1 .1 .1) (sym (said .0) ∙ c .if1 .left)),
-      rw (said .1) (below-stamped (a .stamp) (a .stamp + 1) _ (l .marks) (l .inv .2) (omega arith)),
+    let start = c .before .before .before .before .before .before .before .before .before .before .before .before .before .before .before in
+    let loop = c .before .before .before .before .before .before .before .before .before .loop in
+    let loop-test = c .before .before .before .before .before .before .before .before .loop-test in
+    let index = c .before .before .before .before .before .before .index in let stamp-points = c .before .before .before .stamp-points in (
+      walk-next (start .args .lengths .now) (loop .k) (loop .start) (index .result) (loop .inv .0) (loop-test .taken) (index .ensures .0),
+      rw (stamp-points .ensures .1) (apart-next (start .args .fronts .now) (start .args .backs .now) (start .args .lengths .now) (start .args .uses .now) (start .args .first) (start .args .stamp) (loop .marks) (loop .k) (loop .start) (index .result) (loop .inv .1) (loop .inv .0)
+          (loop-test .taken) (index .ensures .0) (start .pre .0) (start .pre .1 .1 .1 .1) (sym (stamp-points .ensures .0) ∙ c .if1 .left)),
+      rw (stamp-points .ensures .1) (below-stamped (start .args .stamp) (start .args .stamp + 1) _ (loop .marks) (loop .inv .2) (omega arith)),
     )
 
 returns-2 : tie.Need-returns-2 Inv-loop μ-loop
 returns-2 c =
-    let a = c .before .before .before .before .before .before .before .args in
-    let l = c .before .loop in
-    (ap first (sym (apart-all (a .fronts .now) (a .backs .now) (split (a .lengths .now) (a .uses .now)) (a .first) (a .stamp) (l .marks) (l .k) (l .inv .1) (rw (length-split (a .lengths .now) (a .uses .now)) (omega arith)))), l .inv .2)
+    (ap first (sym (apart-all _ _ (split _ _) _ _ _ _ (c .before .loop .inv .1) (rw (length-split _ _) (omega arith)))), c .before .loop .inv .2)
 
 pub disjoint-wires-spec : {M : Type 1} → statement M
-disjoint-wires-spec =
-    tie.close
-    (tie.spec
-    Inv-loop
-    μ-loop
-    loop-holds
-    (λ c. search needs)
-    (λ c. search needs)
-    (λ c κs. search needs)
-    add-stamp-points
-    mul-stamp-points
-    (λ c. search needs)
-    (λ c. search needs)
-    part-stamp-points-end
-    (λ c. search needs)
-    stamp-points-requires
-    (λ c. search needs)
-    (λ c. search needs)
-    returns
-    add-start
-    (λ c. search needs)
-    (λ c. search needs)
-    loop-again
-    (λ c. search needs)
-    returns-2)
+disjoint-wires-spec = tie.close (tie.spec Inv-loop μ-loop loop-holds (λ c. search needs) (λ c. search needs) (λ c κs. search needs)
+    add-stamp-points mul-stamp-points (λ c. search needs) (λ c. search needs) part-stamp-points-end (λ c. search needs)
+    stamp-points-requires (λ c. search needs) (λ c. search needs) returns add-start (λ c. search needs) (λ c. search needs) loop-again
+    (λ c. search needs) returns-2)

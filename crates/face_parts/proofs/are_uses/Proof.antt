@@ -25,39 +25,24 @@ abbrev μ-loop : tie.MeasureT-loop
 
 loop-holds : tie.Need-loop-holds Inv-loop μ-loop
 loop-holds c =
-    let a = c .before .args in passed-start (names (a .edges)) (a .wire .now)
+    passed-start (names _) (c .before .args .wire .now)
 
 returns : tie.Need-returns Inv-loop μ-loop
 returns c =
-    let a = c .before .before .before .before .before .before .args in
-    let i = c .before .before .before .before .loop .i in
-    let u = getD (a .wire .now) i 0 in
-    passed-stop (names (a .edges)) 0 (a .wire .now) i (c .before .before .before .loop-test .taken) (le-ltb (edgeNumber u) (a .edges) (omega arith))
+    let args = c .before .before .before .before .before .before .args in let loop = c .before .before .before .before .loop in
+    let u = getD (args .wire .now) (loop .i) 0 in
+    passed-stop (names (args .edges)) 0 (args .wire .now) (loop .i) (c .before .before .before .loop-test .taken) (le-ltb (edgeNumber u) (args .edges) (omega arith))
 
 loop-again : tie.Need-loop-again Inv-loop μ-loop
 loop-again c =
-    let a = c .before .before .before .before .before .before .args in
-    let i = c .before .before .before .before .loop .i in
-    let u = getD (a .wire .now) i 0 in
-    passed-next (names (a .edges)) 0 (a .wire .now) i (c .before .before .before .loop-test .taken) (c .before .before .before .before .loop .inv) (lt-ltb (edgeNumber u) (a .edges) (omega arith))
+    let args = c .before .before .before .before .before .before .args in let loop = c .before .before .before .before .loop in
+    let u = getD (args .wire .now) (loop .i) 0 in
+    passed-next (names (args .edges)) 0 (args .wire .now) (loop .i) (c .before .before .before .loop-test .taken) (loop .inv) (lt-ltb (edgeNumber u) (args .edges) (omega arith))
 
 returns-2 : tie.Need-returns-2 Inv-loop μ-loop
 returns-2 c =
-    let a = c .before .before .before .args in
-    passed-all (names (a .edges)) (a .wire .now) (c .before .loop .i) (c .before .loop .inv) (c .loop-test .left)
+    passed-all (names _) _ _ (c .before .loop .inv) (c .loop-test .left)
 
 pub are-uses-spec : {M : Type 1} → statement M
-are-uses-spec =
-    tie.close
-    (tie.spec
-    Inv-loop
-    μ-loop
-    loop-holds
-    (λ c. search needs)
-    (λ c. search needs)
-    (λ c κs. search needs)
-    returns
-    (λ c. search needs)
-    (λ c. search needs)
-    loop-again
-    returns-2)
+are-uses-spec = tie.close (tie.spec Inv-loop μ-loop loop-holds (search needs) (search needs) (search needs) returns (search needs)
+    (search needs) loop-again returns-2)

@@ -8,5 +8,4 @@ returns c =
     rw (c .before .before .before .fronts-of .ensures, c .before .before .backs-of .ensures, c .wire-counts .ensures)
 
 pub face-columns-spec : {M : Type 1} → statement M
-face-columns-spec =
-    tie.close (tie.spec (λ c κs. search needs) (λ c κs. search needs) (λ c κs. search needs) returns)
+face-columns-spec = tie.close (tie.spec (search needs) (search needs) (search needs) returns)

@@ -61,25 +61,7 @@ returns-3 c =
     put-short (a .out .now) (a .at) 160 _ _ (refused-is (f .0 .0) (n .result) (f .1) (n .ensures)) q (omega (arith, q .1, decimal-20 (n .result) (omega arith), e .2))
 
 pub put-fault-spec : {M : Type 1} → statement M
-put-fault-spec =
-    tie.close
-    (tie.spec
-    (λ c. search needs)
-    (λ c. search needs)
-    (λ c κs. search needs)
-    (λ c. search needs)
-    returns
-    (λ c. search needs)
-    put-field-requires
-    (λ c. search needs)
-    put-text-requires-2
-    put-form-requires
-    (λ c. search needs)
-    (λ c κs. search needs)
-    (λ c. search needs)
-    put-field-requires-2
-    put-meaning-requires
-    (λ c. search needs)
-    returns-2
-    (λ c. search needs)
+put-fault-spec = tie.close (tie.spec (λ c. search needs) (λ c. search needs) (λ c κs. search needs) (λ c. search needs) returns
+    (λ c. search needs) put-field-requires (λ c. search needs) put-text-requires-2 put-form-requires (λ c. search needs)
+    (λ c κs. search needs) (λ c. search needs) put-field-requires-2 put-meaning-requires (λ c. search needs) returns-2 (λ c. search needs)
     returns-3)

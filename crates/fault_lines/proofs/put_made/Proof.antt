@@ -40,17 +40,5 @@ returns-3 c =
     (p .0, omega (arith, p .1), omega (arith, p .2))
 
 pub put-made-spec : {M : Type 1} → statement M
-put-made-spec =
-    tie.close
-    (tie.spec
-    (λ c. search needs)
-    (λ c. search needs)
-    (λ c. search needs)
-    (λ c κs. search needs)
-    (λ c. search needs)
-    (λ c. search needs)
-    put-field-requires
-    put-fault-requires
-    returns
-    returns-2
-    returns-3)
+put-made-spec = tie.close (tie.spec (λ c. search needs) (λ c. search needs) (λ c. search needs) (λ c κs. search needs) (λ c. search needs)
+    (λ c. search needs) put-field-requires put-fault-requires returns returns-2 returns-3)

@@ -40,38 +40,8 @@ unfolding meaning
 returns-8 c = put-short (c .before .before .before .before .before .before .before .before .before .before .before .before .before .args .out .now) (c .before .before .before .before .before .before .before .before .before .before .before .before .before .args .at) 80 _ _ (meaning-last (c .before .before .before .before .before .before .before .before .before .before .before .before .before .args .n) (c .before .before .before .before .before .before .before .before .before .before .before .if1 .left) (c .before .before .before .before .before .before .before .before .before .before .if2 .left) (c .before .before .before .before .before .before .before .before .before .if3 .left) (c .before .before .before .before .before .before .before .before .if4 .left) (c .before .before .before .before .before .before .before .if5 .left) (c .before .before .before .before .before .before .if6 .left) (c .before .before .before .before .before .if7 .left)) (c .before .before .put-text8 .ensures) (omega arith)
 
 pub put-meaning-spec : {M : Type 1} → statement M
-put-meaning-spec =
-    tie.close
-    (tie.spec
-    (λ c. search needs)
-    (λ c κs. search needs)
-    (λ c. search needs)
-    returns
-    (λ c. search needs)
-    (λ c κs. search needs)
-    (λ c. search needs)
-    returns-2
-    (λ c. search needs)
-    (λ c κs. search needs)
-    (λ c. search needs)
-    returns-3
-    (λ c. search needs)
-    (λ c κs. search needs)
-    (λ c. search needs)
-    returns-4
-    (λ c. search needs)
-    (λ c κs. search needs)
-    (λ c. search needs)
-    returns-5
-    (λ c. search needs)
-    (λ c κs. search needs)
-    (λ c. search needs)
-    returns-6
-    (λ c. search needs)
-    (λ c κs. search needs)
-    (λ c. search needs)
-    returns-7
-    (λ c. search needs)
-    (λ c κs. search needs)
-    (λ c. search needs)
-    returns-8)
+put-meaning-spec = tie.close (tie.spec (λ c. search needs) (λ c κs. search needs) (λ c. search needs) returns (λ c. search needs)
+    (λ c κs. search needs) (λ c. search needs) returns-2 (λ c. search needs) (λ c κs. search needs) (λ c. search needs) returns-3
+    (λ c. search needs) (λ c κs. search needs) (λ c. search needs) returns-4 (λ c. search needs) (λ c κs. search needs) (λ c. search needs)
+    returns-5 (λ c. search needs) (λ c κs. search needs) (λ c. search needs) returns-6 (λ c. search needs) (λ c κs. search needs)
+    (λ c. search needs) returns-7 (λ c. search needs) (λ c κs. search needs) (λ c. search needs) returns-8)

@@ -16,10 +16,12 @@ room : (t : tie.After-starts-of) (b : ℕ) → b < 7
 room t b h = body-inside (t .before .before .before .before .before .before .before .before .before .before .args .s .now) (t .before .before .before .before .before .before .before .before .before .before .pre .0) (t .before .counts-of .result) (t .starts-of .result) (t .before .counts-of .ensures) (t .starts-of .ensures) b h
 
 counts-of-requires : tie.Need-counts-of-requires
-counts-of-requires c κs = table-long (c .before .before .before .before .before .before .before .before .args .s .now) (c .before .before .before .before .before .before .before .before .pre .0)
+counts-of-requires c κs = let start = c .before .before .before .before .before .before .before .before in
+    table-long (start .args .s .now) (start .pre .0)
 
 starts-of-requires : tie.Need-starts-of-requires
-starts-of-requires c κs = rw (c .counts-of .ensures) (table-counts (c .before .before .before .before .before .before .before .before .before .args .s .now) (c .before .before .before .before .before .before .before .before .before .pre .0))
+starts-of-requires c κs = let start = c .before .before .before .before .before .before .before .before .before in
+    rw (c .counts-of .ensures) (table-counts (start .args .s .now) (start .pre .0))
 
 read-u16s-requires : tie.Need-read-u16s-requires
 read-u16s-requires c κs = let r = room (c .before) 1 (omega arith) in (omega (arith, r .0), omega (arith, r .1, ap length (c .before .before .before .before .before .before .before .before .before .before .before .pre .1 .0), length-replicate {A = ℕ} 1024 0))
@@ -47,7 +49,8 @@ read-u16s-requires-7 c κs = let r = room (c .before .before .before .before .be
 
 returns : tie.Need-returns
 returns c =
-    tables (c .before .before .before .before .before .before .before .before .before .before .before .before .before .before .before .before .before .before .before .before .before .before .before .before .before .before .before .before .before .before .before .before .before .before .before .before .before .before .args .s .now) (c .before .before .before .before .before .before .before .before .before .before .before .before .before .before .before .before .before .before .before .before .before .before .before .before .before .before .before .before .before .before .before .before .before .before .before .before .before .before .pre .0) (c .before .before .before .before .before .before .before .before .before .before .before .before .before .before .before .before .before .before .before .before .before .before .before .before .before .before .before .before .before .counts-of .result) (c .before .before .before .before .before .before .before .before .before .before .before .before .before .before .before .before .before .before .before .before .before .before .before .before .before .before .before .before .starts-of .result) (c .before .before .before .before .before .before .before .before .before .before .before .before .before .before .before .before .before .before .before .before .before .before .before .before .before .before .before .before .before .counts-of .ensures) (c .before .before .before .before .before .before .before .before .before .before .before .before .before .before .before .before .before .before .before .before .before .before .before .before .before .before .before .before .starts-of .ensures) _ _ _ _ _ _ _ (c .before .before .before .before .before .before .before .before .before .before .before .before .before .before .before .before .before .before .before .before .before .before .before .before .before .before .before .before .before .before .before .before .before .before .before .before .before .before .pre .1) _ _ _ _ _ _ _
+    let start = c .before .before .before .before .before .before .before .before .before .before .before .before .before .before .before .before .before .before .before .before .before .before .before .before .before .before .before .before .before .before .before .before .before .before .before .before .before .before in
+    tables (start .args .s .now) (start .pre .0) _ _ (c .before .before .before .before .before .before .before .before .before .before .before .before .before .before .before .before .before .before .before .before .before .before .before .before .before .before .before .before .before .counts-of .ensures) (c .before .before .before .before .before .before .before .before .before .before .before .before .before .before .before .before .before .before .before .before .before .before .before .before .before .before .before .before .starts-of .ensures) _ _ _ _ _ _ _ (start .pre .1) _ _ _ _ _ _ _
     (c .before .before .before .before .before .before .before .before .before .before .before .before .before .before .before .before .before .before .before .before .before .before .before .before .before .before .read-u16s .ensures)
     (c .before .before .before .before .before .before .before .before .before .before .before .before .before .before .before .before .before .before .before .before .before .before .read-u16s2 .ensures)
     (c .before .before .before .before .before .before .before .before .before .before .before .before .before .before .before .before .before .before .read-u16s3 .ensures)
@@ -57,38 +60,8 @@ returns c =
     (c .before .before .read-u16s7 .ensures)
 
 pub read-columns-spec : {M : Type 1} → statement M
-read-columns-spec =
-    tie.close
-    (tie.spec
-    counts-of-requires
-    starts-of-requires
-    (λ c. search needs)
-    (λ c. search needs)
-    read-u16s-requires
-    (λ c. search needs)
-    add-read-u16s
-    (λ c. search needs)
-    read-u16s-requires-2
-    (λ c. search needs)
-    (λ c. search needs)
-    read-u16s-requires-3
-    (λ c. search needs)
-    (λ c. search needs)
-    read-u16s-requires-4
-    (λ c. search needs)
-    (λ c. search needs)
-    read-u16s-requires-5
-    (λ c. search needs)
-    (λ c. search needs)
-    read-u16s-requires-6
-    (λ c. search needs)
-    (λ c. search needs)
-    read-u16s-requires-7
-    (λ c. search needs)
-    (λ c. search needs)
-    (λ c. search needs)
-    (λ c. search needs)
-    (λ c. search needs)
-    (λ c. search needs)
-    (λ c. search needs)
-    returns)
+read-columns-spec = tie.close (tie.spec counts-of-requires starts-of-requires (search needs) (search needs) read-u16s-requires
+    (search needs) add-read-u16s (search needs) read-u16s-requires-2 (search needs) (search needs) read-u16s-requires-3 (search needs)
+    (search needs) read-u16s-requires-4 (search needs) (search needs) read-u16s-requires-5 (search needs) (search needs)
+    read-u16s-requires-6 (search needs) (search needs) read-u16s-requires-7 (search needs) (search needs) (search needs) (search needs)
+    (search needs) (search needs) (search needs) returns)

@@ -19,28 +19,14 @@ check-file-requires : tie.Need-check-file-requires
 check-file-requires c κs = (right (c .before .before .before .before .before .before .before .before .before .before .before .before .before .before .before .before .before .before .before .before .before .before .before .before .before .before .before .before .before), c .before .before .before .before .before .before .before .before .before .before .before .before .before .before .before .before .before .before .before .before .before .read-columns .ensures)
 
 returns : tie.Need-returns
-returns c = let f = c .before .before .before .before .before .before .before .before .before .before .before .before .args .file .now in
-    let h = refused-first (tableFaults f) (contentFaults (fileContent f)) _ (sym (c .before .before .before .check-table .ensures) ∙ c .before .table .given .1) in
-    (sym h, λ ok. absurd (refused-some (fileFaults f) h ok))
+returns c =
+    let args = c .before .before .before .before .before .before .before .before .before .before .before .before .args in
+    let h = refused-first (tableFaults (args .file .now)) (contentFaults (fileContent (args .file .now))) _ (sym (c .before .before .before .check-table .ensures) ∙ c .before .table .given .1) in
+    (sym h, λ ok. absurd (refused-some (fileFaults (args .file .now)) h ok))
 
 returns-2 : tie.Need-returns-2
 returns-2 c = (c .check-file .ensures ∙ content-first (c .before .before .before .before .before .before .before .before .before .before .before .before .before .before .before .before .before .before .before .before .before .before .before .before .before .before .before .before .before .before .before .before .before .before .before .before .before .before .before .before .before .args .file .now) (right (c .before .before .before .before .before .before .before .before .before .before .before .before .before .before .before .before .before .before .before .before .before .before .before .before .before .before .before .before .before .before)), λ ok. c .before .before .before .before .before .before .before .before .before .before .before .before .before .before .before .before .before .before .before .before .before .before .read-columns .ensures)
 
 pub read-file-spec : {M : Type 1} → statement M
-read-file-spec =
-    tie.close
-    (tie.spec
-    (λ c κs. search needs)
-    (λ c. search needs)
-    (λ c. search needs)
-    read-columns-requires
-    check-file-requires
-    returns
-    (λ c. search needs)
-    (λ c. search needs)
-    (λ c. search needs)
-    (λ c. search needs)
-    (λ c. search needs)
-    (λ c. search needs)
-    (λ c. search needs)
-    returns-2)
+read-file-spec = tie.close (tie.spec (search needs) (search needs) (search needs) read-columns-requires check-file-requires returns
+    (search needs) (search needs) (search needs) (search needs) (search needs) (search needs) (search needs) returns-2)

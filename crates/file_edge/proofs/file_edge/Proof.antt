@@ -13,10 +13,11 @@ use Rattle.file_edge.proofs.file_edge.Tie as tie
 
 -- it ends within the file
 room : (c : tie.After-starts-of) → getD (c .starts-of .result) 1 0 + 20 * c .before .before .args .i + 20 ≤ length (c .before .before .args .file .now)
-room c = let s = c .before .before in edge-room (s .args .file .now) (s .pre .0) _ (s .pre .1) _ (c .starts-of .ensures) (s .args .i) (s .pre .2)
+room c = let start = c .before .before in
+    edge-room (start .args .file .now) (start .pre .0) _ (start .pre .1) _ (c .starts-of .ensures) _ (start .pre .2)
 
 starts-of-requires : tie.Need-starts-of-requires
-starts-of-requires c κs = let s = c .before in ap countFaults (s .pre .1) ∙ table-counts (s .args .file .now) (table-right (s .args .file .now) (s .pre .0))
+starts-of-requires c κs = ap countFaults (c .before .pre .1) ∙ table-counts (c .before .args .file .now) (table-right (c .before .args .file .now) (c .before .pre .0))
 
 mul-edge-at : tie.Need-mul-edge-at
 mul-edge-at c = omega (arith, room c)
@@ -28,9 +29,8 @@ edge-at-requires : tie.Need-edge-at-requires
 edge-at-requires c κs = room c
 
 returns : tie.Need-returns
-returns c = let s = c .before .before .before in edge-is (s .args .file .now) (s .pre .0) _ (s .pre .1) _ (c .before .starts-of .ensures) (s .args .i) (s .pre .2) (c .edge-at .ensures)
+returns c = let start = c .before .before .before in
+    edge-is (start .args .file .now) (start .pre .0) _ (start .pre .1) _ (c .before .starts-of .ensures) _ (start .pre .2) (c .edge-at .ensures)
 
 pub file-edge-spec : {M : Type 1} → statement M
-file-edge-spec =
-    tie.close
-    (tie.spec starts-of-requires (λ c. search needs) mul-edge-at add-edge-at edge-at-requires returns)
+file-edge-spec = tie.close (tie.spec starts-of-requires (search needs) mul-edge-at add-edge-at edge-at-requires returns)

@@ -13,20 +13,9 @@ unfolding flat
 returns c = rw (← c .before .before .before .before .read .ensures, c .before .before .checked .given .1) (c .unread .ensures, (refl, refl))
 
 returns-2 : tie.Need-returns-2
-returns-2 c = rw (← c .before .before .before .before .before .before .before .before .before .before .before .before .read .ensures, c .before .before .before .before .before .before .before .before .before .before .enum-told .given .1, ← c .before .before .before .before .before .cut-checked .ensures .0) (c .face-values .ensures, c .before .before .before .before .before .cut-checked .ensures .1)
+returns-2 c = let cut-checked = c .before .before .before .before .before .cut-checked in
+    rw (← c .before .before .before .before .before .before .before .before .before .before .before .before .read .ensures, c .before .before .before .before .before .before .before .before .before .before .enum-told .given .1, ← cut-checked .ensures .0) (c .face-values .ensures, cut-checked .ensures .1)
 
 pub file-cut-by-edge-spec : {M : Type 1} → statement M
-file-cut-by-edge-spec =
-    tie.close
-    (tie.spec
-    (λ c κs. search needs)
-    (λ c. search needs)
-    (λ c κs. search needs)
-    (λ c. search needs)
-    (λ c. search needs)
-    cut-checked-requires
-    (λ c κs. search needs)
-    returns
-    (λ c. search needs)
-    (λ c. search needs)
-    returns-2)
+file-cut-by-edge-spec = tie.close (tie.spec (search needs) (search needs) (search needs) (search needs) (search needs) cut-checked-requires
+    (search needs) returns (search needs) (search needs) returns-2)

@@ -23,38 +23,31 @@ inside : (c : tie.After-found2) → (edgeNumber (c .found2 .given .0 .1 .0 .endi
 inside c = of-edges (getD (c .before .before .before .before .before .before .before .before .before .before .before .args .t2) 1 0) (c .found2 .given .1) (c .before .before .find-pair .ensures .1)
 
 find-pair-requires : tie.Need-find-pair-requires
-find-pair-requires c κs = (stored (fileContent (c .before .before .before .before .before .before .before .before .args .file .now)), lent (c .before .before .before .before .before .before .before .before))
+find-pair-requires c κs = let start = c .before .before .before .before .before .before .before .before in
+    (stored (fileContent (start .args .file .now)), lent start)
 
 file-edge-requires : tie.Need-file-edge-requires
-file-edge-requires c κs = (c .before .before .before .before .before .before .before .before .before .before .before .before .before .before .pre .0, c .before .before .before .before .before .before .before .before .before .before .before .before .before .before .pre .1, omega (arith, c .index .ensures .0, inside (c .before .before .before) .0))
+file-edge-requires c κs =
+    let pre = c .before .before .before .before .before .before .before .before .before .before .before .before .before .before .pre in
+    (pre .0, pre .1, omega (arith, c .index .ensures .0, inside (c .before .before .before) .0))
 
 file-edge-requires-2 : tie.Need-file-edge-requires-2
-file-edge-requires-2 c κs = (c .before .before .before .before .before .before .before .before .before .before .before .before .before .before .before .before .before .pre .0, c .before .before .before .before .before .before .before .before .before .before .before .before .before .before .before .before .before .pre .1, omega (arith, c .index2 .ensures .0, inside (c .before .before .before .before .before .before) .1))
+file-edge-requires-2 c κs =
+    let pre = c .before .before .before .before .before .before .before .before .before .before .before .before .before .before .before .before .before .pre in
+    (pre .0, pre .1, omega (arith, c .index2 .ensures .0, inside (c .before .before .before .before .before .before) .1))
 
 returns : tie.Need-returns
-returns c = let s = c .before .before .before .before .before .before .before .before .before .before .before .before in
-    let p = stored (fileContent (s .args .file .now)) in
-    pair-refused (content p) (s .args .n) (s .args .v .0) (sym (c .before .found .given .1) ∙ c .before .before .before .find-pair .ensures .0 p (lent s))
+returns c =
+    let start = c .before .before .before .before .before .before .before .before .before .before .before .before in
+    let p = stored (fileContent (start .args .file .now)) in
+    pair-refused (content p) _ _ (sym (c .before .found .given .1) ∙ c .before .before .before .find-pair .ensures .0 p (lent start))
 
 returns-2 : tie.Need-returns-2
-returns-2 c = let s = c .before .before .before .before .before .before .before .before .before .before .before .before .before .before .before .before .before .before .before in
-    let f = s .args .file .now in
-    let p = stored (fileContent f) in
-    let k = c .before .before .before .before .before .before .before .before .found2 .given .0 .1 .0 in
-    pair-removed p _ _ _ _ _ _ _ _ (lent s) (s .args .n) (s .args .v .0) _ _ (sym (c .before .before .before .before .before .before .before .before .found2 .given .1) ∙ c .before .before .before .before .before .before .before .before .before .before .find-pair .ensures .0 p (lent s)) _ _ (edge-stored f (k .ending) (c .before .before .before .before .before .index .ensures .0) (c .before .before .before .before .file-edge .ensures)) (edge-stored f (k .next) (c .before .before .index2 .ensures .0) (c .before .file-edge2 .ensures)) _ (c .join-pair .ensures)
+returns-2 c =
+    let start = c .before .before .before .before .before .before .before .before .before .before .before .before .before .before .before .before .before .before .before in
+    let p = stored (fileContent (start .args .file .now)) in
+    pair-removed p _ _ _ _ _ _ _ _ (lent start) _ _ _ _ (sym (c .before .before .before .before .before .before .before .before .found2 .given .1) ∙ c .before .before .before .before .before .before .before .before .before .before .find-pair .ensures .0 p (lent start)) _ _ (edge-stored (start .args .file .now) _ (c .before .before .before .before .before .index .ensures .0) (c .before .before .before .before .file-edge .ensures)) (edge-stored (start .args .file .now) _ (c .before .before .index2 .ensures .0) (c .before .file-edge2 .ensures)) _ (c .join-pair .ensures)
 
 pub judge-file-spec : {M : Type 1} → statement M
-judge-file-spec =
-    tie.close
-    (tie.spec
-    find-pair-requires
-    (λ c. search needs)
-    (λ c. search needs)
-    (λ c κs. search needs)
-    file-edge-requires
-    (λ c κs. search needs)
-    file-edge-requires-2
-    (λ c. search needs)
-    (λ c κs. search needs)
-    returns
-    returns-2)
+judge-file-spec = tie.close (tie.spec find-pair-requires (search needs) (search needs) (search needs) file-edge-requires (search needs)
+    file-edge-requires-2 (search needs) (search needs) returns returns-2)

@@ -27,33 +27,21 @@ loop-holds : tie.Need-loop-holds Inv-loop μ-loop
 loop-holds c = (omega arith, passed-start (offsetFault (fileCounts (c .before .args .s .now))) 0 _ 0)
 
 returns : tie.Need-returns Inv-loop μ-loop
-returns c = wrong-offset (c .before .before .before .before .before .args .s .now) (c .before .before .before .loop .b) (c .before .before .before .loop .inv .1) (c .before .before .loop-test .taken) (λ e. c .if1 .taken (c .before .u32-at .ensures ∙ e ∙ sym (start-is (c .before .before .before .before .before) (c .before .before .before .loop .b) (omega arith))))
+returns c = let start = c .before .before .before .before .before in let loop = c .before .before .before .loop in
+    wrong-offset (start .args .s .now) (loop .b) (loop .inv .1) (c .before .before .loop-test .taken) (λ e. c .if1 .taken (c .before .u32-at .ensures ∙ e ∙ sym (start-is start (loop .b) (omega arith))))
 
 loop-again : tie.Need-loop-again Inv-loop μ-loop
-loop-again c = (omega arith, right-offset (c .before .before .before .before .before .args .s .now) (c .before .before .before .loop .b) (c .before .before .before .loop .inv .1) (c .before .before .loop-test .taken) (sym (c .before .u32-at .ensures) ∙ c .if1 .left ∙ start-is (c .before .before .before .before .before) (c .before .before .before .loop .b) (omega arith)))
+loop-again c = let start = c .before .before .before .before .before in let loop = c .before .before .before .loop in
+    (omega arith, right-offset (start .args .s .now) (loop .b) (loop .inv .1) (c .before .before .loop-test .taken) (sym (c .before .u32-at .ensures) ∙ c .if1 .left ∙ start-is start (loop .b) (omega arith)))
 
 returns-2 : tie.Need-returns-2 Inv-loop μ-loop
-returns-2 c = wrong-end (c .before .before .before .before .args .s .now) (c .before .before .loop .b) (c .before .before .loop .inv .1) (c .before .loop-test .left) (λ e. c .if2 .taken (e ∙ sym (start-is (c .before .before .before .before) 7 (omega arith))))
+returns-2 c = let start = c .before .before .before .before in
+    wrong-end (start .args .s .now) _ (c .before .before .loop .inv .1) (c .before .loop-test .left) (λ e. c .if2 .taken (e ∙ sym (start-is start 7 (omega arith))))
 
 returns-3 : tie.Need-returns-3 Inv-loop μ-loop
-returns-3 c = right-end (c .before .before .before .before .args .s .now) (c .before .before .loop .b) (c .before .before .loop .inv .1) (c .before .loop-test .left) (c .if2 .left ∙ start-is (c .before .before .before .before) 7 (omega arith))
+returns-3 c = let start = c .before .before .before .before in
+    right-end (start .args .s .now) _ (c .before .before .loop .inv .1) (c .before .loop-test .left) (c .if2 .left ∙ start-is start 7 (omega arith))
 
 pub check-offsets-spec : {M : Type 1} → statement M
-check-offsets-spec =
-    tie.close
-    (tie.spec
-    Inv-loop
-    μ-loop
-    loop-holds
-    (λ c. search needs)
-    (λ c κs. search needs)
-    (λ c. search needs)
-    (λ c. search needs)
-    (λ c. search needs)
-    returns
-    (λ c. search needs)
-    (λ c. search needs)
-    loop-again
-    (λ c. search needs)
-    returns-2
-    returns-3)
+check-offsets-spec = tie.close (tie.spec Inv-loop μ-loop loop-holds (search needs) (search needs) (search needs) (search needs)
+    (search needs) returns (search needs) (search needs) loop-again (search needs) returns-2 returns-3)

@@ -26,19 +26,5 @@ returns : tie.Need-returns Inv-loop μ-loop
 returns c = let e : c .before .loop .b ≡ 7 = omega arith in rw e at (c .before .loop .inv .1 .is) ∙ append-nil _
 
 pub counts-of-spec : {M : Type 1} → statement M
-counts-of-spec =
-    tie.close
-    (tie.spec
-    Inv-loop
-    μ-loop
-    loop-holds
-    (λ c. search needs)
-    (λ c. search needs)
-    (λ c κs. search needs)
-    (λ c. search needs)
-    (λ c. search needs)
-    (λ c. search needs)
-    (λ c. search needs)
-    (λ c. search needs)
-    loop-again
-    returns)
+counts-of-spec = tie.close (tie.spec Inv-loop μ-loop loop-holds (search needs) (search needs) (search needs) (search needs) (search needs)
+    (search needs) (search needs) (search needs) loop-again returns)

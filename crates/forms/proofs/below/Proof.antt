@@ -12,4 +12,4 @@ returns-3 : tie.Need-returns-3
 returns-3 c = sym (below-not (c .before .before .number .given .1) (c .if1 .left))
 
 pub below-spec : {M : Type 1} → statement M
-below-spec = tie.close (tie.spec (λ c. search needs) (λ c. search needs) returns (λ c. search needs) returns-3)
+below-spec = tie.close (tie.spec (search needs) (search needs) returns (λ c. search needs) returns-3)

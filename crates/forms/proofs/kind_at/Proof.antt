@@ -7,10 +7,10 @@ use Rattle.forms.proofs.kind_at.Statement.{statement}
 use Rattle.forms.proofs.kind_at.Tie as tie
 
 returns : tie.Need-returns
-returns c = getD-any (c .before .before .args .kinds .now) (c .before .before .args .i) 0 (c .before .before .args .rest) (c .before .if1 .taken)
+returns c = let args = c .before .before .args in getD-any (args .kinds .now) _ 0 (args .rest) (c .before .if1 .taken)
 
 returns-2 : tie.Need-returns-2
-returns-2 c = sym (List·getD-eq-default (c .before .args .kinds .now) (c .before .args .rest) (c .if1 .left))
+returns-2 c = sym (List·getD-eq-default (c .before .args .kinds .now) _ (c .if1 .left))
 
 pub kind-at-spec : {M : Type 1} → statement M
-kind-at-spec = tie.close (tie.spec (λ c. search needs) (λ c. search needs) returns returns-2)
+kind-at-spec = tie.close (tie.spec (search needs) (search needs) returns returns-2)

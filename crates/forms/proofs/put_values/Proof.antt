@@ -25,15 +25,17 @@ word : (c : tie.After-word-end Inv-loop μ-loop)
     ∷ words (drop (c .word-end .result) (c .before .before .before .before .before .before .before .before .args .line .now))
     ) × (c .before .before .word-start .result < c .word-end .result)
 word c =
-    word-at (c .before .before .before .before .before .before .before .before .args .line .now) (c .before .before .before .before .loop .at) (c .before .before .word-start .result) (c .before .before .word-start .ensures .0) (c .word-end .result) (omega arith) (c .word-end .ensures .0)
+    word-at _ _ _ (c .before .before .word-start .ensures .0) _ (omega arith) (c .word-end .ensures .0)
 
 -- there is a place for its value
 room : (c : tie.After-word-end Inv-loop μ-loop) → (c .before .before .before .before .loop .i < length (c .before .before .before .before .before .before .before .before .args .out .now)) × (c .before .before .before .before .loop .i < length (c .before .before .before .before .loop .out))
 room c =
-    reading-room (c .before .before .before .before .loop .inv .1) (word c .0) (length (drop (c .before .before .before .before .before .before .before .before .args .from) (c .before .before .before .before .before .before .before .before .args .line .now))) (words-few (drop (c .before .before .before .before .before .before .before .before .args .from) (c .before .before .before .before .before .before .before .before .args .line .now))) (omega (arith, length-drop (c .before .before .before .before .before .before .before .before .args .from) (c .before .before .before .before .before .before .before .before .args .line .now)))
+    let args = c .before .before .before .before .before .before .before .before .args in
+    reading-room (c .before .before .before .before .loop .inv .1) (word c .0) (length (drop (args .from) (args .line .now))) (words-few (drop (args .from) (args .line .now))) (omega (arith, length-drop (args .from) (args .line .now)))
 
 loop-holds : tie.Need-loop-holds Inv-loop μ-loop
-loop-holds c = (c .before .before .before .pre .0, reading-start (c .before .before .before .args .kinds .now) (c .before .before .before .args .rest) (words (drop (c .before .before .before .args .from) (c .before .before .before .args .line .now))) (c .before .before .before .args .out .now))
+loop-holds c = let start = c .before .before .before in
+    (start .pre .0, reading-start _ _ (words (drop (start .args .from) (start .args .line .now))) _)
 
 same-length : tie.Need-same-length Inv-loop μ-loop
 same-length c = reading-long (c .before .before .before .before .before .before .before .before .before .loop .inv .1)
@@ -54,44 +56,22 @@ loop-less : tie.Need-loop-less Inv-loop μ-loop
 loop-less c = let h = word (c .before .before .before .before .before .before) .1 in omega arith
 
 loop-again : tie.Need-loop-again Inv-loop μ-loop
-loop-again c = (c .before .before .before .before .before .before .word-end .ensures .1, reading-next (c .before .before .before .before .before .before .before .before .before .before .loop .inv .1) (word (c .before .before .before .before .before .before) .0) (c .before .before .before .before .before .kind-at .ensures) (c .before .before .before .token-of .ensures) (c .before .read .given .1))
+loop-again c = let place = c .before .before .before .before .before .before in
+    (place .word-end .ensures .1, reading-next (c .before .before .before .before .before .before .before .before .before .before .loop .inv .1) (word place .0) (c .before .before .before .before .before .kind-at .ensures) (c .before .before .before .token-of .ensures) (c .before .read .given .1))
 
 same-length-2 : tie.Need-same-length-2 Inv-loop μ-loop
 same-length-2 c = reading-long (c .before .loop .inv .1)
 
 returns-2 : tie.Need-returns-2 Inv-loop μ-loop
-returns-2 c = reading-all (c .before .loop .inv .1) (ap words (drop-of-length-le (c .before .before .before .before .before .args .line .now) (c .loop-test .left)) ∙ words-nil)
+returns-2 c = reading-all (c .before .loop .inv .1) (ap words (drop-of-length-le _ (c .loop-test .left)) ∙ words-nil)
 
 same-length-3 : tie.Need-same-length-3 Inv-loop μ-loop
 same-length-3 c = reading-long (c .before .before .before .loop .inv .1)
 
 returns-3 : tie.Need-returns-3 Inv-loop μ-loop
-returns-3 c = reading-all (c .before .before .before .loop .inv .1) (word-none (c .before .before .before .before .before .before .before .args .line .now) (c .before .before .before .loop .at) (c .before .word-start .result) (c .before .word-start .ensures .0) (c .if1 .taken))
+returns-3 c = reading-all (c .before .before .before .loop .inv .1) (word-none _ _ _ (c .before .word-start .ensures .0) (c .if1 .taken))
 
 pub put-values-spec : {M : Type 1} → statement M
-put-values-spec =
-    tie.close
-    (tie.spec
-    Inv-loop
-    μ-loop
-    loop-holds
-    (λ c κs. search needs)
-    (λ c κs. search needs)
-    (λ c κs. search needs)
-    (λ c. search needs)
-    (λ c. search needs)
-    (λ c. search needs)
-    (λ c κs. search needs)
-    (λ c. search needs)
-    same-length
-    returns
-    (λ c. search needs)
-    mul-out
-    slice-write-out
-    add-i
-    loop-less
-    loop-again
-    same-length-2
-    returns-2
-    same-length-3
-    returns-3)
+put-values-spec = tie.close (tie.spec Inv-loop μ-loop loop-holds (search needs) (search needs) (search needs) (search needs) (search needs)
+    (search needs) (search needs) (search needs) same-length returns (search needs) mul-out slice-write-out add-i loop-less loop-again
+    same-length-2 returns-2 same-length-3 returns-3)

@@ -33,10 +33,12 @@ counted : (s : tie.Start) → length (content (s .args .t1) .faces) ≡ getD (s 
 counted s = faces-counted (s .args .t1) (good s .limits) (full s)
 
 returns : tie.Need-returns
-returns c = first-3 (c .before .before .before .before .before .before .args .t1) (c .before .before .before .before .before .before .args .f) (c .before .before .before .before .before .before .args .g) _ _ _ (counted (c .before .before .before .before .before .before)) (omega (arith, c .if1 .taken, c .before .before .index .ensures .0))
+returns c = let start = c .before .before .before .before .before .before in
+    first-3 (start .args .t1) (start .args .f) (start .args .g) _ _ _ (counted start) (omega (arith, c .if1 .taken, c .before .before .index .ensures .0))
 
 returns-2 : tie.Need-returns-2
-returns-2 c = second-3 (c .before .before .before .before .before .before .before .args .t1) (c .before .before .before .before .before .before .before .args .f) (c .before .before .before .before .before .before .before .args .g) _ _ _ (counted (c .before .before .before .before .before .before .before)) (omega (arith, c .if2 .taken, c .before .before .index2 .ensures .0))
+returns-2 c = let start = c .before .before .before .before .before .before .before in
+    second-3 (start .args .t1) (start .args .f) (start .args .g) _ _ _ (counted start) (omega (arith, c .if2 .taken, c .before .before .index2 .ensures .0))
 
 element-copy-out-a : tie.Need-element-copy-out-a
 element-copy-out-a c = omega (arith, c .before .if1 .left, good (c .before .before .before .before .before .before .before) .limits .faces)
@@ -45,33 +47,29 @@ element-copy-out-b : tie.Need-element-copy-out-b
 element-copy-out-b c = omega (arith, c .before .if2 .left, good (c .before .before .before .before .before .before .before .before) .limits .faces)
 
 returns-3 : tie.Need-returns-3
-returns-3 c = surface-20 (c .before .before .before .before .before .before .before .before .before .before .before .before .args .t1) (c .before .before .before .before .before .before .before .before .before .before .before .before .args .f) (c .before .before .before .before .before .before .before .before .before .before .before .before .args .g) _ _ _ (counted (c .before .before .before .before .before .before .before .before .before .before .before .before)) (omega (arith, c .before .before .before .before .before .before .if1 .left, c .before .before .before .before .before .before .before .before .index .ensures .0)) (omega (arith, c .before .before .before .before .before .if2 .left, c .before .before .before .before .before .before .before .index2 .ensures .0)) refl _ _ (c .before .before .before .before .before .before .before .before .index .ensures .0) (c .before .before .before .before .before .before .before .index2 .ensures .0) (c .if3 .taken)
+returns-3 c =
+    let start = c .before .before .before .before .before .before .before .before .before .before .before .before in
+    let index = c .before .before .before .before .before .before .before .before .index in
+    let index2 = c .before .before .before .before .before .before .before .index2 in
+    surface-20 (start .args .t1) (start .args .f) (start .args .g) _ _ _ (counted start) (omega (arith, c .before .before .before .before .before .before .if1 .left, index .ensures .0)) (omega (arith, c .before .before .before .before .before .if2 .left, index2 .ensures .0)) refl _ _ (index .ensures .0) (index2 .ensures .0) (c .if3 .taken)
 
 returns-4 : tie.Need-returns-4
-returns-4 c = sign-20 (c .before .before .before .before .before .before .before .before .before .before .before .before .before .args .t1) (c .before .before .before .before .before .before .before .before .before .before .before .before .before .args .f) (c .before .before .before .before .before .before .before .before .before .before .before .before .before .args .g) _ _ _ (counted (c .before .before .before .before .before .before .before .before .before .before .before .before .before)) (omega (arith, c .before .before .before .before .before .before .before .if1 .left, c .before .before .before .before .before .before .before .before .before .index .ensures .0)) (omega (arith, c .before .before .before .before .before .before .if2 .left, c .before .before .before .before .before .before .before .before .index2 .ensures .0)) refl _ _ (c .before .before .before .before .before .before .before .before .before .index .ensures .0) (c .before .before .before .before .before .before .before .before .index2 .ensures .0) (c .if4 .taken)
+returns-4 c =
+    let start = c .before .before .before .before .before .before .before .before .before .before .before .before .before in
+    let index = c .before .before .before .before .before .before .before .before .before .index in
+    let index2 = c .before .before .before .before .before .before .before .before .index2 in
+    sign-20 (start .args .t1) (start .args .f) (start .args .g) _ _ _ (counted start) (omega (arith, c .before .before .before .before .before .before .before .if1 .left, index .ensures .0)) (omega (arith, c .before .before .before .before .before .before .if2 .left, index2 .ensures .0)) refl _ _ (index .ensures .0) (index2 .ensures .0) (c .if4 .taken)
 
 glue-faces-requires : tie.Need-glue-faces-requires
 glue-faces-requires c κs = (c .before .before .before .before .before .before .before .before .before .before .before .before .before .before .before .pre, (omega (arith, c .before .before .before .before .before .before .before .before .before .if1 .left, c .before .before .before .before .before .before .before .before .before .before .before .index .ensures .0), omega (arith, c .before .before .before .before .before .before .before .before .if2 .left, c .before .before .before .before .before .before .before .before .before .before .index2 .ensures .0)))
 
 returns-5 : tie.Need-returns-5
-returns-5 c = alike-rest (c .before .before .before .before .before .before .before .before .before .before .before .before .before .before .before .before .before .before .before .before .args .t1) (c .before .before .before .before .before .before .before .before .before .before .before .before .before .before .before .before .before .before .before .before .args .f) (c .before .before .before .before .before .before .before .before .before .before .before .before .before .before .before .before .before .before .before .before .args .g) _ _ _ (counted (c .before .before .before .before .before .before .before .before .before .before .before .before .before .before .before .before .before .before .before .before)) (omega (arith, c .before .before .before .before .before .before .before .before .before .before .before .before .before .before .if1 .left, c .before .before .before .before .before .before .before .before .before .before .before .before .before .before .before .before .index .ensures .0)) (omega (arith, c .before .before .before .before .before .before .before .before .before .before .before .before .before .if2 .left, c .before .before .before .before .before .before .before .before .before .before .before .before .before .before .before .index2 .ensures .0)) refl _ _ (c .before .before .before .before .before .before .before .before .before .before .before .before .before .before .before .before .index .ensures .0) (c .before .before .before .before .before .before .before .before .before .before .before .before .before .before .before .index2 .ensures .0) (c .before .before .before .before .before .before .before .before .if3 .left) (c .before .before .before .before .before .before .before .if4 .left) _ _ _ (c .before .before .before .before .glue-faces .ensures)
+returns-5 c =
+    let start = c .before .before .before .before .before .before .before .before .before .before .before .before .before .before .before .before .before .before .before .before in
+    let index = c .before .before .before .before .before .before .before .before .before .before .before .before .before .before .before .before .index in
+    let index2 = c .before .before .before .before .before .before .before .before .before .before .before .before .before .before .before .index2 in
+    alike-rest (start .args .t1) (start .args .f) (start .args .g) _ _ _ (counted start) (omega (arith, c .before .before .before .before .before .before .before .before .before .before .before .before .before .before .if1 .left, index .ensures .0)) (omega (arith, c .before .before .before .before .before .before .before .before .before .before .before .before .before .if2 .left, index2 .ensures .0)) refl _ _ (index .ensures .0) (index2 .ensures .0) (c .before .before .before .before .before .before .before .before .if3 .left) (c .before .before .before .before .before .before .before .if4 .left) _ _ _ (c .before .before .before .before .glue-faces .ensures)
 
 pub glue-checked-spec : {M : Type 1} → statement M
-glue-checked-spec =
-    tie.close
-    (tie.spec
-    (λ c. search needs)
-    (λ c κs. search needs)
-    (λ c κs. search needs)
-    returns
-    returns-2
-    (λ c. search needs)
-    element-copy-out-a
-    (λ c. search needs)
-    element-copy-out-b
-    returns-3
-    returns-4
-    glue-faces-requires
-    (λ c. search needs)
-    (λ c. search needs)
-    returns-5)
+glue-checked-spec = tie.close (tie.spec (search needs) (search needs) (search needs) returns returns-2 (search needs) element-copy-out-a
+    (search needs) element-copy-out-b returns-3 returns-4 glue-faces-requires (search needs) (search needs) returns-5)

@@ -29,10 +29,13 @@ good : (s : tie.Start) → Fine (s .args .t1)
 good s = fine (s .args .t1) (s .pre .0) (seven s) (full s)
 
 face-part-requires : tie.Need-face-part-requires
-face-part-requires c κs = part-asked _ (good (c .before .before .before .before .before .before .before .before .before .before)) _ (c .before .before .before .before .before .before .before .face-columns .ensures) (c .before .before .before .before .before .before .before .before .before .before .args .f) (c .before .before .before .before .before .before .before .before .before .before .pre .1 .0) _ (c .index .ensures .0)
+face-part-requires c κs = let start = c .before .before .before .before .before .before .before .before .before .before in
+    part-asked _ (good start) _ (c .before .before .before .before .before .before .before .face-columns .ensures) _ (start .pre .1 .0) _ (c .index .ensures .0)
 
 face-part-requires-2 : tie.Need-face-part-requires-2
-face-part-requires-2 c κs = part-asked _ (good (c .before .before .before .before .before .before .before .before .before .before .before .before .before .before .before .before .before .before)) _ (c .before .before .before .before .before .before .before .before .before .before .before .before .before .before .before .face-columns .ensures) (c .before .before .before .before .before .before .before .before .before .before .before .before .before .before .before .before .before .before .args .g) (c .before .before .before .before .before .before .before .before .before .before .before .before .before .before .before .before .before .before .pre .1 .1) _ (c .index2 .ensures .0)
+face-part-requires-2 c κs =
+    let start = c .before .before .before .before .before .before .before .before .before .before .before .before .before .before .before .before .before .before in
+    part-asked _ (good start) _ (c .before .before .before .before .before .before .before .before .before .before .before .before .before .before .before .face-columns .ensures) _ (start .pre .1 .1) _ (c .index2 .ensures .0)
 
 slice-aggregate-glue-places : tie.Need-slice-aggregate-glue-places
 slice-aggregate-glue-places c = sym (ap (λ (r : FaceColumns). length (r .fronts)) (c .before .before .before .before .before .before .before .before .before .before .before .before .before .before .before .before .before .before .before .before .before .before .before .before .face-columns .ensures) ∙ fronts-long _ (good (c .before .before .before .before .before .before .before .before .before .before .before .before .before .before .before .before .before .before .before .before .before .before .before .before .before .before .before)))
@@ -41,25 +44,17 @@ slice-aggregate-glue-places-2 : tie.Need-slice-aggregate-glue-places-2
 slice-aggregate-glue-places-2 c = sym (ap (λ (r : FaceColumns). length (r .backs)) (c .before .before .before .before .before .before .before .before .before .before .before .before .before .before .before .before .before .before .before .before .before .before .before .before .before .face-columns .ensures) ∙ backs-long _ (good (c .before .before .before .before .before .before .before .before .before .before .before .before .before .before .before .before .before .before .before .before .before .before .before .before .before .before .before .before)))
 
 glue-places-requires : tie.Need-glue-places-requires
-glue-places-requires c κs = places-asked _ (good (c .before .before .before .before .before .before .before .before .before .before .before .before .before .before .before .before .before .before .before .before .before .before .before .before .before .before .before .before .before .before)) _ (c .before .before .before .before .before .before .before .before .before .before .before .before .before .before .before .before .before .before .before .before .before .before .before .before .before .before .before .face-columns .ensures) (c .before .before .before .before .before .before .before .before .before .before .before .before .before .before .before .before .before .before .before .before .before .before .before .before .before .before .before .before .before .before .args .f) (c .before .before .before .before .before .before .before .before .before .before .before .before .before .before .before .before .before .before .before .before .before .before .before .before .before .before .before .before .before .before .args .g) (c .before .before .before .before .before .before .before .before .before .before .before .before .before .before .before .before .before .before .before .before .before .before .before .before .before .before .before .before .before .before .pre .1 .0) (c .before .before .before .before .before .before .before .before .before .before .before .before .before .before .before .before .before .before .before .before .before .before .before .before .before .before .before .before .before .before .pre .1 .1) _ _ (part-is _ (good (c .before .before .before .before .before .before .before .before .before .before .before .before .before .before .before .before .before .before .before .before .before .before .before .before .before .before .before .before .before .before)) _ (c .before .before .before .before .before .before .before .before .before .before .before .before .before .before .before .before .before .before .before .before .before .before .before .before .before .before .before .face-columns .ensures) (c .before .before .before .before .before .before .before .before .before .before .before .before .before .before .before .before .before .before .before .before .before .before .before .before .before .before .before .before .before .before .args .f) (c .before .before .before .before .before .before .before .before .before .before .before .before .before .before .before .before .before .before .before .before .before .before .before .before .before .before .before .before .before .before .pre .1 .0) _ (c .before .before .before .before .before .before .before .before .before .before .before .before .before .before .before .before .before .before .before .before .index .ensures .0) _ (c .before .before .before .before .before .before .before .before .before .before .before .before .before .before .before .before .before .before .before .face-part .ensures)) (part-is _ (good (c .before .before .before .before .before .before .before .before .before .before .before .before .before .before .before .before .before .before .before .before .before .before .before .before .before .before .before .before .before .before)) _ (c .before .before .before .before .before .before .before .before .before .before .before .before .before .before .before .before .before .before .before .before .before .before .before .before .before .before .before .face-columns .ensures) (c .before .before .before .before .before .before .before .before .before .before .before .before .before .before .before .before .before .before .before .before .before .before .before .before .before .before .before .before .before .before .args .g) (c .before .before .before .before .before .before .before .before .before .before .before .before .before .before .before .before .before .before .before .before .before .before .before .before .before .before .before .before .before .before .pre .1 .1) _ (c .before .before .before .before .before .before .before .before .before .before .before .before .index2 .ensures .0) _ (c .before .before .before .before .before .before .before .before .before .before .before .face-part2 .ensures))
+glue-places-requires c κs =
+    let start = c .before .before .before .before .before .before .before .before .before .before .before .before .before .before .before .before .before .before .before .before .before .before .before .before .before .before .before .before .before .before in
+    let face-columns = c .before .before .before .before .before .before .before .before .before .before .before .before .before .before .before .before .before .before .before .before .before .before .before .before .before .before .before .face-columns in
+    places-asked _ (good start) _ (face-columns .ensures) _ _ (start .pre .1 .0) (start .pre .1 .1) _ _ (part-is _ (good start) _ (face-columns .ensures) _ (start .pre .1 .0) _ (c .before .before .before .before .before .before .before .before .before .before .before .before .before .before .before .before .before .before .before .before .index .ensures .0) _ (c .before .before .before .before .before .before .before .before .before .before .before .before .before .before .before .before .before .before .before .face-part .ensures)) (part-is _ (good start) _ (face-columns .ensures) _ (start .pre .1 .1) _ (c .before .before .before .before .before .before .before .before .before .before .before .before .index2 .ensures .0) _ (c .before .before .before .before .before .before .before .before .before .before .before .face-part2 .ensures))
 
 returns : tie.Need-returns
-returns c = c .before .before .before .before .glue-places .ensures _ (c .before .before .before .before .before .before .before .before .before .before .before .before .before .before .before .before .before .before .before .before .before .before .before .before .before .before .before .before .before .before .before .before .before .before .before .args .f) (c .before .before .before .before .before .before .before .before .before .before .before .before .before .before .before .before .before .before .before .before .before .before .before .before .before .before .before .before .before .before .before .before .before .before .before .args .g) (places-shown _ (good (c .before .before .before .before .before .before .before .before .before .before .before .before .before .before .before .before .before .before .before .before .before .before .before .before .before .before .before .before .before .before .before .before .before .before .before)) _ (c .before .before .before .before .before .before .before .before .before .before .before .before .before .before .before .before .before .before .before .before .before .before .before .before .before .before .before .before .before .before .before .before .face-columns .ensures) (c .before .before .before .before .before .before .before .before .before .before .before .before .before .before .before .before .before .before .before .before .before .before .before .before .before .before .before .before .before .before .before .before .before .before .before .args .f) (c .before .before .before .before .before .before .before .before .before .before .before .before .before .before .before .before .before .before .before .before .before .before .before .before .before .before .before .before .before .before .before .before .before .before .before .args .g) (c .before .before .before .before .before .before .before .before .before .before .before .before .before .before .before .before .before .before .before .before .before .before .before .before .before .before .before .before .before .before .before .before .before .before .before .pre .1 .0) (c .before .before .before .before .before .before .before .before .before .before .before .before .before .before .before .before .before .before .before .before .before .before .before .before .before .before .before .before .before .before .before .before .before .before .before .pre .1 .1) _ _ (part-is _ (good (c .before .before .before .before .before .before .before .before .before .before .before .before .before .before .before .before .before .before .before .before .before .before .before .before .before .before .before .before .before .before .before .before .before .before .before)) _ (c .before .before .before .before .before .before .before .before .before .before .before .before .before .before .before .before .before .before .before .before .before .before .before .before .before .before .before .before .before .before .before .before .face-columns .ensures) (c .before .before .before .before .before .before .before .before .before .before .before .before .before .before .before .before .before .before .before .before .before .before .before .before .before .before .before .before .before .before .before .before .before .before .before .args .f) (c .before .before .before .before .before .before .before .before .before .before .before .before .before .before .before .before .before .before .before .before .before .before .before .before .before .before .before .before .before .before .before .before .before .before .before .pre .1 .0) _ (c .before .before .before .before .before .before .before .before .before .before .before .before .before .before .before .before .before .before .before .before .before .before .before .before .before .index .ensures .0) _ (c .before .before .before .before .before .before .before .before .before .before .before .before .before .before .before .before .before .before .before .before .before .before .before .before .face-part .ensures)) (part-is _ (good (c .before .before .before .before .before .before .before .before .before .before .before .before .before .before .before .before .before .before .before .before .before .before .before .before .before .before .before .before .before .before .before .before .before .before .before)) _ (c .before .before .before .before .before .before .before .before .before .before .before .before .before .before .before .before .before .before .before .before .before .before .before .before .before .before .before .before .before .before .before .before .face-columns .ensures) (c .before .before .before .before .before .before .before .before .before .before .before .before .before .before .before .before .before .before .before .before .before .before .before .before .before .before .before .before .before .before .before .before .before .before .before .args .g) (c .before .before .before .before .before .before .before .before .before .before .before .before .before .before .before .before .before .before .before .before .before .before .before .before .before .before .before .before .before .before .before .before .before .before .before .pre .1 .1) _ (c .before .before .before .before .before .before .before .before .before .before .before .before .before .before .before .before .before .index2 .ensures .0) _ (c .before .before .before .before .before .before .before .before .before .before .before .before .before .before .before .before .face-part2 .ensures)))
+returns c =
+    let start = c .before .before .before .before .before .before .before .before .before .before .before .before .before .before .before .before .before .before .before .before .before .before .before .before .before .before .before .before .before .before .before .before .before .before .before in
+    let face-columns = c .before .before .before .before .before .before .before .before .before .before .before .before .before .before .before .before .before .before .before .before .before .before .before .before .before .before .before .before .before .before .before .before .face-columns in
+    c .before .before .before .before .glue-places .ensures _ _ _ (places-shown _ (good start) _ (face-columns .ensures) _ _ (start .pre .1 .0) (start .pre .1 .1) _ _ (part-is _ (good start) _ (face-columns .ensures) _ (start .pre .1 .0) _ (c .before .before .before .before .before .before .before .before .before .before .before .before .before .before .before .before .before .before .before .before .before .before .before .before .before .index .ensures .0) _ (c .before .before .before .before .before .before .before .before .before .before .before .before .before .before .before .before .before .before .before .before .before .before .before .before .face-part .ensures)) (part-is _ (good start) _ (face-columns .ensures) _ (start .pre .1 .1) _ (c .before .before .before .before .before .before .before .before .before .before .before .before .before .before .before .before .before .index2 .ensures .0) _ (c .before .before .before .before .before .before .before .before .before .before .before .before .before .before .before .before .face-part2 .ensures)))
 
 pub glue-faces-spec : {M : Type 1} → statement M
-glue-faces-spec =
-    tie.close
-    (tie.spec
-    (λ c κs. search needs)
-    (λ c κs. search needs)
-    face-part-requires
-    (λ c κs. search needs)
-    face-part-requires-2
-    (λ c. search needs)
-    (λ c. search needs)
-    slice-aggregate-glue-places
-    slice-aggregate-glue-places-2
-    glue-places-requires
-    (λ c. search needs)
-    (λ c. search needs)
-    returns)
+glue-faces-spec = tie.close (tie.spec (search needs) (search needs) face-part-requires (search needs) face-part-requires-2 (search needs)
+    (search needs) slice-aggregate-glue-places slice-aggregate-glue-places-2 glue-places-requires (search needs) (search needs) returns)

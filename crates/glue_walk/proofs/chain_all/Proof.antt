@@ -23,7 +23,8 @@ loop-less : tie.Need-loop-less Inv-loop μ-loop
 loop-less c = omega (arith, c .before .before .before .before .before .before .before .before .before .before .before .loop .inv .long, c .before .before .before .before .before .before .before .before .before .before .loop-test .taken)
 
 loop-again : tie.Need-loop-again Inv-loop μ-loop
-loop-again c = chaining-next _ _ _ _ _ _ _ _ _ _ (c .before .before .before .before .before .before .before .before .before .before .before .loop .inv) (c .before .before .before .before .before .before .before .before .before .before .loop-test .taken) _ _ _ _ (c .before .before .before .before .before .before .chain-at .ensures .0) (c .before .before .before .before .before .before .chain-at .ensures .1 .0) (c .before .before .before .before .before .before .chain-at .ensures .1 .1) (c .before .before .before .before .before .before .chain-at .kept .0)
+loop-again c = let chain-at = c .before .before .before .before .before .before .chain-at in
+    chaining-next _ _ _ _ _ _ _ _ _ _ (c .before .before .before .before .before .before .before .before .before .before .before .loop .inv) (c .before .before .before .before .before .before .before .before .before .before .loop-test .taken) _ _ _ _ (chain-at .ensures .0) (chain-at .ensures .1 .0) (chain-at .ensures .1 .1) (chain-at .kept .0)
 
 same-length : tie.Need-same-length Inv-loop μ-loop
 same-length c = c .before .loop .inv .long
@@ -38,17 +39,5 @@ returns : tie.Need-returns Inv-loop μ-loop
 returns c = (chaining-all _ _ _ _ _ _ _ _ _ _ (c .before .loop .inv) (omega arith), c .before .loop .inv .room)
 
 pub chain-all-spec : {M : Type 1} → statement M
-chain-all-spec =
-    tie.close
-    (tie.spec
-    Inv-loop
-    μ-loop
-    loop-holds
-    chain-at-requires
-    (λ c. search needs)
-    loop-less
-    loop-again
-    same-length
-    same-length-2
-    same-length-3
-    returns)
+chain-all-spec = tie.close (tie.spec Inv-loop μ-loop loop-holds chain-at-requires (search needs) loop-less loop-again same-length
+    same-length-2 same-length-3 returns)

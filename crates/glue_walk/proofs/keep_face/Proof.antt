@@ -14,7 +14,7 @@ abbrev μ-loop : tie.MeasureT-loop
 μ-loop kept₀ part fronts backs i₀ kept i = length part - i
 
 loop-holds : tie.Need-loop-holds Inv-loop μ-loop
-loop-holds c = keeping-start _ _ _ _ (c .before .before .before .before .pre .0) (c .before .before .before .before .pre .1)
+loop-holds c = let pre = c .before .before .before .before .pre in keeping-start _ _ _ _ (pre .0) (pre .1)
 
 front-of-requires : tie.Need-front-of-requires Inv-loop μ-loop
 front-of-requires c κs = keeping-edge _ _ _ _ (c .before .before .before .before .before .before .before .pre .0) _ _ (c .before .before .loop .inv) _ (c .before .loop-test .taken) refl
@@ -32,18 +32,5 @@ returns : tie.Need-returns Inv-loop μ-loop
 returns c = (keeping-all _ _ _ _ (c .before .before .before .before .before .before .pre .0) _ _ (c .before .loop .inv) (omega arith), c .before .loop .inv .holding)
 
 pub keep-face-spec : {M : Type 1} → statement M
-keep-face-spec =
-    tie.close
-    (tie.spec
-    Inv-loop
-    μ-loop
-    loop-holds
-    (λ c. search needs)
-    (λ c. search needs)
-    front-of-requires
-    keep-at-requires
-    (λ c. search needs)
-    (λ c. search needs)
-    loop-again
-    same-length
-    returns)
+keep-face-spec = tie.close (tie.spec Inv-loop μ-loop loop-holds (search needs) (search needs) front-of-requires keep-at-requires
+    (search needs) (search needs) loop-again same-length returns)

@@ -15,19 +15,24 @@ abbrev μ-loop : tie.MeasureT-loop
 μ-loop kept₀ part fronts backs i₀ kept i = length part - i
 
 loop-holds : tie.Need-loop-holds Inv-loop μ-loop
-loop-holds c = meeting-start _ _ _ _ (c .before .before .before .before .pre .0) (c .before .before .before .before .pre .1)
+loop-holds c = let pre = c .before .before .before .before .pre in meeting-start _ _ _ _ (pre .0) (pre .1)
 
 meet-use-requires : tie.Need-meet-use-requires Inv-loop μ-loop
-meet-use-requires c κs = (c .before .before .before .before .before .before .before .before .pre .0 .ends, (meeting-fits _ _ _ _ (c .before .before .before .before .before .before .before .before .pre .0) _ _ (c .before .before .before .loop .inv) (c .before .before .loop-test .taken), c .before .before .before .loop .inv .holding))
+meet-use-requires c κs =
+    let pre = c .before .before .before .before .before .before .before .before .pre in
+    let loop = c .before .before .before .loop in
+    (pre .0 .ends, (meeting-fits _ _ _ _ (pre .0) _ _ (loop .inv) (c .before .before .loop-test .taken), loop .inv .holding))
 
 same-length : tie.Need-same-length Inv-loop μ-loop
 same-length c = c .before .before .before .meet-use .kept .0 ∙ c .before .before .before .before .before .before .before .loop .inv .long
 
 returns : tie.Need-returns Inv-loop μ-loop
-returns c = (meeting-stop _ _ _ _ (c .before .before .before .before .before .before .before .before .before .before .before .before .pre .0) _ _ (c .before .before .before .before .before .before .before .loop .inv) (c .before .before .before .before .before .before .loop-test .taken) _ (c .before .before .before .meet-use .ensures .1) (c .before .before .before .meet-use .result) (c .before .before .before .meet-use .ensures .0) (not-true (c .before .before .before .meet-use .result) (c .if1 .taken)), c .before .before .before .meet-use .ensures .1)
+returns c = let meet-use = c .before .before .before .meet-use in
+    (meeting-stop _ _ _ _ (c .before .before .before .before .before .before .before .before .before .before .before .before .pre .0) _ _ (c .before .before .before .before .before .before .before .loop .inv) (c .before .before .before .before .before .before .loop-test .taken) _ (meet-use .ensures .1) (meet-use .result) (meet-use .ensures .0) (not-true _ (c .if1 .taken)), meet-use .ensures .1)
 
 loop-again : tie.Need-loop-again Inv-loop μ-loop
-loop-again c = meeting-next _ _ _ _ (c .before .before .before .before .before .before .before .before .before .before .before .before .pre .0) _ _ (c .before .before .before .before .before .before .before .loop .inv) (c .before .before .before .before .before .before .loop-test .taken) _ (c .before .before .before .meet-use .ensures .1) (c .before .before .before .meet-use .result) (c .before .before .before .meet-use .ensures .0) (not-false (c .before .before .before .meet-use .result) (c .if1 .left)) (c .before .before .before .meet-use .kept .0)
+loop-again c = let meet-use = c .before .before .before .meet-use in
+    meeting-next _ _ _ _ (c .before .before .before .before .before .before .before .before .before .before .before .before .pre .0) _ _ (c .before .before .before .before .before .before .before .loop .inv) (c .before .before .before .before .before .before .loop-test .taken) _ (meet-use .ensures .1) (meet-use .result) (meet-use .ensures .0) (not-false _ (c .if1 .left)) (meet-use .kept .0)
 
 same-length-2 : tie.Need-same-length-2 Inv-loop μ-loop
 same-length-2 c = c .before .loop .inv .long
@@ -36,19 +41,5 @@ returns-2 : tie.Need-returns-2 Inv-loop μ-loop
 returns-2 c = (meeting-all _ _ _ _ (c .before .before .before .before .before .before .pre .0) _ _ (c .before .loop .inv) (omega arith), c .before .loop .inv .holding)
 
 pub meet-all-spec : {M : Type 1} → statement M
-meet-all-spec =
-    tie.close
-    (tie.spec
-    Inv-loop
-    μ-loop
-    loop-holds
-    (λ c. search needs)
-    (λ c. search needs)
-    meet-use-requires
-    same-length
-    returns
-    (λ c. search needs)
-    (λ c. search needs)
-    loop-again
-    same-length-2
-    returns-2)
+meet-all-spec = tie.close (tie.spec Inv-loop μ-loop loop-holds (search needs) (search needs) meet-use-requires same-length returns
+    (search needs) (search needs) loop-again same-length-2 returns-2)

@@ -20,26 +20,15 @@ returns-3 c = λ p ws col eo ep. space-17 p ws _ _ _ _ _ _ col eo ep (c .before 
 returns-4 : tie.Need-returns-4
 returns-4 c = λ p ws col eo ep. places-17 p ws _ _ _ _ _ _ col eo ep (c .before .before .before .before .if1 .left) _ (c .before .before .before .breaks-rule .ensures) (c .before .before .if2 .left) (c .if4 .taken)
 
-put-all-requires : tie.Need-put-all-requires
-put-all-requires c κs = omega (arith, c .before .before .if3 .left)
+copy-u16s-requires : tie.Need-copy-u16s-requires
+copy-u16s-requires c κs = omega (arith, c .before .before .if3 .left)
 
-put-all-requires-2 : tie.Need-put-all-requires-2
-put-all-requires-2 c κs = omega (arith, c .before .before .before .before .before .if4 .left)
+copy-u16s-requires-2 : tie.Need-copy-u16s-requires-2
+copy-u16s-requires-2 c κs = omega (arith, c .before .before .before .before .before .if4 .left)
 
 returns-5 : tie.Need-returns-5
-returns-5 c = λ p ws col eo ep. all-written p ws _ _ _ _ _ _ col eo ep (c .before .before .before .before .before .before .before .before .before .before .before .before .if1 .left) _ (c .before .before .before .before .before .before .before .before .before .before .before .breaks-rule .ensures) (c .before .before .before .before .before .before .before .before .before .before .if2 .left) (omega (arith, c .before .before .before .before .before .before .before .before .before .if3 .left)) (omega (arith, c .before .before .before .before .before .before .before .before .if4 .left)) _ _ (c .before .before .before .before .before .before .put-all .ensures) (c .before .before .put-all2 .ensures)
+returns-5 c = λ p ws col eo ep. all-written p ws _ _ _ _ _ _ col eo ep (c .before .before .before .before .before .before .before .before .before .before .before .before .if1 .left) _ (c .before .before .before .before .before .before .before .before .before .before .before .breaks-rule .ensures) (c .before .before .before .before .before .before .before .before .before .before .if2 .left) (omega (arith, c .before .before .before .before .before .before .before .before .before .if3 .left)) (omega (arith, c .before .before .before .before .before .before .before .before .if4 .left)) _ _ (c .before .before .before .before .before .before .copy-u16s .ensures) (c .before .before .copy-u16s2 .ensures)
 
 pub judge-wires-spec : {M : Type 1} → statement M
-judge-wires-spec =
-    tie.close
-    (tie.spec
-    returns
-    breaks-rule-requires
-    returns-2
-    returns-3
-    returns-4
-    put-all-requires
-    put-all-requires-2
-    (λ c. search needs)
-    (λ c. search needs)
-    returns-5)
+judge-wires-spec = tie.close (tie.spec returns breaks-rule-requires returns-2 returns-3 returns-4 copy-u16s-requires copy-u16s-requires-2
+    (search needs) (search needs) returns-5)

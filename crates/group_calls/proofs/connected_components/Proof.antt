@@ -40,16 +40,5 @@ returns-3 c =
     )
 
 pub connected-components-spec : {M : Type 1} → statement M
-connected-components-spec =
-    tie.close
-    (tie.spec
-    (λ c κs. search needs)
-    (λ c. search needs)
-    (λ c. search needs)
-    (λ c. search needs)
-    groups-at-requires
-    (λ c κs. search needs)
-    (λ c κs. search needs)
-    returns
-    returns-2
-    returns-3)
+connected-components-spec = tie.close (tie.spec (λ c κs. search needs) (λ c. search needs) (λ c. search needs) (λ c. search needs)
+    groups-at-requires (λ c κs. search needs) (λ c κs. search needs) returns returns-2 returns-3)

@@ -37,14 +37,5 @@ returns-3 c =
     ap (λ (r : ShellGroups). Is (r .connected)) (r .ensures .0) ∙ ap (λ (q : Presence). connectedWhen q (content (a .p)) (a .n)) e
 
 pub is-connected-spec : {M : Type 1} → statement M
-is-connected-spec =
-    tie.close
-    (tie.spec
-    (λ c κs. search needs)
-    (λ c. search needs)
-    (λ c. search needs)
-    (λ c. search needs)
-    groups-at-requires
-    returns
-    returns-2
-    returns-3)
+is-connected-spec = tie.close (tie.spec (λ c κs. search needs) (λ c. search needs) (λ c. search needs) (λ c. search needs)
+    groups-at-requires returns returns-2 returns-3)

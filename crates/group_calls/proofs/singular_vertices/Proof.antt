@@ -41,15 +41,5 @@ returns-3 c =
     )
 
 pub singular-vertices-spec : {M : Type 1} → statement M
-singular-vertices-spec =
-    tie.close
-    (tie.spec
-    (λ c κs. search needs)
-    (λ c. search needs)
-    (λ c. search needs)
-    (λ c. search needs)
-    groups-at-requires
-    (λ c κs. search needs)
-    returns
-    returns-2
-    returns-3)
+singular-vertices-spec = tie.close (tie.spec (λ c κs. search needs) (λ c. search needs) (λ c. search needs) (λ c. search needs)
+    groups-at-requires (λ c κs. search needs) returns returns-2 returns-3)

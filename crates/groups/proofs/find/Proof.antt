@@ -30,23 +30,12 @@ loop-less : tie.Need-loop-less Inv-loop μ-loop
 loop-less c = steps-fall _ _ (c .before .before .loop .inv .0) (c .if1 .left)
 
 loop-again : tie.Need-loop-again Inv-loop μ-loop
-loop-again c = (climbs-up _ _ (c .before .before .loop .inv .0), root-up _ _ (c .before .before .loop .inv .0) ∙ c .before .before .loop .inv .1)
+loop-again c = let loop = c .before .before .loop in (climbs-up _ _ (loop .inv .0), root-up _ _ (loop .inv .0) ∙ loop .inv .1)
 
 returns : tie.Need-returns Inv-loop μ-loop
 returns c =
-    let ps = c .before .before .before .args .parents .now in
-    sym (climb-root (length ps) ps (c .before .before .loop .at) (c .if1 .taken)) ∙ c .before .before .loop .inv .1
+    let args = c .before .before .before .args in
+    sym (climb-root (length (args .parents .now)) (args .parents .now) _ (c .if1 .taken)) ∙ c .before .before .loop .inv .1
 
 pub find-spec : {M : Type 1} → statement M
-find-spec =
-    tie.close
-    (tie.spec
-    Inv-loop
-    μ-loop
-    loop-holds
-    mul-up
-    shared-slice-read-up
-    cast-up
-    loop-less
-    loop-again
-    returns)
+find-spec = tie.close (tie.spec Inv-loop μ-loop loop-holds mul-up shared-slice-read-up cast-up loop-less loop-again returns)

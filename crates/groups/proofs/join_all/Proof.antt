@@ -25,8 +25,9 @@ cast-join-2 c = omega (arith, c .shared-slice-known4 .given (c .before .before .
 
 join-requires : tie.Need-join-requires Inv-loop μ-loop
 join-requires c κs =
-    let h = c .before .before .before .before .before .before .before .before .before .before .pre .1 .1 (c .before .before .before .before .before .loop .k) (omega arith) in
-    ready _ _ _ (c .before .before .before .before .before .loop .inv .forest) _ _ (omega (arith, h .0, h .1)) (omega (arith, h .0, h .1))
+    let loop = c .before .before .before .before .before .loop in
+    let h = c .before .before .before .before .before .before .before .before .before .before .pre .1 .1 (loop .k) (omega arith) in
+    ready _ _ _ (loop .inv .forest) _ _ (omega (arith, h .0, h .1)) (omega (arith, h .0, h .1))
 
 loop-again : tie.Need-loop-again Inv-loop μ-loop
 loop-again c = joins-next _ _ _ _ _ _ _ _ (c .before .before .before .before .before .before .before .before .before .before .before .before .before .before .before .pre .1) (c .before .before .before .before .before .before .before .before .before .before .loop .inv) (omega arith) (c .before .before .before .before .join .ensures)
@@ -35,22 +36,6 @@ returns : tie.Need-returns Inv-loop μ-loop
 returns c = joins-end _ _ _ _ _ _ _ _ (c .before .before .before .before .before .before .pre .1) (c .before .loop .inv) (omega arith)
 
 pub join-all-spec : {M : Type 1} → statement M
-join-all-spec =
-    tie.close
-    (tie.spec
-    Inv-loop
-    μ-loop
-    loop-holds
-    (λ c. search needs)
-    (λ c. search needs)
-    cast-join
-    (λ c. search needs)
-    (λ c. search needs)
-    cast-join-2
-    join-requires
-    (λ c. search needs)
-    (λ c. search needs)
-    loop-again
-    (λ c. search needs)
-    (λ c. search needs)
-    returns)
+join-all-spec = tie.close (tie.spec Inv-loop μ-loop loop-holds (λ c. search needs) (λ c. search needs) cast-join (λ c. search needs)
+    (λ c. search needs) cast-join-2 join-requires (λ c. search needs) (λ c. search needs) loop-again (λ c. search needs)
+    (λ c. search needs) returns)

@@ -9,8 +9,8 @@ use Rattle.groups.proofs.join_roots.Tie as tie
 
 returns : tie.Need-returns
 returns c =
-    let s = c .before .before .before .before .before .before .before .args in
-    let e = rooted-one (s .parents .now) (s .sizes .now) (rootOf (s .parents .now) (s .i)) (rootOf (s .parents .now) (s .j)) (sym (c .before .before .before .find .ensures) ∙ c .if1 .taken ∙ c .before .find2 .ensures) in
+    let args = c .before .before .before .before .before .before .before .args in
+    let e = rooted-one _ _ (rootOf (args .parents .now) (args .i)) (rootOf (args .parents .now) (args .j)) (sym (c .before .before .before .find .ensures) ∙ c .if1 .taken ∙ c .before .find2 .ensures) in
     (sym (ap (λ (t : Trees). t .parents) e), sym (ap (λ (t : Trees). t .sizes) e))
 
 put-under-requires : tie.Need-put-under-requires
@@ -21,31 +21,16 @@ put-under-requires-2 c κs = ready-under _ _ _ _ _ _ (c .before .before .before 
 
 returns-2 : tie.Need-returns-2
 returns-2 c =
-    let s = c .before .before .before .before .before .before .before .before .before .before .before .before .before .before .before .before .before .args in
-    rw (← c .before .before .before .before .before .before .before .before .before .before .before .find2 .ensures, ← c .before .before .before .before .before .before .before .before .before .before .before .before .before .find .ensures, rooted-less (s .parents .now) (s .sizes .now) (c .before .before .before .before .before .before .before .before .before .before .before .before .before .find .result) (c .before .before .before .before .before .before .before .before .before .before .before .find2 .result) (c .before .before .before .before .before .before .before .before .before .before .if1 .left) (c .before .before .before .before .before .before .before .if2 .taken)) (c .before .before .before .before .put-under .ensures)
+    rw (← c .before .before .before .before .before .before .before .before .before .before .before .find2 .ensures, ← c .before .before .before .before .before .before .before .before .before .before .before .before .before .find .ensures, rooted-less _ _ _ _ (c .before .before .before .before .before .before .before .before .before .before .if1 .left) (c .before .before .before .before .before .before .before .if2 .taken)) (c .before .before .before .before .put-under .ensures)
 
 returns-3 : tie.Need-returns-3
 returns-3 c =
-    let s = c .before .before .before .before .before .before .before .before .before .before .before .before .before .before .before .before .before .args in
-    rw (← c .before .before .before .before .before .before .before .before .before .before .before .find2 .ensures, ← c .before .before .before .before .before .before .before .before .before .before .before .before .before .find .ensures, rooted-more (s .parents .now) (s .sizes .now) (c .before .before .before .before .before .before .before .before .before .before .before .before .before .find .result) (c .before .before .before .before .before .before .before .before .before .before .before .find2 .result) (c .before .before .before .before .before .before .before .before .before .before .if1 .left) (omega (arith, c .before .before .before .before .before .before .before .if2 .left))) (c .before .before .before .before .put-under2 .ensures)
+    let args = c .before .before .before .before .before .before .before .before .before .before .before .before .before .before .before .before .before .args in
+    let find = c .before .before .before .before .before .before .before .before .before .before .before .before .before .find in
+    let find2 = c .before .before .before .before .before .before .before .before .before .before .before .find2 in
+    rw (← find2 .ensures, ← find .ensures, rooted-more (args .parents .now) (args .sizes .now) (find .result) (find2 .result) (c .before .before .before .before .before .before .before .before .before .before .if1 .left) (omega (arith, c .before .before .before .before .before .before .before .if2 .left))) (c .before .before .before .before .put-under2 .ensures)
 
 pub join-roots-spec : {M : Type 1} → statement M
-join-roots-spec =
-    tie.close
-    (tie.spec
-    (λ c κs. search needs)
-    (λ c κs. search needs)
-    (λ c. search needs)
-    returns
-    (λ c. search needs)
-    (λ c. search needs)
-    (λ c. search needs)
-    (λ c. search needs)
-    put-under-requires
-    put-under-requires-2
-    (λ c. search needs)
-    (λ c. search needs)
-    returns-2
-    (λ c. search needs)
-    (λ c. search needs)
-    returns-3)
+join-roots-spec = tie.close (tie.spec (λ c κs. search needs) (λ c κs. search needs) (λ c. search needs) returns (λ c. search needs)
+    (λ c. search needs) (λ c. search needs) (λ c. search needs) put-under-requires put-under-requires-2 (λ c. search needs)
+    (λ c. search needs) returns-2 (λ c. search needs) (λ c. search needs) returns-3)

@@ -24,8 +24,7 @@ slice-write-sizes c = omega (arith, filling-long _ _ _ _ (c .before .loop .inv .
 
 loop-again : tie.Need-loop-again Inv-loop μ-loop
 loop-again c =
-    let v = c .before .loop .inv .1 in
-    (omega arith, (filling-next (λ (k : ℕ). k) 0 _ _ _ _ (v .0) (omega arith) refl, filling-next (λ (k : ℕ). 1) 0 _ _ _ _ (v .1) (omega arith) refl))
+    (omega arith, (filling-next (λ (k : ℕ). k) 0 _ _ _ _ (c .before .loop .inv .1 .0) (omega arith) refl, filling-next (λ (k : ℕ). 1) 0 _ _ _ _ (c .before .loop .inv .1 .1) (omega arith) refl))
 
 same-length : tie.Need-same-length Inv-loop μ-loop
 same-length c = filling-long _ _ _ _ (c .before .loop .inv .1 .0)
@@ -39,20 +38,5 @@ returns c =
     rw (← e) (c .before .loop .inv .1 .0 .is, c .before .loop .inv .1 .1 .is)
 
 pub start-spec : {M : Type 1} → statement M
-start-spec =
-    tie.close
-    (tie.spec
-    Inv-loop
-    μ-loop
-    loop-holds
-    (λ c. search needs)
-    (λ c. search needs)
-    slice-write-parents
-    (λ c. search needs)
-    slice-write-sizes
-    (λ c. search needs)
-    (λ c. search needs)
-    loop-again
-    same-length
-    same-length-2
-    returns)
+start-spec = tie.close (tie.spec Inv-loop μ-loop loop-holds (search needs) (search needs) slice-write-parents (search needs)
+    slice-write-sizes (search needs) (search needs) loop-again same-length same-length-2 returns)

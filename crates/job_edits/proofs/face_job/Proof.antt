@@ -47,35 +47,8 @@ returns-3 c =
     face-made e _ (a .uses .now) (a .lens .now) _ _ (c .before .before .before .before .file-cut-by-wire .ensures)
 
 pub face-job-spec : {M : Type 1} → statement M
-face-job-spec =
-    tie.close
-    (tie.spec
-    shared-slice-read-small
-    (λ c κs. search needs)
-    shared-slice-read-small-2
-    (λ c κs. search needs)
-    (λ c κs. search needs)
-    (λ c. search needs)
-    (λ c. search needs)
-    returns
-    sub-n
-    (λ c. search needs)
-    (λ c. search needs)
-    (λ c. search needs)
-    part-put-small-end
-    (λ c. search needs)
-    (λ c κs. search needs)
-    (λ c. search needs)
-    (λ c. search needs)
-    (λ c. search needs)
-    (λ c κs. search needs)
-    (λ c. search needs)
-    (λ c. search needs)
-    returns-2
-    (λ c. search needs)
-    (λ c. search needs)
-    (λ c. search needs)
-    (λ c κs. search needs)
-    (λ c. search needs)
-    (λ c. search needs)
-    returns-3)
+face-job-spec = tie.close (tie.spec shared-slice-read-small (λ c κs. search needs) shared-slice-read-small-2 (λ c κs. search needs)
+    (λ c κs. search needs) (λ c. search needs) (λ c. search needs) returns sub-n (λ c. search needs) (λ c. search needs)
+    (λ c. search needs) part-put-small-end (λ c. search needs) (λ c κs. search needs) (λ c. search needs) (λ c. search needs)
+    (λ c. search needs) (λ c κs. search needs) (λ c. search needs) (λ c. search needs) returns-2 (λ c. search needs) (λ c. search needs)
+    (λ c. search needs) (λ c κs. search needs) (λ c. search needs) (λ c. search needs) returns-3)

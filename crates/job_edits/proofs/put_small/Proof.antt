@@ -29,19 +29,5 @@ returns : tie.Need-returns Inv-loop μ-loop
 returns c = copied-all (λ (u : ℕ). min u 65535) (c .before .loop .inv) (c .loop-test .left)
 
 pub put-small-spec : {M : Type 1} → statement M
-put-small-spec =
-    tie.close
-    (tie.spec
-    Inv-loop
-    μ-loop
-    loop-holds
-    (λ c. search needs)
-    (λ c. search needs)
-    (λ c κs. search needs)
-    (λ c. search needs)
-    slice-write-out
-    (λ c. search needs)
-    (λ c. search needs)
-    loop-again
-    same-length
-    returns)
+put-small-spec = tie.close (tie.spec Inv-loop μ-loop loop-holds (λ c. search needs) (λ c. search needs) (λ c κs. search needs)
+    (λ c. search needs) slice-write-out (λ c. search needs) (λ c. search needs) loop-again same-length returns)

@@ -13,14 +13,5 @@ returns c =
     (c .job-number .ensures .0 ∙ ap jobNumber (c .before .name-of .ensures ∙ ap name (sym (e .0))), c .job-number .ensures .1, c .before .before .before .word-end .ensures .1, e .1)
 
 pub first-of-spec : {M : Type 1} → statement M
-first-of-spec =
-    tie.close
-    (tie.spec
-    (λ c κs. search needs)
-    (λ c κs. search needs)
-    (λ c. search needs)
-    (λ c. search needs)
-    (λ c. search needs)
-    (λ c κs. search needs)
-    (λ c κs. search needs)
-    returns)
+first-of-spec = tie.close (tie.spec (λ c κs. search needs) (λ c κs. search needs) (λ c. search needs) (λ c. search needs)
+    (λ c. search needs) (λ c κs. search needs) (λ c κs. search needs) returns)

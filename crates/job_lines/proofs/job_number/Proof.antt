@@ -26,5 +26,4 @@ returns-7 : tie.Need-returns-7
 returns-7 c = (named-none (c .before .before .before .before .before .before .args .name) (c .before .before .before .before .before .if1 .left) (c .before .before .before .before .if2 .left) (c .before .before .before .if3 .left) (c .before .before .if4 .left) (c .before .if5 .left) (c .if6 .left), omega arith)
 
 pub job-number-spec : {M : Type 1} → statement M
-job-number-spec =
-    tie.close (tie.spec returns returns-2 returns-3 returns-4 returns-5 returns-6 returns-7)
+job-number-spec = tie.close (tie.spec returns returns-2 returns-3 returns-4 returns-5 returns-6 returns-7)

@@ -28,13 +28,5 @@ returns c =
     (q .0, omega (arith, q .1))
 
 pub put-done-spec : {M : Type 1} → statement M
-put-done-spec =
-    tie.close
-    (tie.spec
-    (λ c. search needs)
-    (λ c κs. search needs)
-    put-wires-requires
-    (λ c. search needs)
-    put-text-requires-2
-    (λ c. search needs)
-    returns)
+put-done-spec = tie.close (tie.spec (λ c. search needs) (λ c κs. search needs) put-wires-requires (λ c. search needs) put-text-requires-2
+    (λ c. search needs) returns)

@@ -32,16 +32,5 @@ returns-2 : tie.Need-returns-2
 returns-2 c = put-front (c .before .before .before .before .before .before .before .args .text .now) _ _ (edges-one (c .before .before .before .before .before .before .before .args .j) (c .before .before .before .before .before .before .before .args .first) (c .before .before .before .before .before .before .before .args .second) (c .before .before .before .before .before .if1 .left)) (c .before .before .put-number2 .ensures)
 
 pub put-edges-spec : {M : Type 1} → statement M
-put-edges-spec =
-    tie.close
-    (tie.spec
-    (λ c. search needs)
-    put-field-requires
-    (λ c. search needs)
-    put-number-requires
-    (λ c. search needs)
-    returns
-    (λ c. search needs)
-    put-number-requires-2
-    (λ c. search needs)
-    returns-2)
+put-edges-spec = tie.close (tie.spec (λ c. search needs) put-field-requires (λ c. search needs) put-number-requires (λ c. search needs)
+    returns (λ c. search needs) put-number-requires-2 (λ c. search needs) returns-2)

@@ -24,30 +24,7 @@ returns-6 : tie.Need-returns-6
 returns-6 c = put-as (c .before .before .before .before .before .before .before .before .before .before .before .args .text .now) (c .before .before .before .before .before .before .before .before .before .before .before .args .at) (c .before .before .put-text6 .last .0) (c .before .before .put-text6 .result) (form-glue (c .before .before .before .before .before .before .before .before .before .before .before .args .j) (c .before .before .before .before .before .before .before .before .before .if1 .left) (c .before .before .before .before .before .before .before .before .if2 .left) (c .before .before .before .before .before .before .before .if3 .left) (c .before .before .before .before .before .before .if4 .left) (c .before .before .before .before .before .if5 .left)) (c .before .before .put-text6 .ensures)
 
 pub put-form-spec : {M : Type 1} → statement M
-put-form-spec =
-    tie.close
-    (tie.spec
-    (λ c. search needs)
-    (λ c κs. search needs)
-    (λ c. search needs)
-    returns
-    (λ c. search needs)
-    (λ c κs. search needs)
-    (λ c. search needs)
-    returns-2
-    (λ c. search needs)
-    (λ c κs. search needs)
-    (λ c. search needs)
-    returns-3
-    (λ c. search needs)
-    (λ c κs. search needs)
-    (λ c. search needs)
-    returns-4
-    (λ c. search needs)
-    (λ c κs. search needs)
-    (λ c. search needs)
-    returns-5
-    (λ c. search needs)
-    (λ c κs. search needs)
-    (λ c. search needs)
-    returns-6)
+put-form-spec = tie.close (tie.spec (λ c. search needs) (λ c κs. search needs) (λ c. search needs) returns (λ c. search needs)
+    (λ c κs. search needs) (λ c. search needs) returns-2 (λ c. search needs) (λ c κs. search needs) (λ c. search needs) returns-3
+    (λ c. search needs) (λ c κs. search needs) (λ c. search needs) returns-4 (λ c. search needs) (λ c κs. search needs) (λ c. search needs)
+    returns-5 (λ c. search needs) (λ c κs. search needs) (λ c. search needs) returns-6)

@@ -37,19 +37,6 @@ returns-2 c =
     put-front out _ _ (no-word (a .j) (a .n) (c .before .before .before .before .before .before .before .before .before .before .before .before .before .before .before .before .before .before .before .if1 .left)) r
 
 pub put-no-job-spec : {M : Type 1} → statement M
-put-no-job-spec =
-    tie.close
-    (tie.spec
-    (λ c. search needs)
-    (λ c κs. search needs)
-    (λ c. search needs)
-    returns
-    (λ c. search needs)
-    put-field-requires
-    (λ c. search needs)
-    put-text-requires-2
-    put-form-requires
-    (λ c. search needs)
-    put-text-requires-3
-    (λ c. search needs)
-    returns-2)
+put-no-job-spec = tie.close (tie.spec (λ c. search needs) (λ c κs. search needs) (λ c. search needs) returns (λ c. search needs)
+    put-field-requires (λ c. search needs) put-text-requires-2 put-form-requires (λ c. search needs) put-text-requires-3
+    (λ c. search needs) returns-2)

@@ -56,31 +56,7 @@ returns-5 c =
     job-whole r whole _ n h s out (a .text .now) _ _ _ _ (c .before .before .do-job .ensures)
 
 pub apply-spec : {M : Type 1} → statement M
-apply-spec =
-    tie.close
-    (tie.spec
-    (λ c. search needs)
-    (λ c κs. search needs)
-    returns
-    (λ c κs. search needs)
-    (λ c. search needs)
-    (λ c. search needs)
-    (λ c. search needs)
-    (λ c κs. search needs)
-    (λ c κs. search needs)
-    returns-2
-    (λ c. search needs)
-    (λ c κs. search needs)
-    add-put-no-job
-    (λ c κs. search needs)
-    returns-3
-    (λ c κs. search needs)
-    (λ c. search needs)
-    (λ c κs. search needs)
-    returns-4
-    (λ c. search needs)
-    (λ c. search needs)
-    part-do-job-end
-    do-job-requires
-    (λ c. search needs)
-    returns-5)
+apply-spec = tie.close (tie.spec (λ c. search needs) (λ c κs. search needs) returns (λ c κs. search needs) (λ c. search needs)
+    (λ c. search needs) (λ c. search needs) (λ c κs. search needs) (λ c κs. search needs) returns-2 (λ c. search needs)
+    (λ c κs. search needs) add-put-no-job (λ c κs. search needs) returns-3 (λ c κs. search needs) (λ c. search needs)
+    (λ c κs. search needs) returns-4 (λ c. search needs) (λ c. search needs) part-do-job-end do-job-requires (λ c. search needs) returns-5)

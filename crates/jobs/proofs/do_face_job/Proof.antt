@@ -28,21 +28,6 @@ returns-2 c =
     text-as (face-done (c .before .before .before .before .before .before .before .before .before .before .before .before .before .before .before .before .before .before .args .j) (c .before .before .before .before .before .before .before .before .before .before .before .before .before .before .before .before .before .before .args .v .now) (c .before .before .before .before .before .before .before .before .before .before .before .before .before .before .before .before .before .before .args .file .now) _ (c .before .before .before .before .before .before .before .before .before .before .before .before .face-job .ensures .0) (c .before .before .before .before .before .before .before .before .if1 .left) (told-parts (held (c .before .before .before .before .before .before .before .before)))) (c .before .before .before .before .before .before .before .before .before .before .before .before .before .before .before .before .before .before .args .text .now) _ _ (c .before .before .put-done .ensures)
 
 pub do-face-job-spec : {M : Type 1} → statement M
-do-face-job-spec =
-    tie.close
-    (tie.spec
-    (λ c. search needs)
-    (λ c. search needs)
-    (λ c κs. search needs)
-    (λ c κs. search needs)
-    (λ c. search needs)
-    returns
-    (λ c. search needs)
-    (λ c. search needs)
-    part-put-done-end
-    (λ c. search needs)
-    (λ c. search needs)
-    part-put-done-end-2
-    put-done-requires
-    (λ c. search needs)
-    returns-2)
+do-face-job-spec = tie.close (tie.spec (λ c. search needs) (λ c. search needs) (λ c κs. search needs) (λ c κs. search needs)
+    (λ c. search needs) returns (λ c. search needs) (λ c. search needs) part-put-done-end (λ c. search needs) (λ c. search needs)
+    part-put-done-end-2 put-done-requires (λ c. search needs) returns-2)

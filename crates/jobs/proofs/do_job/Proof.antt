@@ -15,13 +15,5 @@ returns-2 c =
     face-whole (a .j) (a .v .now) (a .file .now) (a .out .now) (c .before .before .before .before .if1 .left) (a .text .now) _ _ (c .before .before .do-face-job .ensures)
 
 pub do-job-spec : {M : Type 1} → statement M
-do-job-spec =
-    tie.close
-    (tie.spec
-    (λ c κs. search needs)
-    (λ c. search needs)
-    (λ c. search needs)
-    returns
-    (λ c κs. search needs)
-    (λ c. search needs)
-    returns-2)
+do-job-spec = tie.close (tie.spec (λ c κs. search needs) (λ c. search needs) (λ c. search needs) returns (λ c κs. search needs)
+    (λ c. search needs) returns-2)

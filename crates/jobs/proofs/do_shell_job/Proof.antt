@@ -18,15 +18,5 @@ returns-2 c =
     (text-as (shell-done (c .before .before .before .before .before .before .before .before .before .before .before .before .before .before .args .j) _ _ (e .0) (c .before .before .before .before .if1 .left)) (c .before .before .before .before .before .before .before .before .before .before .before .before .before .before .args .text .now) _ _ (c .before .before .put-edges .ensures), (e .1, ap (λ (a : Answer). a .third) (e .0)))
 
 pub do-shell-job-spec : {M : Type 1} → statement M
-do-shell-job-spec =
-    tie.close
-    (tie.spec
-    (λ c κs. search needs)
-    (λ c κs. search needs)
-    (λ c. search needs)
-    (λ c. search needs)
-    returns
-    (λ c κs. search needs)
-    (λ c. search needs)
-    (λ c. search needs)
-    returns-2)
+do-shell-job-spec = tie.close (tie.spec (λ c κs. search needs) (λ c κs. search needs) (λ c. search needs) (λ c. search needs) returns
+    (λ c κs. search needs) (λ c. search needs) (λ c. search needs) returns-2)

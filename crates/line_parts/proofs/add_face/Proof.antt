@@ -16,14 +16,5 @@ returns c =
     (c .before .before .put-u162 .ensures ∙ rw (c .before .before .before .small .ensures))
 
 pub add-face-spec : {M : Type 1} → statement M
-add-face-spec =
-    tie.close
-    (tie.spec
-    (λ c. search needs)
-    (λ c κs. search needs)
-    (λ c κs. search needs)
-    (λ c. search needs)
-    (λ c κs. search needs)
-    (λ c κs. search needs)
-    (λ c. search needs)
-    returns)
+add-face-spec = tie.close (tie.spec (λ c. search needs) (λ c κs. search needs) (λ c κs. search needs) (λ c. search needs)
+    (λ c κs. search needs) (λ c κs. search needs) (λ c. search needs) returns)

@@ -86,33 +86,7 @@ returns-5 : tie.Need-returns-5
 returns-5 c = none-joined (adding (c .before .before .before .before .before)) (columns (c .before .before .before .before .before)) (c .before .before .before .if1 .left) (c .before .before .if2 .left) (c .before .if3 .left) (c .if4 .left)
 
 pub add-values-spec : {M : Type 1} → statement M
-add-values-spec =
-    tie.close
-    (tie.spec
-    shared-slice-read-add-point
-    (λ c. search needs)
-    add-point-requires
-    returns
-    (λ c. search needs)
-    add-edge-requires
-    returns-2
-    sub-add-wires
-    part-add-wires-start
-    (λ c. search needs)
-    (λ c. search needs)
-    (λ c. search needs)
-    add-wires-requires
-    shared-slice-read-add-face
-    (λ c. search needs)
-    add-face-requires
-    returns-3
-    sub-add-shell
-    (λ c. search needs)
-    add-shell-requires
-    sub-add-small
-    part-add-small-start
-    (λ c. search needs)
-    (λ c. search needs)
-    add-small-requires
-    returns-4
-    returns-5)
+add-values-spec = tie.close (tie.spec shared-slice-read-add-point (λ c. search needs) add-point-requires returns (λ c. search needs)
+    add-edge-requires returns-2 sub-add-wires part-add-wires-start (λ c. search needs) (λ c. search needs) (λ c. search needs)
+    add-wires-requires shared-slice-read-add-face (λ c. search needs) add-face-requires returns-3 sub-add-shell (λ c. search needs)
+    add-shell-requires sub-add-small part-add-small-start (λ c. search needs) (λ c. search needs) add-small-requires returns-4 returns-5)

@@ -72,32 +72,7 @@ returns : tie.Need-returns Inv-loop μ-loop
 returns c = laying-all (c .before .loop .inv) (c .loop-test .left)
 
 pub add-wires-spec : {M : Type 1} → statement M
-add-wires-spec =
-    tie.close
-    (tie.spec
-    Inv-loop
-    μ-loop
-    loop-holds
-    (λ c. search needs)
-    (λ c. search needs)
-    mul-wires
-    slice-write-wires
-    add-w
-    (λ c. search needs)
-    (λ c. search needs)
-    (λ c κs. search needs)
-    mul-uses
-    slice-write-uses
-    add-u
-    (λ c. search needs)
-    (λ c κs. search needs)
-    (λ c. search needs)
-    mul-wires-2
-    slice-write-wires-2
-    (λ c. search needs)
-    (λ c. search needs)
-    loop-again
-    (λ c. search needs)
-    same-length
-    same-length-2
-    returns)
+add-wires-spec = tie.close (tie.spec Inv-loop μ-loop loop-holds (λ c. search needs) (λ c. search needs) mul-wires slice-write-wires add-w
+    (λ c. search needs) (λ c. search needs) (λ c κs. search needs) mul-uses slice-write-uses add-u (λ c. search needs)
+    (λ c κs. search needs) (λ c. search needs) mul-wires-2 slice-write-wires-2 (λ c. search needs) (λ c. search needs) loop-again
+    (λ c. search needs) same-length same-length-2 returns)

@@ -31,17 +31,5 @@ returns : tie.Need-returns Inv-loop μ-loop
 returns c = counting-all (c .before .loop .inv) (c .loop-test .left)
 
 pub count-wires-spec : {M : Type 1} → statement M
-count-wires-spec =
-    tie.close
-    (tie.spec
-    Inv-loop
-    μ-loop
-    loop-holds
-    (λ c. search needs)
-    (λ c. search needs)
-    (λ c. search needs)
-    (λ c. search needs)
-    (λ c. search needs)
-    (λ c. search needs)
-    loop-again
-    returns)
+count-wires-spec = tie.close (tie.spec Inv-loop μ-loop loop-holds (λ c. search needs) (λ c. search needs) (λ c. search needs)
+    (λ c. search needs) (λ c. search needs) (λ c. search needs) loop-again returns)

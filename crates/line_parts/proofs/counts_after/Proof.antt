@@ -67,37 +67,8 @@ returns-7 c =
     after-none (s .args .k) (s .args .v .now) (s .args .t3) (search needs) (c .before .before .before .if1 .left) (c .before .before .if2 .left) (c .before .if3 .left) (c .if5 .left)
 
 pub counts-after-spec : {M : Type 1} → statement M
-counts-after-spec =
-    tie.close
-    (tie.spec
-    (λ c. search needs)
-    add-after
-    (λ c. search needs)
-    returns
-    (λ c. search needs)
-    add-after-2
-    (λ c. search needs)
-    returns-2
-    (λ c. search needs)
-    add-after-3
-    (λ c. search needs)
-    returns-3
-    (λ c. search needs)
-    (λ c. search needs)
-    (λ c κs. search needs)
-    (λ c. search needs)
-    add-after-4
-    (λ c. search needs)
-    (λ c. search needs)
-    add-after-5
-    (λ c. search needs)
-    returns-4
-    (λ c. search needs)
-    add-after-6
-    (λ c. search needs)
-    returns-5
-    (λ c. search needs)
-    add-after-7
-    (λ c. search needs)
-    returns-6
+counts-after-spec = tie.close (tie.spec (λ c. search needs) add-after (λ c. search needs) returns (λ c. search needs) add-after-2
+    (λ c. search needs) returns-2 (λ c. search needs) add-after-3 (λ c. search needs) returns-3 (λ c. search needs) (λ c. search needs)
+    (λ c κs. search needs) (λ c. search needs) add-after-4 (λ c. search needs) (λ c. search needs) add-after-5 (λ c. search needs)
+    returns-4 (λ c. search needs) add-after-6 (λ c. search needs) returns-5 (λ c. search needs) add-after-7 (λ c. search needs) returns-6
     returns-7)

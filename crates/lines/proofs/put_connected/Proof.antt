@@ -5,20 +5,11 @@ use Rattle.lines.proofs.put_connected.Statement.{statement}
 use Rattle.lines.proofs.put_connected.Tie as tie
 
 returns : tie.Need-returns
-returns c = put-as (c .before .before .before .before .before .before .before .args .out .now) (c .before .before .before .before .before .before .before .args .at) (c .before .before .put-text .last .0) (c .before .before .put-text .result) (yes-is (c .before .before .before .before .before .before .before .args .connected) (c .before .before .before .before .before .if1 .taken)) (c .before .before .put-text .ensures)
+returns c = put-as (c .before .before .before .before .before .before .before .args .out .now) _ _ _ (yes-is _ (c .before .before .before .before .before .if1 .taken)) (c .before .before .put-text .ensures)
 
 returns-2 : tie.Need-returns-2
-returns-2 c = put-as (c .before .before .before .before .before .before .before .args .out .now) (c .before .before .before .before .before .before .before .args .at) (c .before .before .put-text2 .last .0) (c .before .before .put-text2 .result) (no-is (c .before .before .before .before .before .before .before .args .connected) (c .before .before .before .before .before .if1 .left)) (c .before .before .put-text2 .ensures)
+returns-2 c = put-as (c .before .before .before .before .before .before .before .args .out .now) _ _ _ (no-is _ (c .before .before .before .before .before .if1 .left)) (c .before .before .put-text2 .ensures)
 
 pub put-connected-spec : {M : Type 1} → statement M
-put-connected-spec =
-    tie.close
-    (tie.spec
-    (λ c. search needs)
-    (λ c κs. search needs)
-    (λ c. search needs)
-    returns
-    (λ c. search needs)
-    (λ c κs. search needs)
-    (λ c. search needs)
+put-connected-spec = tie.close (tie.spec (search needs) (search needs) (search needs) returns (search needs) (search needs) (search needs)
     returns-2)

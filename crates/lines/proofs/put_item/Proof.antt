@@ -15,8 +15,7 @@ same-length : tie.Need-same-length
 same-length c = c .before .before .put-signed .kept .0 ∙ simp length-set
 
 returns : tie.Need-returns
-returns c = put-after (c .before .before .before .before .before .args .out .now) (c .before .before .before .before .before .args .at) 32 (signed (c .before .before .before .before .before .args .u)) (c .before .before .put-signed .last .0) (c .before .before .put-signed .result) (c .before .before .put-signed .ensures)
+returns c = put-after (c .before .before .before .before .before .args .out .now) _ 32 (signed _) _ _ (c .before .before .put-signed .ensures)
 
 pub put-item-spec : {M : Type 1} → statement M
-put-item-spec =
-    tie.close (tie.spec (λ c. search needs) (λ c. search needs) put-signed-requires same-length returns)
+put-item-spec = tie.close (tie.spec (search needs) (search needs) put-signed-requires same-length returns)

@@ -15,13 +15,13 @@ abbrev μ-loop : tie.MeasureT-loop
 μ-loop out₀ at us end₀ i₀ out end i = length us - i
 
 loop-holds : tie.Need-loop-holds Inv-loop μ-loop
-loop-holds c = putting-start item (c .before .before .args .out .now) (c .before .before .args .at) (c .before .before .args .us .now) (c .before .before .pre)
+loop-holds c = putting-start item _ _ _ (c .before .before .pre)
 
 put-item-requires : tie.Need-put-item-requires Inv-loop μ-loop
 put-item-requires c κs = putting-room item (c .before .before .before .loop .inv) 0 (c .before .before .loop-test .taken) refl
 
 loop-again : tie.Need-loop-again Inv-loop μ-loop
-loop-again c = putting-next item (c .before .before .before .before .before .before .loop .inv) 0 (c .before .before .before .before .before .loop-test .taken) refl (c .before .before .put-item .last .0) (c .before .before .put-item .result) (c .before .before .put-item .ensures)
+loop-again c = putting-next item (c .before .before .before .before .before .before .loop .inv) 0 (c .before .before .before .before .before .loop-test .taken) refl _ _ (c .before .before .put-item .ensures)
 
 same-length : tie.Need-same-length Inv-loop μ-loop
 same-length c = c .before .loop .inv .long
@@ -30,17 +30,5 @@ returns : tie.Need-returns Inv-loop μ-loop
 returns c = putting-all item (c .before .loop .inv) (c .loop-test .left)
 
 pub put-items-spec : {M : Type 1} → statement M
-put-items-spec =
-    tie.close
-    (tie.spec
-    Inv-loop
-    μ-loop
-    loop-holds
-    (λ c. search needs)
-    (λ c. search needs)
-    put-item-requires
-    (λ c. search needs)
-    (λ c. search needs)
-    loop-again
-    same-length
-    returns)
+put-items-spec = tie.close (tie.spec Inv-loop μ-loop loop-holds (search needs) (search needs) put-item-requires (search needs)
+    (search needs) loop-again same-length returns)

@@ -19,7 +19,8 @@ fits : (c : tie.After-index Inv-loop μ-loop) → c .before .before .before .loo
 fits c = lining-fits (wordLine (c .before .before .before .before .before .before .before .before .args .word .now)) (c .before .before .before .loop .inv) (c .before .before .loop-test .taken) (c .index .ensures .0)
 
 loop-holds : tie.Need-loop-holds Inv-loop μ-loop
-loop-holds c = lining-start (wordLine (c .before .before .before .before .args .word .now)) (c .before .before .before .before .args .out .now) (c .before .before .before .before .args .at) (c .before .before .before .before .args .items .now) (c .before .before .before .before .args .lens .now) (c .before .before .before .before .pre .0) (c .before .before .before .before .pre .1)
+loop-holds c = let start = c .before .before .before .before in
+    lining-start (wordLine (start .args .word .now)) _ _ _ _ (start .pre .0) (start .pre .1)
 
 add-put-line : tie.Need-add-put-line Inv-loop μ-loop
 add-put-line c = omega (arith, fits (c .before))
@@ -37,7 +38,7 @@ add-start : tie.Need-add-start Inv-loop μ-loop
 add-start c = omega (arith, fits (c .before .before .before .before .before))
 
 loop-again : tie.Need-loop-again Inv-loop μ-loop
-loop-again c = lining-next (wordLine (c .before .before .before .before .before .before .before .before .before .before .before .before .before .args .word .now)) (c .before .before .before .before .before .before .before .before .loop .inv) (c .before .before .before .before .before .before .before .loop-test .taken) (c .before .before .before .before .before .index .ensures .0) (c .before .before .put-line .last .0) (c .before .before .put-line .result) (c .before .before .put-line .ensures)
+loop-again c = lining-next (wordLine (c .before .before .before .before .before .before .before .before .before .before .before .before .before .args .word .now)) (c .before .before .before .before .before .before .before .before .loop .inv) (c .before .before .before .before .before .before .before .loop-test .taken) (c .before .before .before .before .before .index .ensures .0) _ _ (c .before .before .put-line .ensures)
 
 same-length : tie.Need-same-length Inv-loop μ-loop
 same-length c = c .before .loop .inv .putting .long
@@ -46,24 +47,6 @@ returns : tie.Need-returns Inv-loop μ-loop
 returns c = lining-all (wordLine (c .before .before .before .before .before .before .args .word .now)) (c .before .loop .inv) (c .loop-test .left)
 
 pub put-lines-spec : {M : Type 1} → statement M
-put-lines-spec =
-    tie.close
-    (tie.spec
-    Inv-loop
-    μ-loop
-    loop-holds
-    (λ c. search needs)
-    (λ c. search needs)
-    (λ c κs. search needs)
-    add-put-line
-    mul-put-line
-    (λ c. search needs)
-    (λ c. search needs)
-    part-put-line-end
-    put-line-requires
-    add-start
-    (λ c. search needs)
-    (λ c. search needs)
-    loop-again
-    same-length
+put-lines-spec = tie.close (tie.spec Inv-loop μ-loop loop-holds (search needs) (search needs) (search needs) add-put-line mul-put-line
+    (search needs) (search needs) part-put-line-end put-line-requires add-start (search needs) (search needs) loop-again same-length
     returns)

@@ -15,13 +15,13 @@ abbrev μ-loop : tie.MeasureT-loop
 μ-loop out₀ at word points end₀ j₀ out end j = length points - j
 
 loop-holds : tie.Need-loop-holds Inv-loop μ-loop
-loop-holds c = putting-start (wordNumber (c .before .before .before .args .word .now)) (c .before .before .before .args .out .now) (c .before .before .before .args .at) (c .before .before .before .args .points .now) (c .before .before .before .pre)
+loop-holds c = let start = c .before .before .before in putting-start (wordNumber (start .args .word .now)) _ _ _ (start .pre)
 
 put-number-requires : tie.Need-put-number-requires Inv-loop μ-loop
 put-number-requires c κs = putting-room (wordNumber (c .before .before .before .before .before .before .before .before .args .word .now)) (c .before .before .before .before .loop .inv) 0 (c .before .before .before .loop-test .taken) (sym (c .index .ensures .0))
 
 loop-again : tie.Need-loop-again Inv-loop μ-loop
-loop-again c = putting-next (wordNumber (c .before .before .before .before .before .before .before .before .before .before .before .args .word .now)) (c .before .before .before .before .before .before .before .loop .inv) 0 (c .before .before .before .before .before .before .loop-test .taken) (sym (c .before .before .before .index .ensures .0)) (c .before .before .put-number .last .0) (c .before .before .put-number .result) (c .before .before .put-number .ensures)
+loop-again c = putting-next (wordNumber (c .before .before .before .before .before .before .before .before .before .before .before .args .word .now)) (c .before .before .before .before .before .before .before .loop .inv) 0 (c .before .before .before .before .before .before .loop-test .taken) (sym (c .before .before .before .index .ensures .0)) _ _ (c .before .before .put-number .ensures)
 
 same-length : tie.Need-same-length Inv-loop μ-loop
 same-length c = c .before .loop .inv .long
@@ -30,18 +30,5 @@ returns : tie.Need-returns Inv-loop μ-loop
 returns c = putting-all (wordNumber (c .before .before .before .before .before .args .word .now)) (c .before .loop .inv) (c .loop-test .left)
 
 pub put-numbers-spec : {M : Type 1} → statement M
-put-numbers-spec =
-    tie.close
-    (tie.spec
-    Inv-loop
-    μ-loop
-    loop-holds
-    (λ c. search needs)
-    (λ c. search needs)
-    (λ c κs. search needs)
-    put-number-requires
-    (λ c. search needs)
-    (λ c. search needs)
-    loop-again
-    same-length
-    returns)
+put-numbers-spec = tie.close (tie.spec Inv-loop μ-loop loop-holds (search needs) (search needs) (search needs) put-number-requires
+    (search needs) (search needs) loop-again same-length returns)

@@ -10,26 +10,20 @@ use Rattle.lines.proofs.put_openings.Statement.{statement}
 use Rattle.lines.proofs.put_openings.Tie as tie
 
 put-lines-requires : tie.Need-put-lines-requires
-put-lines-requires c κs = (c .before .before .before .before .before .pre .0, omega (arith, length-append (wordLines (ascii "opening") (c .before .before .before .before .before .args .lens .now) (c .before .before .before .before .before .args .uses .now)) (wordNumber (ascii "lookups ") (c .before .before .before .before .before .args .lookups))))
+put-lines-requires c κs = let start = c .before .before .before .before .before in
+    (start .pre .0, omega (arith, length-append (wordLines (ascii "opening") (start .args .lens .now) (start .args .uses .now)) (wordNumber (ascii "lookups ") (start .args .lookups))))
 
 put-number-requires : tie.Need-put-number-requires
-put-number-requires c κs = omega (arith, length-append (wordLines (ascii "opening") (c .before .before .before .before .before .before .before .before .before .before .args .lens .now) (c .before .before .before .before .before .before .before .before .before .before .args .uses .now)) (wordNumber (ascii "lookups ") (c .before .before .before .before .before .before .before .before .before .before .args .lookups)), c .before .before .before .before .put-lines .kept .0)
+put-number-requires c κs = let args = c .before .before .before .before .before .before .before .before .before .before .args in
+    omega (arith, length-append (wordLines (ascii "opening") (args .lens .now) (args .uses .now)) (wordNumber (ascii "lookups ") (args .lookups)), c .before .before .before .before .put-lines .kept .0)
 
 same-length : tie.Need-same-length
 same-length c = c .before .before .put-number .kept .0 ∙ c .before .before .before .before .before .before .before .put-lines .kept .0
 
 returns : tie.Need-returns
 returns c =
-    put-then (c .before .before .before .before .before .before .before .before .before .before .before .before .before .args .out .now) (c .before .before .before .before .before .before .before .before .before .before .before .before .before .args .at) (wordLines (ascii "opening") (c .before .before .before .before .before .before .before .before .before .before .before .before .before .args .lens .now) (c .before .before .before .before .before .before .before .before .before .before .before .before .before .args .uses .now)) (wordNumber (ascii "lookups ") (c .before .before .before .before .before .before .before .before .before .before .before .before .before .args .lookups)) _ _ _ _
+    put-then _ _ (wordLines (ascii "opening") _ _) (wordNumber (ascii "lookups ") _) _ _ _ _
     (c .before .before .before .before .before .before .before .put-lines .ensures) (c .before .before .put-number .ensures)
 
 pub put-openings-spec : {M : Type 1} → statement M
-put-openings-spec =
-    tie.close
-    (tie.spec
-    (λ c. search needs)
-    put-lines-requires
-    (λ c. search needs)
-    put-number-requires
-    same-length
-    returns)
+put-openings-spec = tie.close (tie.spec (search needs) put-lines-requires (search needs) put-number-requires same-length returns)

@@ -6,25 +6,17 @@ use Rattle.lines.proofs.put_signed.Statement.{statement}
 use Rattle.lines.proofs.put_signed.Tie as tie
 
 put-decimal-requires : tie.Need-put-decimal-requires
-put-decimal-requires c κs = omega (arith, signed-long (c .before .before .before .before .args .u) (c .index .ensures .0) (c .before .before .sign-of .ensures))
+put-decimal-requires c κs = omega (arith, signed-long _ (c .index .ensures .0) (c .before .before .sign-of .ensures))
 
 slice-write-out : tie.Need-slice-write-out
-slice-write-out c = omega (arith, signed-long (c .before .before .before .before .before .before .before .args .u) (c .before .before .before .index .ensures .0) (c .before .before .before .before .before .sign-of .ensures), c .before .before .put-decimal .kept .0)
+slice-write-out c = omega (arith, signed-long _ (c .before .before .before .index .ensures .0) (c .before .before .before .before .before .sign-of .ensures), c .before .before .put-decimal .kept .0)
 
 add-result : tie.Need-add-result
-add-result c = omega (arith, signed-long (c .before .before .before .before .before .before .before .args .u) (c .before .before .before .index .ensures .0) (c .before .before .before .before .before .sign-of .ensures))
+add-result c = omega (arith, signed-long _ (c .before .before .before .index .ensures .0) (c .before .before .before .before .before .sign-of .ensures))
 
 returns : tie.Need-returns
-returns c = put-sign (c .before .before .before .before .before .before .before .args .u) (c .before .before .before .index .ensures .0) (c .before .before .before .before .before .sign-of .ensures) (c .before .before .before .before .before .before .before .args .out .now) (c .before .before .before .before .before .before .before .args .at) (c .before .before .put-decimal .last .0) (c .before .before .put-decimal .result) (c .before .before .put-decimal .ensures)
+returns c = put-sign _ (c .before .before .before .index .ensures .0) (c .before .before .before .before .before .sign-of .ensures) _ _ _ _ (c .before .before .put-decimal .ensures)
 
 pub put-signed-spec : {M : Type 1} → statement M
-put-signed-spec =
-    tie.close
-    (tie.spec
-    (λ c κs. search needs)
-    (λ c κs. search needs)
-    put-decimal-requires
-    slice-write-out
-    add-result
-    (λ c. search needs)
+put-signed-spec = tie.close (tie.spec (search needs) (search needs) put-decimal-requires slice-write-out add-result (λ c. search needs)
     returns)

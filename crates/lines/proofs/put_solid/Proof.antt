@@ -8,24 +8,15 @@ use Rattle.lines.proofs.put_solid.Tie as tie
 
 returns : tie.Need-returns
 returns c =
-    let a = c .before .before .before .before .before .before .before .args in
-    let p = put-as (a .out .now) (a .at) _ _ (accepted-is (a .accepted) (a .number) (a .shell) (c .before .before .before .before .before .if1 .taken)) (c .before .before .put-text .ensures) in
-    (p .0, p .1, omega (arith, c .before .before .put-text .ensures .1))
+    let put-text = c .before .before .put-text in
+    let p = put-as _ _ _ _ (accepted-is _ _ _ (c .before .before .before .before .before .if1 .taken)) (put-text .ensures) in
+    (p .0, p .1, omega (arith, put-text .ensures .1))
 
 returns-2 : tie.Need-returns-2
 returns-2 c =
-    let a = c .before .before .before .before .before .before .args in
-    let p = put-as (a .out .now) (a .at) _ _ (refused-is (a .accepted) (a .number) (a .shell) (c .before .before .before .before .if1 .left)) (c .before .before .put-refused .ensures) in
-    (p .0, p .1, omega (arith, c .before .before .put-refused .ensures .1, refused-short (c .before .before .before .before .before .before .args .number) (c .before .before .before .before .before .before .args .shell) (c .before .before .before .before .before .before .pre .0) (c .before .before .before .before .before .before .pre .1)))
+    let pre = c .before .before .before .before .before .before .pre in let put-refused = c .before .before .put-refused in
+    let p = put-as _ _ _ _ (refused-is _ _ _ (c .before .before .before .before .if1 .left)) (put-refused .ensures) in
+    (p .0, p .1, omega (arith, put-refused .ensures .1, refused-short _ _ (pre .0) (pre .1)))
 
 pub put-solid-spec : {M : Type 1} → statement M
-put-solid-spec =
-    tie.close
-    (tie.spec
-    (λ c. search needs)
-    (λ c κs. search needs)
-    (λ c. search needs)
-    returns
-    (λ c κs. search needs)
-    (λ c. search needs)
-    returns-2)
+put-solid-spec = tie.close (tie.spec (search needs) (search needs) (search needs) returns (search needs) (search needs) returns-2)

@@ -15,7 +15,7 @@ abbrev μ-loop : tie.MeasureT-loop
 μ-loop wires counts n out₀ at₀ start₀ k₀ out at start k = n - k
 
 loop-holds : tie.Need-loop-holds Inv-loop μ-loop
-loop-holds c = starting-start _ _ _ _ (c .before .before .before .pre .0) (c .before .before .before .pre .1) (c .before .before .before .pre .2) (c .before .before .before .pre .4)
+loop-holds c = let pre = c .before .before .before .pre in starting-start _ _ _ _ (pre .0) (pre .1) (pre .2) (pre .4)
 
 slice-write-out : tie.Need-slice-write-out Inv-loop μ-loop
 slice-write-out c = omega (arith, starting-long (c .before .loop .inv), c .before .before .before .before .before .pre .0)
@@ -30,7 +30,8 @@ part-sum-of-end : tie.Need-part-sum-of-end Inv-loop μ-loop
 part-sum-of-end c = starting-fits (c .before .before .before .loop .inv) (omega arith) (c .index .ensures .0)
 
 sum-of-requires : tie.Need-sum-of-requires Inv-loop μ-loop
-sum-of-requires c κs = (starting-part (c .before .before .before .before .loop .inv) (omega arith) (c .before .index .ensures .0), omega (arith, starting-fits (c .before .before .before .before .loop .inv) (omega arith) (c .before .index .ensures .0)))
+sum-of-requires c κs = let loop = c .before .before .before .before .loop in
+    (starting-part (loop .inv) (omega arith) (c .before .index .ensures .0), omega (arith, starting-fits (loop .inv) (omega arith) (c .before .index .ensures .0)))
 
 add-start : tie.Need-add-start Inv-loop μ-loop
 add-start c = omega (arith, starting-low (c .before .before .before .before .before .loop .inv) (omega arith) (c .before .before .index .ensures .0) (c .sum-of .ensures), sum-small (c .before .before .before .before .before .before .before .before .before .args .wires .now) (λ k. omega (arith, c .before .before .before .before .before .before .before .before .shared-slice-known .given k)))
@@ -51,29 +52,6 @@ returns : tie.Need-returns Inv-loop μ-loop
 returns c = starting-all (c .before .loop .inv) (omega arith)
 
 pub put-face-starts-spec : {M : Type 1} → statement M
-put-face-starts-spec =
-    tie.close
-    (tie.spec
-    Inv-loop
-    μ-loop
-    loop-holds
-    (λ c. search needs)
-    slice-write-out
-    (λ c. search needs)
-    (λ c. search needs)
-    (λ c κs. search needs)
-    add-sum-of
-    mul-sum-of
-    (λ c. search needs)
-    (λ c. search needs)
-    part-sum-of-end
-    sum-of-requires
-    add-start
-    add-at
-    (λ c. search needs)
-    (λ c. search needs)
-    loop-again
-    (λ c. search needs)
-    slice-write-out-2
-    same-length
-    returns)
+put-face-starts-spec = tie.close (tie.spec Inv-loop μ-loop loop-holds (search needs) slice-write-out (search needs) (search needs)
+    (search needs) add-sum-of mul-sum-of (search needs) (search needs) part-sum-of-end sum-of-requires add-start add-at (search needs)
+    (search needs) loop-again (search needs) slice-write-out-2 same-length returns)

@@ -20,36 +20,17 @@ abbrev μ-loop : tie.MeasureT-loop
 
 loop-again : tie.Need-loop-again Inv-loop μ-loop
 loop-again c =
-    let v = c .before .before .before .loop .inv in
-    let a = c .before .before .before .before .before .before .args in (
+    let args = c .before .before .before .before .before .before .args in let loop = c .before .before .before .loop in (
       omega arith,
-      simp length-set (v .1),
-      turning-one (a .out .now) (a .at) (a .wire .now) (c .before .before .before .loop .i) (c .turn .result) (c .before .before .before .loop .out) (omega arith) (c .turn .ensures) (v .2),
+      simp length-set (loop .inv .1),
+      turning-one (args .out .now) (args .at) (args .wire .now) (loop .i) (c .turn .result) (loop .out) (omega arith) (c .turn .ensures) (loop .inv .2),
     )
 
 returns : tie.Need-returns Inv-loop μ-loop
 returns c =
-    let v = c .before .loop .inv in
-    let a = c .before .before .before .before .args in
-    v .2 ∙ ap (sets (a .out .now) (a .at)) (take-all (c .before .loop .i) (map turned (reverse (a .wire .now))) (omega (arith, turned-keeps (a .wire .now))))
+    let args = c .before .before .before .before .args in
+    c .before .loop .inv .2 ∙ ap (sets (args .out .now) (args .at)) (take-all (c .before .loop .i) (map turned (reverse (args .wire .now))) (omega (arith, turned-keeps (args .wire .now))))
 
 pub put-turned-spec : {M : Type 1} → statement M
-put-turned-spec =
-    tie.close
-    (tie.spec
-    Inv-loop
-    μ-loop
-    (λ c. search needs)
-    (λ c. search needs)
-    (λ c. search needs)
-    (λ c. search needs)
-    (λ c. search needs)
-    (λ c κs. search needs)
-    (λ c. search needs)
-    (λ c. search needs)
-    (λ c. search needs)
-    (λ c. search needs)
-    (λ c. search needs)
-    loop-again
-    (λ c. search needs)
-    returns)
+put-turned-spec = tie.close (tie.spec Inv-loop μ-loop (search needs) (search needs) (search needs) (search needs) (search needs)
+    (search needs) (search needs) (search needs) (search needs) (search needs) (search needs) loop-again (search needs) returns)

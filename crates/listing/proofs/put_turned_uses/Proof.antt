@@ -16,7 +16,7 @@ abbrev μ-loop : tie.MeasureT-loop
 μ-loop uses wires out₀ at₀ k₀ out at k = length wires - k
 
 loop-holds : tie.Need-loop-holds Inv-loop μ-loop
-loop-holds c = turning-start _ _ _ (c .before .before .before .pre .0) (c .before .before .before .pre .2) (c .before .before .before .pre .3)
+loop-holds c = let pre = c .before .before .before .pre in turning-start _ _ _ (pre .0) (pre .2) (pre .3)
 
 add-put-turned : tie.Need-add-put-turned Inv-loop μ-loop
 add-put-turned c = omega (arith, turning-fits (c .before .before .before .before .loop .inv) (omega arith) (c .before .index .ensures .0))
@@ -43,24 +43,6 @@ returns : tie.Need-returns Inv-loop μ-loop
 returns c = turning-all (c .before .loop .inv) (omega arith)
 
 pub put-turned-uses-spec : {M : Type 1} → statement M
-put-turned-uses-spec =
-    tie.close
-    (tie.spec
-    Inv-loop
-    μ-loop
-    loop-holds
-    (λ c. search needs)
-    (λ c. search needs)
-    (λ c κs. search needs)
-    add-put-turned
-    mul-put-turned
-    (λ c. search needs)
-    (λ c. search needs)
-    part-put-turned-end
-    put-turned-requires
-    add-at
-    (λ c. search needs)
-    (λ c. search needs)
-    loop-again
-    same-length
-    returns)
+put-turned-uses-spec = tie.close (tie.spec Inv-loop μ-loop loop-holds (search needs) (search needs) (search needs) add-put-turned
+    mul-put-turned (search needs) (search needs) part-put-turned-end put-turned-requires add-at (search needs) (search needs) loop-again
+    same-length returns)

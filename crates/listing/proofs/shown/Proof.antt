@@ -13,22 +13,11 @@ part-long : (us : List ℕ) (start end : ℕ) → start ≤ end → end ≤ leng
 part-long us start end h l = length-take-le (end - start) (drop start us) (omega (arith, length-drop start us))
 
 returns : tie.Need-returns
-returns c = (sym (rw (c .before .if1 .taken)), part-long (c .before .before .args .turned .now) (c .before .before .args .start) (c .before .before .args .end) (omega arith) (omega arith))
+returns c = (sym (rw (c .before .if1 .taken)), part-long _ _ _ (omega arith) (omega arith))
 
 returns-2 : tie.Need-returns-2
-returns-2 c = (sym (rw (c .before .if1 .left)), part-long (c .before .before .args .uses .now) (c .before .before .args .start) (c .before .before .args .end) (omega arith) (omega arith))
+returns-2 c = (sym (rw (c .before .if1 .left)), part-long _ _ _ (omega arith) (omega arith))
 
 pub shown-spec : {M : Type 1} → statement M
-shown-spec =
-    tie.close
-    (tie.spec
-    (λ c. search needs)
-    (λ c. search needs)
-    (λ c. search needs)
-    (λ c. search needs)
-    returns
-    (λ c. search needs)
-    (λ c. search needs)
-    (λ c. search needs)
-    (λ c. search needs)
-    returns-2)
+shown-spec = tie.close (tie.spec (search needs) (search needs) (search needs) (search needs) returns (search needs) (search needs)
+    (search needs) (search needs) returns-2)

@@ -7,10 +7,10 @@ use Rattle.listing.proofs.turn.Statement.{statement}
 use Rattle.listing.proofs.turn.Tie as tie
 
 returns : tie.Need-returns
-returns c = let h : 32768 ≤ c .before .args .u = omega arith in rw (le-leb 32768 (c .before .args .u) h)
+returns c = let h : 32768 ≤ c .before .args .u = omega arith in rw (le-leb 32768 _ h)
 
 returns-2 : tie.Need-returns-2
-returns-2 c = let h : c .before .args .u < 32768 = omega arith in rw (lt-leb 32768 (c .before .args .u) h)
+returns-2 c = let h : c .before .args .u < 32768 = omega arith in rw (lt-leb 32768 _ h)
 
 pub turn-spec : {M : Type 1} → statement M
-turn-spec = tie.close (tie.spec returns (λ c. search needs) returns-2)
+turn-spec = tie.close (tie.spec returns (search needs) returns-2)

@@ -14,36 +14,41 @@ abbrev μ-loop : tie.MeasureT-loop
 μ-loop kept₀ p fronts backs out₀ at lookups q₀ m₀ n₀ kept out q m n = keptIn kept
 
 loop-holds : tie.Need-loop-holds Inv-loop μ-loop
-loop-holds c = going-start _ _ _ _ _ _ (c .before .before .before .before .args .p) (c .before .before .before .before .pre .0) (c .before .before .before .before .pre .1)
+loop-holds c = let pre = c .before .before .before .before .pre in going-start _ _ _ _ _ _ _ (pre .0) (pre .1)
 
 look-up-requires : tie.Need-look-up-requires Inv-loop μ-loop
 look-up-requires c κs =
-    let v = c .before .loop .inv in
-    (v .inside, omega (arith, v .asked, v .all, c .before .before .before .before .before .before .pre .3))
+    (c .before .loop .inv .inside, omega (arith, c .before .loop .inv .asked, c .before .loop .inv .all, c .before .before .before .before .before .before .pre .3))
 
 mul-out : tie.Need-mul-out Inv-loop μ-loop
 mul-out c =
-    let h = room-at _ _ _ _ _ _ _ _ _ _ _ _ (c .before .before .before .before .before .before .before .loop .inv) (c .before .before .before .before .before .look-up .result .answer) _ _ (c .before .before .before .before .before .look-up .ensures .0) (c .before .before .before .before .before .look-up .ensures .1 .1 .1) (c .before .before .before .before .before .look-up .ensures .1 .1 .0) (c .before .found .given .0 .0) (c .before .found .given .1) (c .before .before .before .before .before .before .before .before .before .before .before .before .pre .2) in
+    let look-up = c .before .before .before .before .before .look-up in
+    let h = room-at _ _ _ _ _ _ _ _ _ _ _ _ (c .before .before .before .before .before .before .before .loop .inv) _ _ _ (look-up .ensures .0) (look-up .ensures .1 .1 .1) (look-up .ensures .1 .1 .0) (c .before .found .given .0 .0) (c .before .found .given .1) (c .before .before .before .before .before .before .before .before .before .before .before .before .pre .2) in
     omega (arith, h)
 
 slice-write-out : tie.Need-slice-write-out Inv-loop μ-loop
-slice-write-out c = room-at _ _ _ _ _ _ _ _ _ _ _ _ (c .before .before .before .before .before .before .before .loop .inv) (c .before .before .before .before .before .look-up .result .answer) _ _ (c .before .before .before .before .before .look-up .ensures .0) (c .before .before .before .before .before .look-up .ensures .1 .1 .1) (c .before .before .before .before .before .look-up .ensures .1 .1 .0) (c .before .found .given .0 .0) (c .before .found .given .1) (c .before .before .before .before .before .before .before .before .before .before .before .before .pre .2)
+slice-write-out c = let look-up = c .before .before .before .before .before .look-up in
+    room-at _ _ _ _ _ _ _ _ _ _ _ _ (c .before .before .before .before .before .before .before .loop .inv) _ _ _ (look-up .ensures .0) (look-up .ensures .1 .1 .1) (look-up .ensures .1 .1 .0) (c .before .found .given .0 .0) (c .before .found .given .1) (c .before .before .before .before .before .before .before .before .before .before .before .before .pre .2)
 
 add-m : tie.Need-add-m Inv-loop μ-loop
 add-m c =
-    let h = room-at _ _ _ _ _ _ _ _ _ _ _ _ (c .before .before .before .before .before .before .before .loop .inv) (c .before .before .before .before .before .look-up .result .answer) _ _ (c .before .before .before .before .before .look-up .ensures .0) (c .before .before .before .before .before .look-up .ensures .1 .1 .1) (c .before .before .before .before .before .look-up .ensures .1 .1 .0) (c .before .found .given .0 .0) (c .before .found .given .1) (c .before .before .before .before .before .before .before .before .before .before .before .before .pre .2) in
+    let look-up = c .before .before .before .before .before .look-up in
+    let h = room-at _ _ _ _ _ _ _ _ _ _ _ _ (c .before .before .before .before .before .before .before .loop .inv) _ _ _ (look-up .ensures .0) (look-up .ensures .1 .1 .1) (look-up .ensures .1 .1 .0) (c .before .found .given .0 .0) (c .before .found .given .1) (c .before .before .before .before .before .before .before .before .before .before .before .before .pre .2) in
     omega (arith, h)
 
 back-of-requires : tie.Need-back-of-requires Inv-loop μ-loop
 back-of-requires c κs =
-    let h = edge-at _ _ _ _ _ _ _ _ _ _ _ _ (c .before .before .before .before .before .before .before .loop .inv) (c .before .before .before .before .before .look-up .result .answer) _ _ (c .before .before .before .before .before .look-up .ensures .0) (c .before .before .before .before .before .look-up .ensures .1 .1 .1) (c .before .before .before .before .before .look-up .ensures .1 .1 .0) (c .before .found .given .0 .0) (c .before .found .given .1) in
+    let look-up = c .before .before .before .before .before .look-up in
+    let h = edge-at _ _ _ _ _ _ _ _ _ _ _ _ (c .before .before .before .before .before .before .before .loop .inv) _ _ _ (look-up .ensures .0) (look-up .ensures .1 .1 .1) (look-up .ensures .1 .1 .0) (c .before .found .given .0 .0) (c .before .found .given .1) in
     (omega (arith, h .0, h .1), omega (arith, h .0, h .1))
 
 loop-less : tie.Need-loop-less Inv-loop μ-loop
-loop-less c = less-at _ _ _ _ _ _ _ _ _ _ _ _ (c .before .before .before .before .before .before .before .before .loop .inv) (c .before .before .before .before .before .before .look-up .result .answer) _ _ (c .before .before .before .before .before .before .look-up .ensures .0) (c .before .before .before .before .before .before .look-up .ensures .1 .1 .1) (c .before .before .before .before .before .before .look-up .ensures .1 .1 .0) (c .before .before .found .given .0 .0) (c .before .before .found .given .1)
+loop-less c = let look-up = c .before .before .before .before .before .before .look-up in let found = c .before .before .found in
+    less-at _ _ _ _ _ _ _ _ _ _ _ _ (c .before .before .before .before .before .before .before .before .loop .inv) _ _ _ (look-up .ensures .0) (look-up .ensures .1 .1 .1) (look-up .ensures .1 .1 .0) (found .given .0 .0) (found .given .1)
 
 loop-again : tie.Need-loop-again Inv-loop μ-loop
-loop-again c = next-at _ _ _ _ _ _ _ _ _ _ _ _ (c .before .before .before .before .before .before .before .before .loop .inv) (c .before .before .before .before .before .before .look-up .result .answer) _ _ (c .before .before .before .before .before .before .look-up .ensures .0) (c .before .before .before .before .before .before .look-up .ensures .1 .1 .1) (c .before .before .before .before .before .before .look-up .ensures .1 .1 .0) (c .before .before .found .given .0 .0) (c .before .before .found .given .1) _ (c .back-of .ensures)
+loop-again c = let look-up = c .before .before .before .before .before .before .look-up in let found = c .before .before .found in
+    next-at _ _ _ _ _ _ _ _ _ _ _ _ (c .before .before .before .before .before .before .before .before .loop .inv) _ _ _ (look-up .ensures .0) (look-up .ensures .1 .1 .1) (look-up .ensures .1 .1 .0) (found .given .0 .0) (found .given .1) _ (c .back-of .ensures)
 
 same-length : tie.Need-same-length Inv-loop μ-loop
 same-length c = c .before .before .before .before .look-up .kept .0 ∙ c .before .before .before .before .before .before .loop .inv .long
@@ -52,24 +57,9 @@ same-length-2 : tie.Need-same-length-2 Inv-loop μ-loop
 same-length-2 c = going-long _ _ _ _ _ _ _ _ _ _ _ _ (c .before .before .before .before .before .before .loop .inv)
 
 returns : tie.Need-returns Inv-loop μ-loop
-returns c = end _ _ _ _ _ _ _ _ _ _ _ _ (c .before .before .before .before .before .before .loop .inv) (c .before .before .before .before .look-up .result .answer) _ _ (c .before .before .before .before .look-up .ensures .0) (c .before .before .before .before .look-up .ensures .1 .1 .1) (c .before .before .before .before .look-up .ensures .1 .1 .0) (c .enum-told .given .1) _ refl refl
+returns c = let look-up = c .before .before .before .before .look-up in
+    end _ _ _ _ _ _ _ _ _ _ _ _ (c .before .before .before .before .before .before .loop .inv) _ _ _ (look-up .ensures .0) (look-up .ensures .1 .1 .1) (look-up .ensures .1 .1 .0) (c .enum-told .given .1) _ refl refl
 
 pub follow-from-spec : {M : Type 1} → statement M
-follow-from-spec =
-    tie.close
-    (tie.spec
-    Inv-loop
-    μ-loop
-    loop-holds
-    look-up-requires
-    (λ c. search needs)
-    (λ c. search needs)
-    mul-out
-    slice-write-out
-    add-m
-    back-of-requires
-    loop-less
-    loop-again
-    same-length
-    same-length-2
-    returns)
+follow-from-spec = tie.close (tie.spec Inv-loop μ-loop loop-holds look-up-requires (search needs) (search needs) mul-out slice-write-out
+    add-m back-of-requires loop-less loop-again same-length same-length-2 returns)

@@ -31,13 +31,12 @@ keep-at-requires c κs = keeping-front _ _ _ _ _ (c .before .before .before .bef
 
 loop-again : tie.Need-loop-again Inv-loop μ-loop
 loop-again c =
-    let v = c .before .before .before .before .loop .inv in
-    let pre = c .before .before .before .before .before .before .before .before .before .before .pre in
-    let odd = c .before .before .before .before .before .before .before .before .before .before .args .odd .now in
-    let u = getD (c .before .before .before .before .before .before .before .before .before .before .args .part .now) (c .before .before .before .before .loop .i) 0 in
+    let start = c .before .before .before .before .before .before .before .before .before .before in
+    let loop = c .before .before .before .before .loop in
+    let u = getD (start .args .part .now) (loop .i) 0 in
     ⊎-elim
-    (λ w. rw (w .6 ∙ w .3 .ensures) (keeping-odd _ _ _ _ _ pre _ _ v u (omega arith) refl (eq-eqb (getD odd (edgeNumber u) 0 / 16 % 2) 1 (w .0 .taken)) _ (w .1 .ensures)))
-    (λ w. rw (w .1) (keeping-even _ _ _ _ _ pre _ _ v u (omega arith) refl (ne-eqb (getD odd (edgeNumber u) 0 / 16 % 2) 1 (w .0 .left))))
+    (λ w. rw (w .6 ∙ w .3 .ensures) (keeping-odd _ _ _ _ _ (start .pre) _ _ (loop .inv) u (omega arith) refl (eq-eqb (getD (start .args .odd .now) (edgeNumber u) 0 / 16 % 2) 1 (w .0 .taken)) _ (w .1 .ensures)))
+    (λ w. rw (w .1) (keeping-even _ _ _ _ _ (start .pre) _ _ (loop .inv) u (omega arith) refl (ne-eqb (getD (start .args .odd .now) (edgeNumber u) 0 / 16 % 2) 1 (w .0 .left))))
     (c .if1 .came)
 
 same-length : tie.Need-same-length Inv-loop μ-loop
@@ -47,20 +46,5 @@ returns : tie.Need-returns Inv-loop μ-loop
 returns c = (keeping-all _ _ _ _ _ (c .before .before .before .before .before .before .before .pre) _ _ (c .before .loop .inv) (omega arith), c .before .loop .inv .holding)
 
 pub keep-part-spec : {M : Type 1} → statement M
-keep-part-spec =
-    tie.close
-    (tie.spec
-    Inv-loop
-    μ-loop
-    loop-holds
-    (λ c. search needs)
-    (λ c. search needs)
-    (λ c. search needs)
-    shared-slice-read-if1
-    front-of-requires
-    keep-at-requires
-    (λ c. search needs)
-    (λ c. search needs)
-    loop-again
-    same-length
-    returns)
+keep-part-spec = tie.close (tie.spec Inv-loop μ-loop loop-holds (search needs) (search needs) (search needs) shared-slice-read-if1
+    front-of-requires keep-at-requires (search needs) (search needs) loop-again same-length returns)

@@ -19,12 +19,13 @@ loop-holds c = passing-start _ _ _ _ _ _ _ (c .before .before .before .before .b
 
 walk-use-requires : tie.Need-walk-use-requires Inv-loop μ-loop
 walk-use-requires c κs =
-    let l = c .before .before .before .before .loop-test .taken in
-    let n = c .before .before .before .before .before .before .before .before .before .before .before .before .pre .0 in
-    ((n .edge (c .before .before .before .before .before .loop .i) l, n .point (c .before .before .before .before .before .loop .i) l), c .before .before .before .before .before .loop .inv .ready)
+    let pre = c .before .before .before .before .before .before .before .before .before .before .before .before .pre in
+    let loop-test = c .before .before .before .before .loop-test in
+    ((pre .0 .edge _ (loop-test .taken), pre .0 .point _ (loop-test .taken)), c .before .before .before .before .before .loop .inv .ready)
 
 loop-again : tie.Need-loop-again Inv-loop μ-loop
-loop-again c = passing-next _ _ _ _ _ _ _ _ _ _ _ _ (c .before .before .before .before .before .before .before .before .before .before .before .before .loop .inv) (c .before .before .before .before .before .before .before .before .before .before .before .loop-test .taken) _ _ _ _ (c .before .before .before .before .before .before .walk-use .ensures .0) (c .before .before .before .before .before .before .walk-use .ensures .1)
+loop-again c = let walk-use = c .before .before .before .before .before .before .walk-use in
+    passing-next _ _ _ _ _ _ _ _ _ _ _ _ (c .before .before .before .before .before .before .before .before .before .before .before .before .loop .inv) (c .before .before .before .before .before .before .before .before .before .before .before .loop-test .taken) _ _ _ _ (walk-use .ensures .0) (walk-use .ensures .1)
 
 same-length : tie.Need-same-length Inv-loop μ-loop
 same-length c = c .before .loop .inv .ready .points ∙ sym (c .before .before .before .before .before .before .before .before .pre .1 .points)
@@ -39,19 +40,5 @@ returns : tie.Need-returns Inv-loop μ-loop
 returns c = (passing-all _ _ _ _ _ _ _ _ _ _ _ _ (c .before .loop .inv) (omega arith), c .before .loop .inv .ready)
 
 pub walk-part-spec : {M : Type 1} → statement M
-walk-part-spec =
-    tie.close
-    (tie.spec
-    Inv-loop
-    μ-loop
-    loop-holds
-    (λ c. search needs)
-    (λ c. search needs)
-    walk-use-requires
-    (λ c. search needs)
-    (λ c. search needs)
-    loop-again
-    same-length
-    same-length-2
-    same-length-3
-    returns)
+walk-part-spec = tie.close (tie.spec Inv-loop μ-loop loop-holds (search needs) (search needs) walk-use-requires (search needs)
+    (search needs) loop-again same-length same-length-2 same-length-3 returns)

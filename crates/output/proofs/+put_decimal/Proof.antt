@@ -57,7 +57,7 @@ put-decimal-returns : (t : ℕ) → put-decimal-lts.Need-returns (
   put-decimal-below t,
   put-decimal.Post,
 ) (put-decimal-at t) put-decimal.Post
-put-decimal-returns t c = put-one (c .before .before .args .out .now) (c .before .before .args .at) (c .before .before .args .n) (omega arith)
+put-decimal-returns t c = put-one _ _ _ (omega arith)
 
 put-decimal-put-decimal-requires : (t : ℕ) → put-decimal-lts.Need-put-decimal-requires (
   put-decimal-below t,
@@ -101,7 +101,7 @@ put-decimal-returns-2 : (t : ℕ) → put-decimal-lts.Need-returns-2 (
   put-decimal-below t,
   put-decimal.Post,
 ) (put-decimal-at t) put-decimal.Post
-put-decimal-returns-2 t c = put-more (c .before .before .before .before .before .before .args .out .now) (c .before .before .before .before .before .before .args .at) (c .before .before .before .before .before .before .args .n) (c .before .before .put-decimal .last .0) (c .before .before .put-decimal .result) (omega arith) (c .before .before .put-decimal .ensures)
+put-decimal-returns-2 t c = put-more _ _ _ _ _ (omega arith) (c .before .before .put-decimal .ensures)
 
 pub +put-decimal-spec : {M : Type 1} → statement M
 +put-decimal-spec = close μ-put-decimal λ t. put-decimal-lts.spec (

@@ -8,17 +8,19 @@ use Rattle.output.specs.Text.{decimal}
 use Rattle.output.proofs.put_field.Tie as tie
 
 put-text-requires : tie.Need-put-text-requires
-put-text-requires c κs = omega (arith, length-append (c .before .before .before .args .text .now) (decimal (c .before .before .before .args .n)))
+put-text-requires c κs = let args = c .before .before .before .args in omega (arith, length-append (args .text .now) (decimal (args .n)))
 
 put-decimal-requires : tie.Need-put-decimal-requires
-put-decimal-requires c κs = omega (arith, c .before .before .before .put-text .kept .0, length-append (c .before .before .before .before .before .before .before .args .text .now) (decimal (c .before .before .before .before .before .before .before .args .n)))
+put-decimal-requires c κs = let args = c .before .before .before .before .before .before .before .args in
+    omega (arith, c .before .before .before .put-text .kept .0, length-append (args .text .now) (decimal (args .n)))
 
 same-length : tie.Need-same-length
 same-length c = c .before .before .put-decimal .kept .0 ∙ c .before .before .before .before .before .before .put-text .kept .0
 
 returns : tie.Need-returns
 returns c =
-    put-then (c .before .before .before .before .before .before .before .before .before .before .args .out .now) (c .before .before .before .before .before .before .before .before .before .before .args .at) (c .before .before .before .before .before .before .before .before .before .before .args .text .now) (decimal (c .before .before .before .before .before .before .before .before .before .before .args .n)) _ _ _ _ (c .before .before .before .before .before .before .put-text .ensures) (c .before .before .put-decimal .ensures)
+    let args = c .before .before .before .before .before .before .before .before .before .before .args in
+    put-then (args .out .now) _ (args .text .now) (decimal _) _ _ _ _ (c .before .before .before .before .before .before .put-text .ensures) (c .before .before .put-decimal .ensures)
 
 pub put-field-spec : {M : Type 1} → statement M
 put-field-spec = tie.close (tie.spec put-text-requires put-decimal-requires same-length returns)

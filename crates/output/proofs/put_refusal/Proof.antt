@@ -44,19 +44,5 @@ returns c =
     (p4 .0, omega (arith, p4 .1), omega arith)
 
 pub put-refusal-spec : {M : Type 1} → statement M
-put-refusal-spec =
-    tie.close
-    (tie.spec
-    (λ c κs. search needs)
-    (λ c κs. search needs)
-    (λ c κs. search needs)
-    (λ c. search needs)
-    put-field-requires
-    (λ c. search needs)
-    put-field-requires-2
-    (λ c. search needs)
-    put-field-requires-3
-    (λ c. search needs)
-    put-text-requires
-    (λ c. search needs)
-    returns)
+put-refusal-spec = tie.close (tie.spec (search needs) (search needs) (search needs) (search needs) put-field-requires (search needs)
+    put-field-requires-2 (search needs) put-field-requires-3 (search needs) put-text-requires (search needs) returns)

@@ -17,11 +17,10 @@ abbrev μ-loop : tie.MeasureT-loop
 
 loop-again : tie.Need-loop-again Inv-loop μ-loop
 loop-again c =
-    let v = c .before .before .loop .inv in
-    let t = c .before .before .before .args .text .now in (
+    let loop = c .before .before .loop in (
       omega arith,
-      simp length-set (v .1),
-      rw (v .2) (sets-next (c .before .before .before .args .out .now) (c .before .before .before .args .at) t (c .before .before .loop .i) 0 (c .before .loop-test .taken)),
+      simp length-set (loop .inv .1),
+      rw (loop .inv .2) (sets-next _ _ (c .before .before .before .args .text .now) _ 0 (c .before .loop-test .taken)),
     )
 
 same-length : tie.Need-same-length Inv-loop μ-loop
@@ -29,22 +28,10 @@ same-length c = c .before .loop .inv .1
 
 returns : tie.Need-returns Inv-loop μ-loop
 returns c =
-    let e : c .before .loop .i ≡ length (c .before .before .args .text .now) = omega arith in
-    (rw (take-all (c .before .loop .i) (c .before .before .args .text .now) (omega arith)) at (c .before .loop .inv .2), omega arith)
+    let args = c .before .before .args in
+    let e : c .before .loop .i ≡ length (args .text .now) = omega arith in
+    (rw (take-all (c .before .loop .i) (args .text .now) (omega arith)) at (c .before .loop .inv .2), omega arith)
 
 pub put-text-spec : {M : Type 1} → statement M
-put-text-spec =
-    tie.close
-    (tie.spec
-    Inv-loop
-    μ-loop
-    (λ c. search needs)
-    (λ c. search needs)
-    (λ c. search needs)
-    (λ c. search needs)
-    (λ c. search needs)
-    (λ c. search needs)
-    loop-again
-    (λ c. search needs)
-    same-length
-    returns)
+put-text-spec = tie.close (tie.spec Inv-loop μ-loop (search needs) (search needs) (search needs) (search needs) (search needs)
+    (search needs) loop-again (search needs) same-length returns)

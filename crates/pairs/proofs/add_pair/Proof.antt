@@ -7,23 +7,13 @@ use Rattle.pairs.proofs.add_pair.Statement.{statement}
 use Rattle.pairs.proofs.add_pair.Tie as tie
 
 returns : tie.Need-returns
-returns c = add-none (c .before .before .before .before .before .before .args .marks .now) (c .before .before .before .before .before .before .args .firsts .now) (c .before .before .before .before .before .before .args .out .now) (c .before .before .before .before .before .before .args .at) (c .before .before .before .before .before .before .args .l) (sym (c .before .is-new .ensures) ∙ not-true (c .before .is-new .result) (c .if1 .taken))
+returns c = let args = c .before .before .before .before .before .before .args in
+    add-none _ (args .firsts .now) _ _ (args .l) (sym (c .before .is-new .ensures) ∙ not-true _ (c .if1 .taken))
 
 returns-2 : tie.Need-returns-2
-returns-2 c = add-one-pair (c .before .before .before .before .before .before .before .args .marks .now) (c .before .before .before .before .before .before .before .args .firsts .now) (c .before .before .before .before .before .before .before .args .out .now) (c .before .before .before .before .before .before .before .args .at) (c .before .before .before .before .before .before .before .args .l) (sym (c .before .before .is-new .ensures) ∙ not-false (c .before .before .is-new .result) (c .before .if1 .left)) (c .mark-of .result) (c .mark-of .ensures)
+returns-2 c = let args = c .before .before .before .before .before .before .before .args in
+    add-one-pair (args .marks .now) (args .firsts .now) (args .out .now) _ _ (sym (c .before .before .is-new .ensures) ∙ not-false _ (c .before .if1 .left)) _ (c .mark-of .ensures)
 
 pub add-pair-spec : {M : Type 1} → statement M
-add-pair-spec =
-    tie.close
-    (tie.spec
-    (λ c κs. search needs)
-    (λ c. search needs)
-    returns
-    (λ c κs. search needs)
-    (λ c. search needs)
-    (λ c. search needs)
-    (λ c. search needs)
-    (λ c. search needs)
-    (λ c. search needs)
-    (λ c. search needs)
-    returns-2)
+add-pair-spec = tie.close (tie.spec (search needs) (search needs) returns (search needs) (search needs) (search needs) (search needs)
+    (search needs) (search needs) (search needs) returns-2)

@@ -8,13 +8,4 @@ returns : tie.Need-returns
 returns c = rw (add-one, c .before .before .index .ensures .0)
 
 pub has-wires-spec : {M : Type 1} → statement M
-has-wires-spec =
-    tie.close
-    (tie.spec
-    (λ c κs. search needs)
-    (λ c. search needs)
-    (λ c. search needs)
-    (λ c. search needs)
-    (λ c. search needs)
-    (λ c. search needs)
-    returns)
+has-wires-spec = tie.close (tie.spec (search needs) (search needs) (search needs) (search needs) (search needs) (search needs) returns)

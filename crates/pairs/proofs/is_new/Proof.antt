@@ -11,6 +11,4 @@ returns-2 : tie.Need-returns-2
 returns-2 c = c .if1 .left ∙ rw (sym (c .before .has-wires .ensures) ∙ c .if1 .left)
 
 pub is-new-spec : {M : Type 1} → statement M
-is-new-spec =
-    tie.close
-    (tie.spec (λ c κs. search needs) (λ c κs. search needs) (λ c. search needs) returns returns-2)
+is-new-spec = tie.close (tie.spec (search needs) (search needs) (search needs) returns returns-2)

@@ -17,13 +17,14 @@ loop-holds : tie.Need-loop-holds Inv-loop μ-loop
 loop-holds c = laying-start _ _ _ _ _ (c .before .before .before .before .before .pre .0)
 
 part-of-requires : tie.Need-part-of-requires Inv-loop μ-loop
-part-of-requires c κs = c .before .before .before .before .before .before .before .before .before .pre .1 .shows (c .before .before .before .loop .pair) (omega arith)
+part-of-requires c κs = c .before .before .before .before .before .before .before .before .before .pre .1 .shows _ (omega arith)
 
 put-part-requires : tie.Need-put-part-requires Inv-loop μ-loop
 put-part-requires c κs = laying-room _ _ _ _ (c .before .before .before .before .loop .inv) (omega arith) _ (c .part-of .ensures)
 
 loop-again : tie.Need-loop-again Inv-loop μ-loop
-loop-again c = laying-next _ _ _ _ (c .before .before .before .before .before .before .before .loop .inv) (omega arith) _ _ _ (c .before .before .before .part-of .ensures) (c .before .before .put-part .ensures .0) (c .before .before .put-part .ensures .1)
+loop-again c = let put-part = c .before .before .put-part in
+    laying-next _ _ _ _ (c .before .before .before .before .before .before .before .loop .inv) (omega arith) _ _ _ (c .before .before .before .part-of .ensures) (put-part .ensures .0) (put-part .ensures .1)
 
 same-length : tie.Need-same-length Inv-loop μ-loop
 same-length c = laying-long _ _ _ _ (c .before .loop .inv)
@@ -32,18 +33,5 @@ returns : tie.Need-returns Inv-loop μ-loop
 returns c = laying-all _ _ _ _ (c .before .loop .inv) (omega arith)
 
 pub put-parts-spec : {M : Type 1} → statement M
-put-parts-spec =
-    tie.close
-    (tie.spec
-    Inv-loop
-    μ-loop
-    loop-holds
-    (λ c. search needs)
-    (λ c. search needs)
-    part-of-requires
-    put-part-requires
-    (λ c. search needs)
-    (λ c. search needs)
-    loop-again
-    same-length
-    returns)
+put-parts-spec = tie.close (tie.spec Inv-loop μ-loop loop-holds (search needs) (search needs) part-of-requires put-part-requires
+    (search needs) (search needs) loop-again same-length returns)

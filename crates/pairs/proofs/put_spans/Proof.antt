@@ -16,13 +16,13 @@ abbrev μ-loop : tie.MeasureT-loop
 μ-loop pairs uses turned starts out₀ k₀ out k = length pairs - k
 
 loop-holds : tie.Need-loop-holds Inv-loop μ-loop
-loop-holds c = spanning-start _ _ _ _ _ (c .before .before .before .before .before .pre .0 .0) (c .before .before .before .before .before .pre .0 .1)
+loop-holds c = let pre = c .before .before .before .before .before .pre in spanning-start _ _ _ _ _ (pre .0 .0) (pre .0 .1)
 
 part-of-requires : tie.Need-part-of-requires Inv-loop μ-loop
-part-of-requires c κs = c .before .before .before .before .before .before .before .before .pre .1 .shows (c .before .before .loop .k) (omega arith)
+part-of-requires c κs = c .before .before .before .before .before .before .before .before .pre .1 .shows _ (omega arith)
 
 short-requires : tie.Need-short-requires Inv-loop μ-loop
-short-requires c κs = rw (c .part-of .ensures) (c .before .before .before .before .before .before .before .before .before .pre .1 .short (c .before .before .before .loop .k) (omega arith))
+short-requires c κs = rw (c .part-of .ensures) (c .before .before .before .before .before .before .before .before .before .pre .1 .short _ (omega arith))
 
 loop-again : tie.Need-loop-again Inv-loop μ-loop
 loop-again c = spanning-next _ _ _ _ (c .before .before .before .before .loop .inv) (omega arith) _ _ (c .before .part-of .ensures) (c .short .ensures)
@@ -34,20 +34,5 @@ returns : tie.Need-returns Inv-loop μ-loop
 returns c = spanning-all _ _ _ _ (c .before .loop .inv) (omega arith)
 
 pub put-spans-spec : {M : Type 1} → statement M
-put-spans-spec =
-    tie.close
-    (tie.spec
-    Inv-loop
-    μ-loop
-    loop-holds
-    (λ c. search needs)
-    (λ c. search needs)
-    part-of-requires
-    short-requires
-    (λ c. search needs)
-    (λ c. search needs)
-    (λ c. search needs)
-    (λ c. search needs)
-    loop-again
-    same-length
-    returns)
+put-spans-spec = tie.close (tie.spec Inv-loop μ-loop loop-holds (search needs) (search needs) part-of-requires short-requires
+    (search needs) (search needs) (search needs) (search needs) loop-again same-length returns)

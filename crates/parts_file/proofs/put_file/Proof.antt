@@ -105,34 +105,8 @@ returns : tie.Need-returns
 returns c = stage-all (stage7 (c .before .before))
 
 pub put-file-spec : {M : Type 1} → statement M
-put-file-spec =
-    tie.close
-    (tie.spec
-    (λ c κs. search needs)
-    (λ c κs. search needs)
-    (λ c. search needs)
-    (λ c. search needs)
-    put-points-requires
-    (λ c. search needs)
-    (λ c. search needs)
-    mul-put-bytes
-    put-bytes-requires
-    (λ c. search needs)
-    (λ c. search needs)
-    put-u16s-requires
-    (λ c. search needs)
-    (λ c. search needs)
-    put-u16s-requires-2
-    (λ c. search needs)
-    (λ c. search needs)
-    mul-put-bytes-2
-    put-bytes-requires-2
-    (λ c. search needs)
-    (λ c. search needs)
-    put-u16s-requires-3
-    (λ c. search needs)
-    (λ c. search needs)
-    put-u16s-requires-4
-    (λ c. search needs)
-    same-length
-    returns)
+put-file-spec = tie.close (tie.spec (λ c κs. search needs) (λ c κs. search needs) (λ c. search needs) (λ c. search needs)
+    put-points-requires (λ c. search needs) (λ c. search needs) mul-put-bytes put-bytes-requires (λ c. search needs) (λ c. search needs)
+    put-u16s-requires (λ c. search needs) (λ c. search needs) put-u16s-requires-2 (λ c. search needs) (λ c. search needs) mul-put-bytes-2
+    put-bytes-requires-2 (λ c. search needs) (λ c. search needs) put-u16s-requires-3 (λ c. search needs) (λ c. search needs)
+    put-u16s-requires-4 (λ c. search needs) same-length returns)

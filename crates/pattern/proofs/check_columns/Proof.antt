@@ -19,18 +19,5 @@ returns-2 : tie.Need-returns-2
 returns-2 c = c .check-tables .ensures ∙ columns-passed (c .before .before .before .before .before .before .before .before .before .before .before .pre) (accepted-none _ (sym (c .before .before .before .check-lists .ensures) ∙ c .before .enum-told .given .1))
 
 pub check-columns-spec : {M : Type 1} → statement M
-check-columns-spec =
-    tie.close
-    (tie.spec
-    (λ c. search needs)
-    (λ c. search needs)
-    (λ c. search needs)
-    (λ c. search needs)
-    (λ c. search needs)
-    (λ c. search needs)
-    (λ c κs. search needs)
-    (λ c. search needs)
-    (λ c. search needs)
-    check-tables-requires
-    returns
-    returns-2)
+check-columns-spec = tie.close (tie.spec (search needs) (search needs) (search needs) (search needs) (search needs) (search needs)
+    (search needs) (search needs) (search needs) check-tables-requires returns returns-2)

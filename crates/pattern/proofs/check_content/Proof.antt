@@ -1,6 +1,5 @@
 -- The loop checks the edges; then the tables are lent as columns.
 use Prim.Native.Nat.{_-_}
-use mathlib.Core.List.{[]}
 use mathlib.Core.Path.{_∙_, sym}
 use lib.ListN.{length-map}
 use borrow.Author.Needs.{needs}
@@ -33,64 +32,36 @@ full s =
     }
 
 loop-holds : tie.Need-loop-holds Inv-loop μ-loop
-loop-holds c = let s = c .before .before in edging-start (s .args .t1 .edges) _ _ _ _ (full s .edges) (limits s .edges) (search needs) (search needs)
+loop-holds c = let s = c .before .before in edging-start _ _ _ _ _ (full s .edges) (limits s .edges) (search needs) (search needs)
 
 returns : tie.Need-returns Inv-loop μ-loop
 returns c =
-    let s = c .before .before .before .before .before .before .before .before .before in
-    let l = c .before .before .before .before .before .before .loop in
-    sym (edge-refused (s .args .t1) (limits s) (full s) _ (edging-stop (s .args .t1 .edges) _ _ (l .fronts) (l .backs) (l .k) (l .inv) (c .before .before .before .before .before .loop-test .taken) _ (sym (c .before .before .before .check-edge .ensures) ∙ c .before .answer .given .1)))
+    let place = c .before .before .before .before .before .before .before .before .before in
+    sym (edge-refused _ (limits place) (full place) _ (edging-stop _ _ _ _ _ _ (c .before .before .before .before .before .before .loop .inv) (c .before .before .before .before .before .loop-test .taken) _ (sym (c .before .before .before .check-edge .ensures) ∙ c .before .answer .given .1)))
 
 loop-again : tie.Need-loop-again Inv-loop μ-loop
 loop-again c =
-    let s = c .before .before .before .before .before .before .before .before in
-    let l = c .before .before .before .before .before .loop in
-    edging-next (s .args .t1 .edges) _ _ (l .fronts) (l .backs) (l .k) (l .inv) (c .before .before .before .before .loop-test .taken) (sym (c .before .before .check-edge .ensures) ∙ c .enum-told .given .1)
+    edging-next _ _ _ _ _ _ (c .before .before .before .before .before .loop .inv) (c .before .before .before .before .loop-test .taken) (sym (c .before .before .check-edge .ensures) ∙ c .enum-told .given .1)
 
 check-columns-requires : tie.Need-check-columns-requires Inv-loop μ-loop
 check-columns-requires c κs =
-    let s = c .before .before .before .before .before .before .before .before .before .before .before .before .before .before .before .before .before .before .before in
-    let l = c .before .before .before .before .before .before .before .before .before .before .before .before .before .before .before .before .loop in
-    let left = c .before .before .before .before .before .before .before .before .before .before .before .before .before .before .before .loop-test .left in
-    let es = s .args .t1 .edges in
-    checkable (s .args .t1) (limits s) (full s) (edging-all es _ _ (l .fronts) (l .backs) (l .k) (l .inv) left) (l .fronts) (l .backs) (c .before .before .before .before .before .before .before .before .before .before .before .before .wire-counts .result)
-    (edging-fronts es _ _ (l .fronts) (l .backs) (l .k) (l .inv) left) (edging-backs es _ _ (l .fronts) (l .backs) (l .k) (l .inv) left) (c .before .before .before .before .before .before .before .before .before .before .before .before .wire-counts .ensures) (l .inv .front .long ∙ full s .edges) (l .inv .back .long ∙ full s .edges)
+    let start = c .before .before .before .before .before .before .before .before .before .before .before .before .before .before .before .before .before .before .before in
+    let loop = c .before .before .before .before .before .before .before .before .before .before .before .before .before .before .before .before .loop in
+    let loop-test = c .before .before .before .before .before .before .before .before .before .before .before .before .before .before .before .loop-test in
+    checkable _ (limits start) (full start) (edging-all (start .args .t1 .edges) _ _ _ _ _ (loop .inv) (loop-test .left)) _ _ _
+    (edging-fronts (start .args .t1 .edges) _ _ _ _ _ (loop .inv) (loop-test .left)) (edging-backs (start .args .t1 .edges) _ _ _ _ _ (loop .inv) (loop-test .left)) (c .before .before .before .before .before .before .before .before .before .before .before .before .wire-counts .ensures) (loop .inv .front .long ∙ full start .edges) (loop .inv .back .long ∙ full start .edges)
 
 returns-2 : tie.Need-returns-2 Inv-loop μ-loop
 returns-2 c =
-    let s = c .before .before .before .before .before .before .before .before .before .before .before .before .before .before .before .before .before .before .before .before in
-    let l = c .before .before .before .before .before .before .before .before .before .before .before .before .before .before .before .before .before .loop in
-    let left = c .before .before .before .before .before .before .before .before .before .before .before .before .before .before .before .before .loop-test .left in
-    let es = s .args .t1 .edges in
+    let start = c .before .before .before .before .before .before .before .before .before .before .before .before .before .before .before .before .before .before .before .before in
+    let loop = c .before .before .before .before .before .before .before .before .before .before .before .before .before .before .before .before .before .loop in
+    let loop-test = c .before .before .before .before .before .before .before .before .before .before .before .before .before .before .before .before .loop-test in
+    let wire-counts = c .before .before .before .before .before .before .before .before .before .before .before .before .before .wire-counts in
     c .check-columns .ensures
-    ∙ content-columns (s .args .t1) (limits s) (full s) (edging-all es _ _ (l .fronts) (l .backs) (l .k) (l .inv) left) (l .fronts) (l .backs) (c .before .before .before .before .before .before .before .before .before .before .before .before .before .wire-counts .result)
-    (edging-fronts es _ _ (l .fronts) (l .backs) (l .k) (l .inv) left) (edging-backs es _ _ (l .fronts) (l .backs) (l .k) (l .inv) left) (c .before .before .before .before .before .before .before .before .before .before .before .before .before .wire-counts .ensures) (l .inv .front .long ∙ full s .edges) (l .inv .back .long ∙ full s .edges)
+    ∙ content-columns (start .args .t1) (limits start) (full start) (edging-all (start .args .t1 .edges) _ _ (loop .fronts) (loop .backs) (loop .k) (loop .inv) (loop-test .left)) (loop .fronts) (loop .backs) (wire-counts .result)
+    (edging-fronts (start .args .t1 .edges) _ _ (loop .fronts) (loop .backs) (loop .k) (loop .inv) (loop-test .left)) (edging-backs (start .args .t1 .edges) _ _ (loop .fronts) (loop .backs) (loop .k) (loop .inv) (loop-test .left)) (wire-counts .ensures) (loop .inv .front .long ∙ full start .edges) (loop .inv .back .long ∙ full start .edges)
 
 pub check-content-spec : {M : Type 1} → statement M
-check-content-spec =
-    tie.close
-    (tie.spec
-    Inv-loop
-    μ-loop
-    (λ c. search needs)
-    (λ c. search needs)
-    loop-holds
-    (λ c. search needs)
-    (λ c. search needs)
-    (λ c κs. search needs)
-    (λ c. search needs)
-    returns
-    (λ c. search needs)
-    (λ c. search needs)
-    (λ c. search needs)
-    (λ c. search needs)
-    (λ c. search needs)
-    (λ c. search needs)
-    (λ c. search needs)
-    loop-again
-    (λ c κs. search needs)
-    (λ c. search needs)
-    (λ c. search needs)
-    (λ c. search needs)
-    check-columns-requires
-    returns-2)
+check-content-spec = tie.close (tie.spec Inv-loop μ-loop (search needs) (search needs) loop-holds (search needs) (search needs)
+    (search needs) (search needs) returns (search needs) (search needs) (search needs) (search needs) (search needs) (search needs)
+    (search needs) loop-again (search needs) (search needs) (search needs) (search needs) check-columns-requires returns-2)

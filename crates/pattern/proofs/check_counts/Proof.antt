@@ -24,37 +24,20 @@ loop-holds c = (search needs, (c .file-layout .ensures, passed-start limitFaults
 
 returns : tie.Need-returns Inv-loop μ-loop
 returns c =
-    let v = c .before .before .before .loop .inv in
-    let b = c .before .before .before .loop .b in
-    let n = getD (c .before .before .before .before .before .args .t1) b 0 in
-    sym (passed-stop limitFaults 0 (c .before .before .before .before .before .args .t1) 0 b b n (v .1 .1) (omega (arith, v .0)) refl (omega arith) (Limit b) (over-limit b n (rw (v .1 .0) at (c .if1 .taken))))
+    let args = c .before .before .before .before .before .args in let loop = c .before .before .before .loop in
+    let n = getD (args .t1) (loop .b) 0 in
+    sym (passed-stop limitFaults 0 (args .t1) 0 (loop .b) (loop .b) n (loop .inv .1 .1) (omega (arith, loop .inv .0)) refl (omega arith) (Limit (loop .b)) (over-limit (loop .b) n (rw (loop .inv .1 .0) at (c .if1 .taken))))
 
 loop-again : tie.Need-loop-again Inv-loop μ-loop
 loop-again c =
-    let v = c .before .before .before .loop .inv in
-    let b = c .before .before .before .loop .b in
-    let n = getD (c .before .before .before .before .before .args .t1) b 0 in
-    (v .0, (v .1 .0, passed-next limitFaults 0 (c .before .before .before .before .before .args .t1) 0 b b n (v .1 .1) (omega (arith, v .0)) refl (omega arith) (within-limit b n (rw (v .1 .0) at (c .if1 .left)))))
+    let args = c .before .before .before .before .before .args in let loop = c .before .before .before .loop in
+    let n = getD (args .t1) (loop .b) 0 in
+    (loop .inv .0, (loop .inv .1 .0, passed-next limitFaults 0 (args .t1) 0 (loop .b) (loop .b) n (loop .inv .1 .1) (omega (arith, loop .inv .0)) refl (omega arith) (within-limit (loop .b) n (rw (loop .inv .1 .0) at (c .if1 .left)))))
 
 returns-2 : tie.Need-returns-2 Inv-loop μ-loop
 returns-2 c =
-    let v = c .before .loop .inv in
-    ap first (sym (passed-all limitFaults 0 (c .before .before .before .args .t1) 0 (c .before .loop .b) (v .1 .1) (omega (arith, v .0))))
+    ap first (sym (passed-all limitFaults 0 (c .before .before .before .args .t1) 0 (c .before .loop .b) (c .before .loop .inv .1 .1) (omega (arith, c .before .loop .inv .0))))
 
 pub check-counts-spec : {M : Type 1} → statement M
-check-counts-spec =
-    tie.close
-    (tie.spec
-    Inv-loop
-    μ-loop
-    (λ c κs. search needs)
-    loop-holds
-    (λ c. search needs)
-    (λ c. search needs)
-    (λ c. search needs)
-    (λ c. search needs)
-    returns
-    (λ c. search needs)
-    (λ c. search needs)
-    loop-again
-    returns-2)
+check-counts-spec = tie.close (tie.spec Inv-loop μ-loop (search needs) loop-holds (search needs) (search needs) (search needs)
+    (search needs) returns (search needs) (search needs) loop-again returns-2)

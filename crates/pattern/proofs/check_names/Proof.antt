@@ -20,39 +20,24 @@ abbrev μ-loop : tie.MeasureT-loop
 μ-loop numbers n body names k₀ k = n - k
 
 loop-holds : tie.Need-loop-holds Inv-loop μ-loop
-loop-holds c = passed-start (nameFaults (c .before .args .body) (c .before .args .names)) 0 _ 0
+loop-holds c = passed-start (nameFaults _ _) 0 _ 0
 
 returns : tie.Need-returns Inv-loop μ-loop
 returns c =
-    let a = c .before .before .before .before .before .before .args in
-    let k = c .before .before .before .before .loop .k in
-    let x = getD (a .numbers .now) k 0 in
-    sym (taken-stop (nameFaults (a .body) (a .names)) 0 (a .numbers .now) (a .n) (c .before .before .before .before .before .before .pre) k (c .before .before .before .before .loop .inv) (c .before .before .before .loop-test .taken) (Unnamed (a .body) k) (no-name (a .body) (a .names) k x (omega arith)))
+    let start = c .before .before .before .before .before .before in let loop = c .before .before .before .before .loop in
+    let x = getD (start .args .numbers .now) (loop .k) 0 in
+    sym (taken-stop (nameFaults (start .args .body) (start .args .names)) 0 (start .args .numbers .now) (start .args .n) (start .pre) (loop .k) (loop .inv) (c .before .before .before .loop-test .taken) (Unnamed (start .args .body) (loop .k)) (no-name (start .args .body) (start .args .names) (loop .k) x (omega arith)))
 
 loop-again : tie.Need-loop-again Inv-loop μ-loop
 loop-again c =
-    let a = c .before .before .before .before .before .before .args in
-    let k = c .before .before .before .before .loop .k in
-    let x = getD (a .numbers .now) k 0 in
-    taken-next (nameFaults (a .body) (a .names)) 0 (a .numbers .now) (a .n) (c .before .before .before .before .before .before .pre) k (c .before .before .before .before .loop .inv) (c .before .before .before .loop-test .taken) (a-name (a .body) (a .names) k x (omega arith))
+    let start = c .before .before .before .before .before .before in let loop = c .before .before .before .before .loop in
+    let x = getD (start .args .numbers .now) (loop .k) 0 in
+    taken-next (nameFaults (start .args .body) (start .args .names)) 0 (start .args .numbers .now) (start .args .n) (start .pre) (loop .k) (loop .inv) (c .before .before .before .loop-test .taken) (a-name (start .args .body) (start .args .names) (loop .k) x (omega arith))
 
 returns-2 : tie.Need-returns-2 Inv-loop μ-loop
 returns-2 c =
-    let a = c .before .before .before .args in
-    ap first (sym (taken-all (nameFaults (a .body) (a .names)) 0 (a .numbers .now) (a .n) (c .before .before .before .pre) (c .before .loop .k) (c .before .loop .inv) (c .loop-test .left)))
+    ap first (sym (taken-all (nameFaults _ _) 0 _ _ (c .before .before .before .pre) _ (c .before .loop .inv) (c .loop-test .left)))
 
 pub check-names-spec : {M : Type 1} → statement M
-check-names-spec =
-    tie.close
-    (tie.spec
-    Inv-loop
-    μ-loop
-    loop-holds
-    (λ c. search needs)
-    (λ c. search needs)
-    (λ c κs. search needs)
-    returns
-    (λ c. search needs)
-    (λ c. search needs)
-    loop-again
-    returns-2)
+check-names-spec = tie.close (tie.spec Inv-loop μ-loop loop-holds (search needs) (search needs) (search needs) returns (search needs)
+    (search needs) loop-again returns-2)

@@ -12,8 +12,8 @@ returns c = rw (eq-eqb _ _ (sym (c .before .sum-of .ensures) ∙ c .if1 .taken))
 
 returns-2 : tie.Need-returns-2
 returns-2 c =
-    let a = c .before .before .before .args in
-    rw (ne-eqb (sum (take (a .n) (a .ns .now))) (a .total) (λ (h : sum (take (a .n) (a .ns .now)) ≡ a .total). c .if1 .left (c .before .sum-of .ensures ∙ h)), length-take-le (a .n) (a .ns .now) (c .before .before .before .pre .0))
+    let start = c .before .before .before in
+    rw (ne-eqb (sum (take (start .args .n) (start .args .ns .now))) (start .args .total) (λ (h : sum (take (start .args .n) (start .args .ns .now)) ≡ start .args .total). c .if1 .left (c .before .sum-of .ensures ∙ h)), length-take-le (start .args .n) (start .args .ns .now) (start .pre .0))
 
 pub check-sum-spec : {M : Type 1} → statement M
-check-sum-spec = tie.close (tie.spec (λ c κs. search needs) returns returns-2)
+check-sum-spec = tie.close (tie.spec (search needs) returns returns-2)

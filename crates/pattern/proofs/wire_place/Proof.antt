@@ -28,18 +28,18 @@ full s =
     }
 
 passed : (c : tie.After-enum-told) → patternFaults (c .before .before .before .args .t1) ≡ []
-passed c = accepted-none (patternFaults (c .before .before .before .args .t1)) (sym (c .before .before .check .ensures) ∙ c .enum-told .given .1)
+passed c = accepted-none (patternFaults _) (sym (c .before .before .check .ensures) ∙ c .enum-told .given .1)
 
 limits : (c : tie.After-enum-told) → Limited (c .before .before .before .args .t1 .counts)
 limits c =
-    limited (c .before .before .before .args .t1 .counts) (search needs)
-    (none-left (countFaults (c .before .before .before .args .t1 .counts)) (contentFaults (content (c .before .before .before .args .t1))) (passed c))
+    limited _ (search needs)
+    (none-left (countFaults _) (contentFaults (content (c .before .before .before .args .t1))) (passed c))
 
 returns : tie.Need-returns
-returns c = place-refused (patternFaults (c .before .before .before .before .args .t1)) (content (c .before .before .before .before .args .t1)) (c .before .before .before .before .args .w) _ (sym (c .before .before .before .check .ensures) ∙ c .before .answer .given .1)
+returns c = place-refused (patternFaults _) (content (c .before .before .before .before .args .t1)) (c .before .before .before .before .args .w) _ (sym (c .before .before .before .check .ensures) ∙ c .before .answer .given .1)
 
 returns-2 : tie.Need-returns-2
-returns-2 c = no-wire (c .before .before .before .before .before .args .t1) (passed (c .before .before)) (limits (c .before .before)) (full (c .before .before .before .before .before)) (c .before .before .before .before .before .args .w) (c .if1 .taken)
+returns-2 c = no-wire _ (passed (c .before .before)) (limits (c .before .before)) (full (c .before .before .before .before .before)) _ (c .if1 .taken)
 
 sum-of-requires : tie.Need-sum-of-requires
 sum-of-requires c κs = omega (arith, limits (c .before .before .before .before .before) .wires, full (c .before .before .before .before .before .before .before .before) .wires)
@@ -56,17 +56,5 @@ returns-3 c =
     (wire-there (c .before .before .before .before .before .before .before .before .before .before .before .args .t1) (passed (c .before .before .before .before .before .before .before .before)) (limits (c .before .before .before .before .before .before .before .before)) (full (c .before .before .before .before .before .before .before .before .before .before .before)) (c .before .before .before .before .before .before .before .before .before .before .before .args .w) (c .before .before .before .before .before .before .if1 .left))
 
 pub wire-place-spec : {M : Type 1} → statement M
-wire-place-spec =
-    tie.close
-    (tie.spec
-    (λ c κs. search needs)
-    (λ c. search needs)
-    returns
-    (λ c. search needs)
-    (λ c. search needs)
-    returns-2
-    sum-of-requires
-    mul-index
-    element-copy-out-index
-    (λ c κs. search needs)
-    returns-3)
+wire-place-spec = tie.close (tie.spec (search needs) (search needs) returns (search needs) (search needs) returns-2 sum-of-requires
+    mul-index element-copy-out-index (search needs) returns-3)

@@ -16,18 +16,19 @@ use Rattle.pattern_lines.proofs.put_edge.Tie as tie
 -- the number and the ends have at most 30 bytes, and there is room for the span
 ends : (c : tie.After-put-field3) → (c .put-field3 .result ≤ c .before .before .before .before .before .before .before .before .before .before .before .before .before .before .before .before .args .at + 30) × (c .put-field3 .result + 66 ≤ length (c .put-field3 .last .0))
 ends c =
-    let short : c .put-field3 .result ≤ c .before .before .before .before .before .before .before .before .before .before .before .before .before .before .before .before .args .at + 30 =
-    omega (arith, five (c .before .before .before .before .before .before .before .before .before .before .before .before .before .before .before .before .args .k) (c .before .before .before .before .before .before .before .before .before .before .before .before .before .before .before .before .pre .1), five (c .before .before .before .before .before .before .before .index .result) (c .before .before .before .before .before .before .before .index .ensures .1), five (c .before .index2 .result) (c .before .index2 .ensures .1)) in
-    (short, omega (arith, c .before .before .before .before .before .before .before .before .before .before .before .before .before .before .before .before .pre .0, c .put-field3 .kept .0, c .before .before .before .before .before .before .put-field2 .kept .0, c .before .before .before .before .before .before .before .before .before .before .before .before .put-field .kept .0))
+    let start = c .before .before .before .before .before .before .before .before .before .before .before .before .before .before .before .before in
+    let short : c .put-field3 .result ≤ start .args .at + 30 =
+    omega (arith, five _ (start .pre .1), five _ (c .before .before .before .before .before .before .before .index .ensures .1), five _ (c .before .index2 .ensures .1)) in
+    (short, omega (arith, start .pre .0, c .put-field3 .kept .0, c .before .before .before .before .before .before .put-field2 .kept .0, c .before .before .before .before .before .before .before .before .before .before .before .before .put-field .kept .0))
 
 put-field-requires : tie.Need-put-field-requires
-put-field-requires c κs = omega (arith, five (c .before .before .before .args .k) (c .before .before .before .pre .1))
+put-field-requires c κs = omega (arith, five _ (c .before .before .before .pre .1))
 
 put-field-requires-2 : tie.Need-put-field-requires-2
-put-field-requires-2 c κs = omega (arith, five (c .before .before .before .before .before .before .before .before .before .args .k) (c .before .before .before .before .before .before .before .before .before .pre .1), five (c .index .result) (c .index .ensures .1))
+put-field-requires-2 c κs = omega (arith, five _ (c .before .before .before .before .before .before .before .before .before .pre .1), five _ (c .index .ensures .1))
 
 put-field-requires-3 : tie.Need-put-field-requires-3
-put-field-requires-3 c κs = omega (arith, five (c .before .before .before .before .before .before .before .before .before .before .before .before .before .before .before .args .k) (c .before .before .before .before .before .before .before .before .before .before .before .before .before .before .before .pre .1), five (c .before .before .before .before .before .before .index .result) (c .before .before .before .before .before .before .index .ensures .1), five (c .index2 .result) (c .index2 .ensures .1))
+put-field-requires-3 c κs = omega (arith, five _ (c .before .before .before .before .before .before .before .before .before .before .before .before .before .before .before .pre .1), five _ (c .before .before .before .before .before .before .index .ensures .1), five _ (c .index2 .ensures .1))
 
 put-text-requires : tie.Need-put-text-requires
 put-text-requires c κs = omega (arith, ends (c .before .before .before .before))
@@ -70,24 +71,6 @@ returns c =
     rw (← f .ensures .0, ← b .ensures .0) (p8 .0, p8 .1, omega (arith, ends (c .before .before .before .before .before .before .before .before .before .before .before .before .before .before .before .before .before .before .before .before .before .before .before .before .before)))
 
 pub put-edge-spec : {M : Type 1} → statement M
-put-edge-spec =
-    tie.close
-    (tie.spec
-    (λ c. search needs)
-    put-field-requires
-    (λ c. search needs)
-    (λ c κs. search needs)
-    put-field-requires-2
-    (λ c. search needs)
-    (λ c κs. search needs)
-    put-field-requires-3
-    (λ c. search needs)
-    put-text-requires
-    put-real-requires
-    (λ c. search needs)
-    put-text-requires-2
-    put-real-requires-2
-    (λ c. search needs)
-    put-text-requires-3
-    same-length
-    returns)
+put-edge-spec = tie.close (tie.spec (search needs) put-field-requires (search needs) (search needs) put-field-requires-2 (search needs)
+    (search needs) put-field-requires-3 (search needs) put-text-requires put-real-requires (search needs) put-text-requires-2
+    put-real-requires-2 (search needs) put-text-requires-3 same-length returns)

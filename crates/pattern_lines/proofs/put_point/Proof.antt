@@ -12,25 +12,18 @@ use Rattle.pattern_lines.proofs.put_point.Statement.{statement}
 use Rattle.pattern_lines.proofs.put_point.Tie as tie
 
 put-field-requires : tie.Need-put-field-requires
-put-field-requires c κs = omega (arith, five (c .before .before .before .args .k) (c .before .before .before .pre .1))
+put-field-requires c κs = omega (arith, five _ (c .before .before .before .pre .1))
 
 put-number-requires : tie.Need-put-number-requires
-put-number-requires c κs = omega (arith, five (c .before .before .before .before .before .before .before .before .args .k) (c .before .before .before .before .before .before .before .before .pre .1), label-short (c .before .before .before .before .before .before .before .before .args .label) (omega arith))
+put-number-requires c κs = let start = c .before .before .before .before .before .before .before .before in
+    omega (arith, five (start .args .k) (start .pre .1), label-short (start .args .label) (omega arith))
 
 returns : tie.Need-returns
 unfolding pointLine numberLine field
 returns c =
-    let a = c .before .before .before .before .before .before .before .before .before .before .before .args in
-    let p = put-then (a .out .now) (a .at) (ascii "point " ++ decimal (a .k)) (wordNumber (ascii " label ") (a .label)) _ _ _ _ (c .before .before .before .before .before .before .before .put-field .ensures) (c .before .before .put-number .ensures) in
-    (p .0, p .1, omega (arith, five (a .k) (c .before .before .before .before .before .before .before .before .before .before .before .pre .1), label-short (a .label) (omega arith)))
+    let start = c .before .before .before .before .before .before .before .before .before .before .before in
+    let p = put-then (start .args .out .now) (start .args .at) (ascii "point " ++ decimal (start .args .k)) (wordNumber (ascii " label ") (start .args .label)) _ _ _ _ (c .before .before .before .before .before .before .before .put-field .ensures) (c .before .before .put-number .ensures) in
+    (p .0, p .1, omega (arith, five (start .args .k) (start .pre .1), label-short (start .args .label) (omega arith)))
 
 pub put-point-spec : {M : Type 1} → statement M
-put-point-spec =
-    tie.close
-    (tie.spec
-    (λ c. search needs)
-    put-field-requires
-    (λ c. search needs)
-    put-number-requires
-    (λ c. search needs)
-    returns)
+put-point-spec = tie.close (tie.spec (search needs) put-field-requires (search needs) put-number-requires (search needs) returns)

@@ -77,24 +77,5 @@ returns c =
     (p .0, p .1, omega (arith, v .1))
 
 pub put-edges-spec : {M : Type 1} → statement M
-put-edges-spec =
-    tie.close
-    (tie.spec
-    Inv-loop
-    μ-loop
-    loop-holds
-    mul-i
-    add-i
-    u16-at-requires
-    add-u16-at
-    u16-at-requires-2
-    add-u64-at
-    u64-at-requires
-    add-u64-at-2
-    u64-at-requires-2
-    put-edge-requires
-    add-k
-    loop-less
-    loop-again
-    same-length
-    returns)
+put-edges-spec = tie.close (tie.spec Inv-loop μ-loop loop-holds mul-i add-i u16-at-requires add-u16-at u16-at-requires-2 add-u64-at
+    u64-at-requires add-u64-at-2 u64-at-requires-2 put-edge-requires add-k loop-less loop-again same-length returns)

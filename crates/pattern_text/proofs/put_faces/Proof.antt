@@ -112,35 +112,7 @@ returns c =
     (e .0 .0, e .0 .1, e .1)
 
 pub put-faces-spec : {M : Type 1} → statement M
-put-faces-spec =
-    tie.close
-    (tie.spec
-    Inv-loop
-    μ-loop
-    loop-holds
-    mul-index
-    shared-slice-read-index
-    (λ c κs. search needs)
-    add-last
-    mul-lens
-    sub-lens
-    (λ c. search needs)
-    part-lens-end
-    sub-sum-of
-    sum-of-requires
-    mul-u16-at
-    add-u16-at
-    add-u16-at-2
-    u16-at-requires
-    add-put-face
-    mul-put-face
-    (λ c. search needs)
-    (λ c. search needs)
-    part-put-face-end
-    put-face-requires
-    add-first
-    add-k
-    (λ c. search needs)
-    loop-again
-    same-length
-    returns)
+put-faces-spec = tie.close (tie.spec Inv-loop μ-loop loop-holds mul-index shared-slice-read-index (λ c κs. search needs) add-last mul-lens
+    sub-lens (λ c. search needs) part-lens-end sub-sum-of sum-of-requires mul-u16-at add-u16-at add-u16-at-2 u16-at-requires add-put-face
+    mul-put-face (λ c. search needs) (λ c. search needs) part-put-face-end put-face-requires add-first add-k (λ c. search needs) loop-again
+    same-length returns)

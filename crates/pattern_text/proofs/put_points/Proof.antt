@@ -59,18 +59,5 @@ returns c =
     (p .0, p .1, omega (arith, v .1))
 
 pub put-points-spec : {M : Type 1} → statement M
-put-points-spec =
-    tie.close
-    (tie.spec
-    Inv-loop
-    μ-loop
-    loop-holds
-    mul-u32-at
-    add-u32-at
-    u32-at-requires
-    put-point-requires
-    add-k
-    loop-less
-    loop-again
-    same-length
-    returns)
+put-points-spec = tie.close (tie.spec Inv-loop μ-loop loop-holds mul-u32-at add-u32-at u32-at-requires put-point-requires add-k loop-less
+    loop-again same-length returns)

@@ -77,21 +77,6 @@ returns c =
     (q4 .0, omega (arith, q4 .1))
 
 pub put-records-spec : {M : Type 1} → statement M
-put-records-spec =
-    tie.close
-    (tie.spec
-    counts-of-requires
-    starts-of-requires
-    (λ c. search needs)
-    (λ c. search needs)
-    put-points-requires
-    (λ c. search needs)
-    (λ c. search needs)
-    put-edges-requires
-    (λ c. search needs)
-    (λ c. search needs)
-    put-faces-requires
-    (λ c. search needs)
-    put-shells-requires
-    (λ c. search needs)
-    returns)
+put-records-spec = tie.close (tie.spec counts-of-requires starts-of-requires (λ c. search needs) (λ c. search needs) put-points-requires
+    (λ c. search needs) (λ c. search needs) put-edges-requires (λ c. search needs) (λ c. search needs) put-faces-requires
+    (λ c. search needs) put-shells-requires (λ c. search needs) returns)

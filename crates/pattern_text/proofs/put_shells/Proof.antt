@@ -61,24 +61,6 @@ returns : tie.Need-returns Inv-loop μ-loop
 returns c = shelling-all (c .before .before .before .before .before .before .args .file .now) (c .before .before .before .before .before .before .pre .0) (c .before .loop .inv) (c .before .before .before .before .before .before .args .n) (c .before .before .before .before .before .before .pre .1) (c .loop-test .left)
 
 pub put-shells-spec : {M : Type 1} → statement M
-put-shells-spec =
-    tie.close
-    (tie.spec
-    Inv-loop
-    μ-loop
-    loop-holds
-    mul-index
-    shared-slice-read-index
-    (λ c κs. search needs)
-    add-put-shell
-    mul-put-shell
-    (λ c. search needs)
-    (λ c. search needs)
-    part-put-shell-end
-    put-shell-requires
-    add-first
-    add-k
-    (λ c. search needs)
-    loop-again
-    same-length
-    returns)
+put-shells-spec = tie.close (tie.spec Inv-loop μ-loop loop-holds mul-index shared-slice-read-index (λ c κs. search needs) add-put-shell
+    mul-put-shell (λ c. search needs) (λ c. search needs) part-put-shell-end put-shell-requires add-first add-k (λ c. search needs)
+    loop-again same-length returns)

@@ -18,7 +18,7 @@ counts-of-requires : tie.Need-counts-of-requires
 counts-of-requires c κs = table-long (c .before .args .s .now) (c .before .pre)
 
 starts-of-requires : tie.Need-starts-of-requires
-starts-of-requires c κs = rw (c .counts-of .ensures) (table-counts (c .before .before .args .s .now) (c .before .before .pre))
+starts-of-requires c κs = let start = c .before .before in rw (c .counts-of .ensures) (table-counts (start .args .s .now) (start .pre))
 
 read-points-requires : tie.Need-read-points-requires
 read-points-requires c κs = room c 0 (omega arith)
@@ -43,38 +43,12 @@ read-u16s-requires-4 c κs = let r = room (c .before .before .before .before .be
 
 returns : tie.Need-returns
 returns c =
-    decoded (c .before .before .before .before .before .before .before .before .before .before .before .before .before .before .before .before .before .before .args .s .now) (c .before .before .before .before .before .before .before .before .before .before .before .before .before .before .before .before .before .before .pre) (c .before .before .before .before .before .before .before .before .before .before .before .before .before .before .before .before .counts-of .result) (c .before .before .before .before .before .before .before .before .before .before .before .before .before .before .before .starts-of .result) (c .before .before .before .before .before .before .before .before .before .before .before .before .before .before .before .before .counts-of .ensures) (c .before .before .before .before .before .before .before .before .before .before .before .before .before .before .before .starts-of .ensures) _ _ _ _ _ _ _
+    let start = c .before .before .before .before .before .before .before .before .before .before .before .before .before .before .before .before .before .before in
+    decoded (start .args .s .now) (start .pre) _ _ (c .before .before .before .before .before .before .before .before .before .before .before .before .before .before .before .before .counts-of .ensures) (c .before .before .before .before .before .before .before .before .before .before .before .before .before .before .before .starts-of .ensures) _ _ _ _ _ _ _
     (c .before .before .before .before .before .before .before .before .before .before .before .before .before .before .read-points .ensures) (c .before .before .before .before .before .before .before .before .before .before .before .before .before .read-edges .ensures) (c .before .before .before .before .before .before .before .before .before .before .before .read-u16s .ensures) (c .before .before .before .before .before .before .before .before .read-u16s2 .ensures) (c .before .before .before .before .before .before .read-faces .ensures) (c .before .before .before .before .read-u16s3 .ensures) (c .before .read-u16s4 .ensures)
 
 pub decode-spec : {M : Type 1} → statement M
-decode-spec =
-    tie.close
-    (tie.spec
-    counts-of-requires
-    starts-of-requires
-    (λ c. search needs)
-    (λ c. search needs)
-    read-points-requires
-    (λ c. search needs)
-    (λ c. search needs)
-    read-edges-requires
-    (λ c. search needs)
-    (λ c. search needs)
-    (λ c. search needs)
-    read-u16s-requires
-    (λ c. search needs)
-    (λ c. search needs)
-    (λ c. search needs)
-    read-u16s-requires-2
-    (λ c. search needs)
-    (λ c. search needs)
-    read-faces-requires
-    (λ c. search needs)
-    (λ c. search needs)
-    (λ c. search needs)
-    read-u16s-requires-3
-    (λ c. search needs)
-    (λ c. search needs)
-    (λ c. search needs)
-    read-u16s-requires-4
-    returns)
+decode-spec = tie.close (tie.spec counts-of-requires starts-of-requires (search needs) (search needs) read-points-requires (search needs)
+    (search needs) read-edges-requires (search needs) (search needs) (search needs) read-u16s-requires (search needs) (search needs)
+    (search needs) read-u16s-requires-2 (search needs) (search needs) read-faces-requires (search needs) (search needs) (search needs)
+    read-u16s-requires-3 (search needs) (search needs) (search needs) read-u16s-requires-4 returns)

@@ -6,4 +6,4 @@ returns : tie.Need-returns
 returns c = rw (c .before .u16-at .ensures, c .u16-at2 .ensures)
 
 pub face-at-spec : {M : Type 1} → statement M
-face-at-spec = tie.close (tie.spec (λ c κs. search needs) (λ c. search needs) (λ c κs. search needs) returns)
+face-at-spec = tie.close (tie.spec (search needs) (search needs) (search needs) returns)

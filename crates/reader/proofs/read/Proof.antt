@@ -30,42 +30,32 @@ decode-requires : tie.Need-decode-requires
 decode-requires c κs = accepted-none (tableFaults (c .before .before .before .before .args .s .now)) (sym (c .before .before .check-table .ensures) ∙ c .enum-told .given .1)
 
 check-content-requires : tie.Need-check-content-requires
-check-content-requires c κs = counts-pass (c .before .before .before .before .before .args .s .now) (sym (c .before .before .before .check-table .ensures) ∙ c .before .enum-told .given .1) (c .decode .result) (c .decode .ensures)
+check-content-requires c κs = counts-pass (c .before .before .before .before .before .args .s .now) (sym (c .before .before .before .check-table .ensures) ∙ c .before .enum-told .given .1) _ (c .decode .ensures)
 
 returns : tie.Need-returns
 returns c =
+    let args = c .before .before .before .before .before .before .args in
     c .refused .ensures
-    ∙ reading-refused (c .before .before .before .before .before .before .args .s .now) _
-    (refused-first (tableFaults (c .before .before .before .before .before .before .args .s .now)) (contentFaults (fileContent (c .before .before .before .before .before .before .args .s .now))) _ (sym (c .before .before .before .before .check-table .ensures) ∙ c .before .before .table .given .1))
+    ∙ reading-refused (args .s .now) _
+    (refused-first (tableFaults (args .s .now)) (contentFaults (fileContent (args .s .now))) _ (sym (c .before .before .before .before .check-table .ensures) ∙ c .before .before .table .given .1))
 
 returns-2 : tie.Need-returns-2
 returns-2 c =
+    let args = c .before .before .before .before .before .before .before .before .before .before .args in
     c .refused2 .ensures
-    ∙ reading-refused (c .before .before .before .before .before .before .before .before .before .before .args .s .now) _
-    (file-first (c .before .before .before .before .before .before .before .before .before .before .args .s .now) (sym (c .before .before .before .before .before .before .before .before .check-table .ensures) ∙ c .before .before .before .before .before .before .enum-told .given .1) (c .before .before .before .before .before .decode .result) (c .before .before .before .before .before .decode .ensures)
+    ∙ reading-refused (args .s .now) _
+    (file-first (args .s .now) (sym (c .before .before .before .before .before .before .before .before .check-table .ensures) ∙ c .before .before .before .before .before .before .enum-told .given .1) _ (c .before .before .before .before .before .decode .ensures)
     ∙ sym (c .before .before .before .before .check-content .ensures) ∙ c .before .before .answer .given .1)
 
 returns-3 : tie.Need-returns-3
 returns-3 c =
-    ap (λ (p : Pattern). record { answer = Accepted; pattern = p }) (c .before .before .before .decode .ensures)
-    ∙ reading-accepted (c .before .before .before .before .before .before .before .before .args .s .now)
-    (accepted-none (fileFaults (c .before .before .before .before .before .before .before .before .args .s .now))
-    (file-first (c .before .before .before .before .before .before .before .before .args .s .now) (sym (c .before .before .before .before .before .before .check-table .ensures) ∙ c .before .before .before .before .enum-told .given .1) (c .before .before .before .decode .result) (c .before .before .before .decode .ensures)
+    let args = c .before .before .before .before .before .before .before .before .args in let decode = c .before .before .before .decode in
+    ap (λ (p : Pattern). record { answer = Accepted; pattern = p }) (decode .ensures)
+    ∙ reading-accepted (args .s .now)
+    (accepted-none (fileFaults (args .s .now))
+    (file-first (args .s .now) (sym (c .before .before .before .before .before .before .check-table .ensures) ∙ c .before .before .before .before .enum-told .given .1) _ (decode .ensures)
     ∙ sym (c .before .before .check-content .ensures) ∙ c .enum-told2 .given .1))
 
 pub read-spec : {M : Type 1} → statement M
-read-spec =
-    tie.close
-    (tie.spec
-    (λ c κs. search needs)
-    (λ c. search needs)
-    (λ c κs. search needs)
-    (λ c. search needs)
-    decode-requires
-    check-content-requires
-    (λ c. search needs)
-    (λ c κs. search needs)
-    (λ c. search needs)
-    returns
-    returns-2
-    returns-3)
+read-spec = tie.close (tie.spec (search needs) (search needs) (search needs) (search needs) decode-requires check-content-requires
+    (search needs) (search needs) (search needs) returns returns-2 returns-3)

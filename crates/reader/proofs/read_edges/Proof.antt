@@ -17,7 +17,7 @@ abbrev μ-loop : tie.MeasureT-loop
 μ-loop s at n out₀ k₀ out k = n - k
 
 loop-holds : tie.Need-loop-holds Inv-loop μ-loop
-loop-holds c = (omega arith, filling-over _ 1024 zeroEdge (c .new-unchecked .result) (c .new-unchecked .ensures))
+loop-holds c = (omega arith, filling-over _ 1024 zeroEdge _ (c .new-unchecked .ensures))
 
 loop-again : tie.Need-loop-again Inv-loop μ-loop
 loop-again c = (omega arith, filling-next _ zeroEdge _ _ _ _ (c .before .before .loop .inv .1) (omega arith) (c .edge-at .ensures))
@@ -26,19 +26,5 @@ returns : tie.Need-returns Inv-loop μ-loop
 returns c = let e : c .before .loop .k ≡ c .before .before .before .before .args .n = omega arith in filling-padded _ zeroEdge 1024 _ _ (rw e at (c .before .loop .inv .1))
 
 pub read-edges-spec : {M : Type 1} → statement M
-read-edges-spec =
-    tie.close
-    (tie.spec
-    Inv-loop
-    μ-loop
-    (λ c κs. search needs)
-    loop-holds
-    (λ c. search needs)
-    (λ c. search needs)
-    (λ c κs. search needs)
-    (λ c. search needs)
-    (λ c. search needs)
-    (λ c. search needs)
-    (λ c. search needs)
-    loop-again
-    returns)
+read-edges-spec = tie.close (tie.spec Inv-loop μ-loop (search needs) loop-holds (search needs) (search needs) (search needs) (search needs)
+    (search needs) (search needs) (search needs) loop-again returns)

@@ -40,19 +40,5 @@ returns : tie.Need-returns Inv-loop μ-loop
 returns c = let e : c .before .loop .k ≡ c .before .before .before .before .args .n = omega arith in rw e at (c .before .loop .inv .1 .is)
 
 pub read-u16s-spec : {M : Type 1} → statement M
-read-u16s-spec =
-    tie.close
-    (tie.spec
-    Inv-loop
-    μ-loop
-    loop-holds
-    mul-u16-at
-    add-u16-at
-    u16-at-requires
-    (λ c. search needs)
-    slice-write-out
-    (λ c. search needs)
-    (λ c. search needs)
-    loop-again
-    same-length
-    returns)
+read-u16s-spec = tie.close (tie.spec Inv-loop μ-loop loop-holds mul-u16-at add-u16-at u16-at-requires (search needs) slice-write-out
+    (search needs) (search needs) loop-again same-length returns)

@@ -30,4 +30,4 @@ returns c =
     (c .new-unchecked .ensures)
 
 pub refused-spec : {M : Type 1} → statement M
-refused-spec = tie.close (tie.spec (λ c κs. search needs) returns)
+refused-spec = tie.close (tie.spec (search needs) returns)

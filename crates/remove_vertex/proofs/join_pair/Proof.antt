@@ -15,5 +15,4 @@ returns-2 c = let s = c .before .before .before .before .args in
     removal-joins (endFaults (s .a) (s .k .ending) (s .b) (s .k .next) (s .edges)) (joinedEnds (s .a) (s .k .ending) (s .b) (s .k .next)) (c .before .before .before .before .args .e) (sym (c .before .before .before .judge-join .ensures) ∙ c .before .made2 .given .1)
 
 pub join-pair-spec : {M : Type 1} → statement M
-join-pair-spec =
-    tie.close (tie.spec (λ c κs. search needs) (λ c. search needs) (λ c. search needs) returns returns-2)
+join-pair-spec = tie.close (tie.spec (search needs) (search needs) (search needs) returns returns-2)

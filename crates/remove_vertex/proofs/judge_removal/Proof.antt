@@ -73,25 +73,6 @@ returns-2 c = let s = c .before .before .before .before .before .before .before 
     pair-removed p _ _ _ _ _ _ _ _ (lent (c .before .before .before .before .before .before .before .before .before .before .before .before .before .before .before .before .before .before .before .before .before .before .before)) (s .args .n) (s .args .v .0) _ _ (sym (c .before .before .before .before .before .before .before .before .found2 .given .1) ∙ c .before .before .before .before .before .before .before .before .before .before .find-pair .ensures .0 p (lent (c .before .before .before .before .before .before .before .before .before .before .before .before .before .before .before .before .before .before .before .before .before .before .before))) _ _ (edge-is p (good s) _ _ (c .before .before .before .before .before .index .ensures .0) (inside (c .before .before .before .before .before .before .before .before) .0)) (edge-is p (good s) _ _ (c .before .before .index2 .ensures .0) (inside (c .before .before .before .before .before .before .before .before) .1)) _ (c .join-pair .ensures)
 
 pub judge-removal-spec : {M : Type 1} → statement M
-judge-removal-spec =
-    tie.close
-    (tie.spec
-    (λ c κs. search needs)
-    (λ c κs. search needs)
-    (λ c κs. search needs)
-    (λ c. search needs)
-    (λ c. search needs)
-    (λ c. search needs)
-    find-pair-requires
-    (λ c. search needs)
-    (λ c. search needs)
-    (λ c κs. search needs)
-    (λ c. search needs)
-    element-copy-out-a
-    (λ c κs. search needs)
-    (λ c. search needs)
-    element-copy-out-b
-    (λ c. search needs)
-    (λ c κs. search needs)
-    returns
-    returns-2)
+judge-removal-spec = tie.close (tie.spec (search needs) (search needs) (search needs) (search needs) (search needs) (search needs)
+    find-pair-requires (search needs) (search needs) (search needs) (search needs) element-copy-out-a (search needs) (search needs)
+    element-copy-out-b (search needs) (search needs) returns returns-2)

@@ -10,16 +10,7 @@ returns : tie.Need-returns
 returns c = (unmatched (c .before .before .before .before .before .before .before .before .before .args .e) (c .before .before .before .before .corners-in .ensures .0) (c .before .before .before .before .corners-in .ensures .1 .0) (c .before .corners-fit .ensures) (not-true _ (c .if1 .taken)), refl)
 
 returns-2 : tie.Need-returns-2
-returns-2 c = (fitting (c .before .before .before .before .before .before .before .before .before .args .e) (c .before .before .before .before .corners-in .ensures .0) (c .before .before .before .before .corners-in .ensures .1 .0) (c .before .corners-fit .ensures) (not-false _ (c .if1 .left)), c .before .before .before .before .corners-in .ensures .1 .1)
+returns-2 c = (fitting _ (c .before .before .before .before .corners-in .ensures .0) (c .before .before .before .before .corners-in .ensures .1 .0) (c .before .corners-fit .ensures) (not-false _ (c .if1 .left)), c .before .before .before .before .corners-in .ensures .1 .1)
 
 pub match-pair-spec : {M : Type 1} → statement M
-match-pair-spec =
-    tie.close
-    (tie.spec
-    (λ c. search needs)
-    (λ c. search needs)
-    (λ c. search needs)
-    (λ c κs. search needs)
-    (λ c κs. search needs)
-    returns
-    returns-2)
+match-pair-spec = tie.close (tie.spec (search needs) (search needs) (search needs) (λ c κs. search needs) (search needs) returns returns-2)

@@ -36,12 +36,12 @@ full s =
     }
 
 passed : (c : tie.After-enum-told) → patternFaults (c .before .before .before .args .t1) ≡ []
-passed c = accepted-none (patternFaults (c .before .before .before .args .t1)) (sym (c .before .before .check .ensures) ∙ c .enum-told .given .1)
+passed c = accepted-none (patternFaults _) (sym (c .before .before .check .ensures) ∙ c .enum-told .given .1)
 
 limits : (c : tie.After-enum-told) → Limited (c .before .before .before .args .t1 .counts)
 limits c =
-    limited (c .before .before .before .args .t1 .counts) (search needs)
-    (none-left (countFaults (c .before .before .before .args .t1 .counts)) (contentFaults (content (c .before .before .before .args .t1))) (passed c))
+    limited _ (search needs)
+    (none-left (countFaults _) (contentFaults (content (c .before .before .before .args .t1))) (passed c))
 
 joined : (c : tie.After-judged2) → (removeFaults (content (c .before .before .before .before .before .before .args .t1)) (c .before .before .before .before .before .before .args .n) (c .before .before .before .before .before .before .args .v .0) ≡ []) × ((c .judged2 .given .0 .0 ≡ pairEdge (content (c .before .before .before .before .before .before .args .t1)) (c .before .before .before .before .before .before .args .v .0) (endingOf (endingWires (content (c .before .before .before .before .before .before .args .t1)) (c .before .before .before .before .before .before .args .n) (c .before .before .before .before .before .before .args .v .0)))) × (c .judged2 .given .0 .1 .0 ≡ (endingOf (endingWires (content (c .before .before .before .before .before .before .args .t1)) (c .before .before .before .before .before .before .args .n) (c .before .before .before .before .before .before .args .v .0)))))
 joined c =
@@ -54,15 +54,15 @@ few : (c : tie.After-judged2) → getD (c .before .before .before .before .befor
 few c =
     let s = c .before .before .before .before .before .before in
     let p = s .args .t1 in
-    omega (arith, edges-counted p (limits (c .before .before .before)) (full s), removal-room (content p) (s .args .n) (s .args .v .0) (joined c .0))
+    omega (arith, edges-counted p (limits (c .before .before .before)) (full s), removal-room (content p) _ _ (joined c .0))
 
 returns : tie.Need-returns
 returns c =
     let p = c .before .before .before .before .args .t1 in
     let k = content p in
-    let es = removeFaults k (c .before .before .before .before .args .n) (c .before .before .before .before .args .v .0) in
+    let es = removeFaults k _ _ in
     let e = sym (c .before .before .before .check .ensures) ∙ c .before .checked .given .1 in
-    (judged-refused es Refused Not (Joined (nextEdge p 0)) (patternFaults p) e, (judged-refused es (λ f. p) (λ f. p) (storedIn p (removeContent k (c .before .before .before .before .args .n) (c .before .before .before .before .args .v .0))) (patternFaults p) e, λ fine. fine))
+    (judged-refused es Refused Not (Joined (nextEdge p 0)) (patternFaults p) e, (judged-refused es (λ f. p) (λ f. p) (storedIn p (removeContent k _ _)) (patternFaults p) e, λ fine. fine))
 
 judge-removal-requires : tie.Need-judge-removal-requires
 judge-removal-requires c κs = passed (c)
@@ -104,18 +104,5 @@ returns-3 c =
     )
 
 pub remove-vertex-by-concat-edges-spec : {M : Type 1} → statement M
-remove-vertex-by-concat-edges-spec =
-    tie.close
-    (tie.spec
-    (λ c κs. search needs)
-    (λ c. search needs)
-    returns
-    (λ c. search needs)
-    judge-removal-requires
-    (λ c. search needs)
-    (λ c. search needs)
-    (λ c. search needs)
-    write-removal-requires
-    cast-t23
-    returns-2
-    returns-3)
+remove-vertex-by-concat-edges-spec = tie.close (tie.spec (search needs) (search needs) returns (search needs) judge-removal-requires
+    (search needs) (search needs) (search needs) write-removal-requires cast-t23 returns-2 returns-3)

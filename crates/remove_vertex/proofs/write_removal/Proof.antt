@@ -31,48 +31,36 @@ good : (s : tie.Start) → Fine (s .args .t1)
 good s = fine (s .args .t1) (s .pre .0) (seven s) (full s)
 
 lent : (c : tie.After-backs-of) → Lent (c .before .before .before .before .before .before .args .t1) (c .before .before .before .before .before .before .args .t1 .counts) (c .before .fronts-of .result) (c .backs-of .result) (c .before .before .before .before .before .before .args .t1 .uses) (c .before .before .before .before .before .before .args .t1 .wires) (map wireCount (c .before .before .before .before .before .before .args .t1 .faces)) (c .before .before .before .before .before .before .args .t1 .shells) (c .before .before .before .before .before .before .args .t1 .listings)
-lent c = record {
-  listed = record {
-    ok = c .before .before .before .before .before .before .pre .0;
-    seven = seven (c .before .before .before .before .before .before);
-    full = full (c .before .before .before .before .before .before);
-    counts-are = refl;
-    faces-are = refl;
-    shells-are = refl;
-    listings-are = refl;
-  };
-  fronts-are = c .before .fronts-of .ensures;
-  backs-are = c .backs-of .ensures;
-  uses-are = refl;
-  wires-are = refl;
-}
+lent c =
+    let start = c .before .before .before .before .before .before in
+    record {
+      listed = record {
+        ok = start .pre .0;
+        seven = seven start;
+        full = full start;
+        counts-are = refl;
+        faces-are = refl;
+        shells-are = refl;
+        listings-are = refl;
+      };
+      fronts-are = c .before .fronts-of .ensures;
+      backs-are = c .backs-of .ensures;
+      uses-are = refl;
+      wires-are = refl;
+    }
 
 put-tables-requires : tie.Need-put-tables-requires
 put-tables-requires c κs =
-    let s = c .before .before .before .before .before .before .before .before .before .before .before .before .before .before .before .before .before in
-    let g = good s in
-    (tables (s .args .t1) _ _ _ _ _ _ _ _ (lent (c .before .before .before .before .before .before .before .before .before .before .before)), (omega (arith, g .limits .wires, full s .wires), omega (arith, g .limits .uses, full s .uses), s .pre .1))
+    let start = c .before .before .before .before .before .before .before .before .before .before .before .before .before .before .before .before .before in
+    let g = good start in
+    (tables (start .args .t1) _ _ _ _ _ _ _ _ (lent (c .before .before .before .before .before .before .before .before .before .before .before)), (omega (arith, g .limits .wires, full start .wires), omega (arith, g .limits .uses, full start .uses), start .pre .1))
 
 returns : tie.Need-returns
 returns c =
-    let s = c .before .before .before .before .before .before .before .before .before .before .before .before .before .before .before .before .before .before .before .before .before in
-    let x = c .before .before .before .put-tables .ensures in
-    stored-pair (s .args .t1) (good s) (s .args .v .0) (s .args .e) (s .args .d) (c .append-edge .result) _ (pairs-are (s .args .t1) _ _ _ _ _ _ _ _ (lent (c .before .before .before .before .before .before .before .before .before .before .before .before .before .before .before)) (s .args .v .0) (s .args .e)) (c .append-edge .ensures) (x .0) (x .1 .0) (x .1 .1)
+    let start = c .before .before .before .before .before .before .before .before .before .before .before .before .before .before .before .before .before .before .before .before .before in
+    let put-tables = c .before .before .before .put-tables in
+    stored-pair _ (good start) _ (start .args .e) _ _ _ (pairs-are (start .args .t1) _ _ _ _ _ _ _ _ (lent (c .before .before .before .before .before .before .before .before .before .before .before .before .before .before .before)) (start .args .v .0) (start .args .e)) (c .append-edge .ensures) (put-tables .ensures .0) (put-tables .ensures .1 .0) (put-tables .ensures .1 .1)
 
 pub write-removal-spec : {M : Type 1} → statement M
-write-removal-spec =
-    tie.close
-    (tie.spec
-    (λ c. search needs)
-    (λ c. search needs)
-    (λ c. search needs)
-    (λ c κs. search needs)
-    (λ c κs. search needs)
-    (λ c. search needs)
-    (λ c. search needs)
-    (λ c. search needs)
-    (λ c. search needs)
-    put-tables-requires
-    (λ c κs. search needs)
-    (λ c. search needs)
-    returns)
+write-removal-spec = tie.close (tie.spec (search needs) (search needs) (search needs) (search needs) (search needs) (search needs)
+    (search needs) (search needs) (search needs) put-tables-requires (search needs) (search needs) returns)

@@ -28,28 +28,7 @@ returns-3 : tie.Need-returns-3 Inv-loop μ-loop
 returns-3 c = moved (length (c .before .before .before .args .buf .now)) (c .before .loop .done) (omega arith) (omega arith)
 
 pub read-all-spec : {M : Type 1} → statement M
-read-all-spec =
-    tie.close
-    (tie.spec
-    Inv-loop
-    μ-loop
-    (λ c. search needs)
-    (λ c. search needs)
-    (λ c. search needs)
-    (λ c. search needs)
-    (λ c κs. search needs)
-    (λ c. search needs)
-    (λ c. search needs)
-    (λ c. search needs)
-    (λ c. search needs)
-    (λ c. search needs)
-    (λ c κs. search needs)
-    (λ c. search needs)
-    (λ c. search needs)
-    returns-2
-    (λ c. search needs)
-    (λ c. search needs)
-    (λ c. search needs)
-    (λ c. search needs)
-    (λ c. search needs)
-    returns-3)
+read-all-spec = tie.close (tie.spec Inv-loop μ-loop (λ c. search needs) (λ c. search needs) (λ c. search needs) (λ c. search needs)
+    (λ c κs. search needs) (λ c. search needs) (λ c. search needs) (λ c. search needs) (λ c. search needs) (λ c. search needs)
+    (λ c κs. search needs) (λ c. search needs) (λ c. search needs) returns-2 (λ c. search needs) (λ c. search needs) (λ c. search needs)
+    (λ c. search needs) (λ c. search needs) returns-3)

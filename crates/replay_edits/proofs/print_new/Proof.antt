@@ -24,28 +24,7 @@ slice-aggregate-write-all-2 :
 slice-aggregate-write-all-2 c = search needs
 
 pub print-new-spec : {M : Type 1} → statement M
-print-new-spec =
-    tie.close
-    (tie.spec
-    Inv-loop
-    μ-loop
-    Inv-loop2
-    μ-loop2
-    (λ c κs. search needs)
-    (λ c. search needs)
-    (λ c κs. search needs)
-    (λ c. search needs)
-    slice-aggregate-print-number
-    (λ c κs. search needs)
-    (λ c. search needs)
-    (λ c. search needs)
-    (λ c. search needs)
-    slice-aggregate-write-all-2
-    (λ c κs. search needs)
-    (λ c. search needs)
-    (λ c κs. search needs)
-    (λ c. search needs)
-    (λ c. search needs)
-    (λ c. search needs)
-    (λ c κs. search needs)
-    (λ c. search needs))
+print-new-spec = tie.close (tie.spec Inv-loop μ-loop Inv-loop2 μ-loop2 (λ c κs. search needs) (λ c. search needs) (λ c κs. search needs)
+    (λ c. search needs) slice-aggregate-print-number (λ c κs. search needs) (λ c. search needs) (λ c. search needs) (λ c. search needs)
+    slice-aggregate-write-all-2 (λ c κs. search needs) (λ c. search needs) (λ c κs. search needs) (λ c. search needs) (λ c. search needs)
+    (λ c. search needs) (λ c κs. search needs) (λ c. search needs))

@@ -10,15 +10,5 @@ abbrev μ-loop : tie.MeasureT-loop
 μ-loop fd text₀ k₀ text k = 18446744073709551615 - k
 
 pub replay-pack-spec : {M : Type 1} → statement M
-replay-pack-spec =
-    tie.close
-    (tie.spec
-    Inv-loop
-    μ-loop
-    (λ c. search needs)
-    (λ c κs. search needs)
-    (λ c. search needs)
-    (λ c. search needs)
-    (λ c. search needs)
-    (λ c. search needs)
-    (λ c. search needs))
+replay-pack-spec = tie.close (tie.spec Inv-loop μ-loop (λ c. search needs) (λ c κs. search needs) (λ c. search needs) (λ c. search needs)
+    (λ c. search needs) (λ c. search needs) (λ c. search needs))

@@ -19,32 +19,27 @@ loop-holds : tie.Need-loop-holds Inv-loop μ-loop
 loop-holds c = writing-start
 
 shell-text-requires : tie.Need-shell-text-requires Inv-loop μ-loop
-shell-text-requires c κs = (writing-here (c .before .before .loop .inv) (c .before .before .before .before .before .before .before .before .before .before .before .before .before .pre .0) (c .before .loop-test .taken), writing-room (c .before .before .loop .inv) (c .before .before .before .before .before .before .before .before .before .before .before .before .before .pre .0) (c .before .before .before .before .before .before .before .before .before .before .before .before .before .pre .1) (c .before .loop-test .taken))
+shell-text-requires c κs =
+    let pre = c .before .before .before .before .before .before .before .before .before .before .before .before .before .pre in
+    let loop = c .before .before .loop in
+    (writing-here (loop .inv) (pre .0) (c .before .loop-test .taken), writing-room (loop .inv) (pre .0) (pre .1) (c .before .loop-test .taken))
 
 add-n : tie.Need-add-n Inv-loop μ-loop
-add-n c = omega (arith, writing-room (c .before .before .before .before .before .before .loop .inv) (c .before .before .before .before .before .before .before .before .before .before .before .before .before .before .before .before .before .pre .0) (c .before .before .before .before .before .before .before .before .before .before .before .before .before .before .before .before .before .pre .1) (c .before .before .before .before .before .loop-test .taken) .0)
+add-n c =
+    let pre = c .before .before .before .before .before .before .before .before .before .before .before .before .before .before .before .before .before .pre in
+    omega (arith, writing-room (c .before .before .before .before .before .before .loop .inv) (pre .0) (pre .1) (c .before .before .before .before .before .loop-test .taken) .0)
 
 loop-again : tie.Need-loop-again Inv-loop μ-loop
-loop-again c = writing-next (c .before .before .before .before .before .before .loop .inv) (c .before .before .before .before .before .before .before .before .before .before .before .before .before .before .before .before .before .pre .0) (c .before .before .before .before .before .loop-test .taken) _ (c .before .before .before .shell-text .result) _ (search needs) (c .before .before .before .shell-text .ensures .0) (c .before .before .before .shell-text .ensures .1) (c .and-shell .ensures)
+loop-again c = let shell-text = c .before .before .before .shell-text in
+    writing-next (c .before .before .before .before .before .before .loop .inv) (c .before .before .before .before .before .before .before .before .before .before .before .before .before .before .before .before .before .pre .0) (c .before .before .before .before .before .loop-test .taken) _ _ _ (search needs) (shell-text .ensures .0) (shell-text .ensures .1) (c .and-shell .ensures)
 
 solid-text-requires : tie.Need-solid-text-requires Inv-loop μ-loop
-solid-text-requires c κs = writing-end (c .before .before .loop .inv) (c .before .before .before .before .before .before .before .before .before .before .before .before .before .pre .0) (c .before .before .before .before .before .before .before .before .before .before .before .before .before .pre .1)
+solid-text-requires c κs = let pre = c .before .before .before .before .before .before .before .before .before .before .before .before .before .pre in
+    writing-end (c .before .before .loop .inv) (pre .0) (pre .1)
 
 returns : tie.Need-returns Inv-loop μ-loop
 returns c = writing-all (c .before .before .before .before .before .loop .inv) (c .before .before .before .before .before .before .before .before .before .before .before .before .before .before .before .before .pre .0) (omega arith) _ _ (c .before .before .solid-text .ensures)
 
 pub columns-text-spec : {M : Type 1} → statement M
-columns-text-spec =
-    tie.close
-    (tie.spec
-    Inv-loop
-    μ-loop
-    loop-holds
-    shell-text-requires
-    (λ c κs. search needs)
-    add-n
-    (λ c. search needs)
-    loop-again
-    solid-text-requires
-    (λ c. search needs)
-    returns)
+columns-text-spec = tie.close (tie.spec Inv-loop μ-loop loop-holds shell-text-requires (search needs) add-n (search needs) loop-again
+    solid-text-requires (search needs) returns)

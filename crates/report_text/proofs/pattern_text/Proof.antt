@@ -12,27 +12,15 @@ put-columns-requires : tie.Need-put-columns-requires
 put-columns-requires c κs = (tabled-summed (c .before .before .before .before .before .before .before .before .before .before .before .before .pre .0), search needs)
 
 columns-text-requires : tie.Need-columns-text-requires
-columns-text-requires c κs = (tabled-patterned (c .before .before .before .before .before .before .before .before .before .put-columns .ensures .0) (c .before .before .before .before .before .before .before .before .before .put-columns .ensures .1) (c .before .before .before .before .before .before .before .before .before .before .before .before .before .before .before .before .before .before .before .before .before .before .pre .0), c .before .before .before .before .before .before .before .before .before .before .before .before .before .before .before .before .before .before .before .before .before .before .pre .1)
+columns-text-requires c κs =
+    let pre = c .before .before .before .before .before .before .before .before .before .before .before .before .before .before .before .before .before .before .before .before .before .before .pre in
+    let put-columns = c .before .before .before .before .before .before .before .before .before .put-columns in
+    (tabled-patterned (put-columns .ensures .0) (put-columns .ensures .1) (pre .0), pre .1)
 
 returns : tie.Need-returns
-returns c = λ p ok l f e t. c .before .before .columns-text .ensures p (tables-sound (c .before .before .before .before .before .before .before .before .before .before .before .before .put-columns .ensures .0) (c .before .before .before .before .before .before .before .before .before .before .before .before .put-columns .ensures .1) p ok l f e t) (tables-columns (c .before .before .before .before .before .before .before .before .before .before .before .before .put-columns .ensures .0) (c .before .before .before .before .before .before .before .before .before .before .before .before .put-columns .ensures .1) p ok l f e t) (ap (λ (n : List ℕ). getD n 5 0) e)
+returns c = let put-columns = c .before .before .before .before .before .before .before .before .before .before .before .before .put-columns in
+    λ p ok l f e t. c .before .before .columns-text .ensures p (tables-sound (put-columns .ensures .0) (put-columns .ensures .1) p ok l f e t) (tables-columns (put-columns .ensures .0) (put-columns .ensures .1) p ok l f e t) (ap (λ (n : List ℕ). getD n 5 0) e)
 
 pub pattern-text-spec : {M : Type 1} → statement M
-pattern-text-spec =
-    tie.close
-    (tie.spec
-    (λ c. search needs)
-    (λ c. search needs)
-    (λ c. search needs)
-    (λ c. search needs)
-    put-columns-requires
-    (λ c. search needs)
-    (λ c. search needs)
-    (λ c. search needs)
-    (λ c. search needs)
-    (λ c. search needs)
-    (λ c. search needs)
-    (λ c. search needs)
-    columns-text-requires
-    (λ c. search needs)
-    returns)
+pattern-text-spec = tie.close (tie.spec (search needs) (search needs) (search needs) (search needs) put-columns-requires (search needs)
+    (search needs) (search needs) (search needs) (search needs) (search needs) (search needs) columns-text-requires (search needs) returns)

@@ -14,17 +14,9 @@ file-text-requires c κs = (accepted-none (tableFaults (c .before .before .befor
 
 returns : tie.Need-returns
 returns c =
-    let t = table-refused (c .before .before .before .before .before .before .before .args .bytes .now) _ (sym (c .before .before .before .before .before .check-table .ensures) ∙ c .before .before .before .table .given .1) in
-    (c .put-refusal .ensures .0 ∙ ap (sets (c .before .before .before .before .before .before .before .args .out .now) 0) t, c .put-refusal .ensures .1 ∙ ap length t)
+    let t = table-refused _ _ (sym (c .before .before .before .before .before .check-table .ensures) ∙ c .before .before .before .table .given .1) in
+    (c .put-refusal .ensures .0 ∙ ap (sets _ 0) t, c .put-refusal .ensures .1 ∙ ap length t)
 
 pub report-spec : {M : Type 1} → statement M
-report-spec =
-    tie.close
-    (tie.spec
-    (λ c κs. search needs)
-    (λ c. search needs)
-    (λ c κs. search needs)
-    (λ c. search needs)
-    file-text-requires
-    returns
+report-spec = tie.close (tie.spec (search needs) (search needs) (search needs) (search needs) file-text-requires returns
     (λ c. search needs))

@@ -9,43 +9,31 @@ use Rattle.report_text.proofs.shell_text.Statement.{statement}
 use Rattle.report_text.proofs.shell_text.Tie as tie
 
 shared-slice-read-first : tie.Need-shared-slice-read-first
-shared-slice-read-first c = let a = c .before .before .before .before .before .before .before .before .before .before .before .args in let w = c .before .before .before .before .before .before .before .before .before .before .before .pre .0 in let k : Columns = lent (a .points) (a .edges) (a .uses .now) (a .turned .now) (a .starts .now) (a .wires .now) (a .firsts .now) (a .fronts .now) (a .backs .now) (a .places .now) (a .listings .now) in omega (arith, places-inside k (a .n) (w .pattern) (w .sound) (w .columns) (w .here))
+shared-slice-read-first c = let start = c .before .before .before .before .before .before .before .before .before .before .before in
+    let k : Columns = lent (start .args .points) (start .args .edges) (start .args .uses .now) (start .args .turned .now) (start .args .starts .now) (start .args .wires .now) (start .args .firsts .now) (start .args .fronts .now) (start .args .backs .now) (start .args .places .now) (start .args .listings .now) in omega (arith, places-inside k (start .args .n) (start .pre .0 .pattern) (start .pre .0 .sound) (start .pre .0 .columns) (start .pre .0 .here))
 
 shared-slice-read-end : tie.Need-shared-slice-read-end
-shared-slice-read-end c = let a = c .before .before .before .before .before .before .before .before .before .before .before .before .args in let w = c .before .before .before .before .before .before .before .before .before .before .before .before .pre .0 in let k : Columns = lent (a .points) (a .edges) (a .uses .now) (a .turned .now) (a .starts .now) (a .wires .now) (a .firsts .now) (a .fronts .now) (a .backs .now) (a .places .now) (a .listings .now) in omega (arith, places-inside k (a .n) (w .pattern) (w .sound) (w .columns) (w .here))
+shared-slice-read-end c = let start = c .before .before .before .before .before .before .before .before .before .before .before .before in
+    let k : Columns = lent (start .args .points) (start .args .edges) (start .args .uses .now) (start .args .turned .now) (start .args .starts .now) (start .args .wires .now) (start .args .firsts .now) (start .args .fronts .now) (start .args .backs .now) (start .args .places .now) (start .args .listings .now) in omega (arith, places-inside k (start .args .n) (start .pre .0 .pattern) (start .pre .0 .sound) (start .pre .0 .columns) (start .pre .0 .here))
 
 put-figures-requires : tie.Need-put-figures-requires
-put-figures-requires c κs = let a = c .before .before .before .before .before .before .before .before .before .before .before .before .before .before .before .before .before .before .before .before .before .before .before .before .before .before .before .before .before .before .args in let w = c .before .before .before .before .before .before .before .before .before .before .before .before .before .before .before .before .before .before .before .before .before .before .before .before .before .before .before .before .before .before .pre .0 in let k : Columns = lent (a .points) (a .edges) (a .uses .now) (a .turned .now) (a .starts .now) (a .wires .now) (a .firsts .now) (a .fronts .now) (a .backs .now) (a .places .now) (a .listings .now) in let o = c .before .before .before .before .before .before .before .before .before .before .before .before .before .before .before .put-openings in let g = c .before .before .before .before .before .before .before .before .before .put-groups in let eo = o .ensures .0 (w .pattern) (w .sound) (w .columns) (w .here) in let eg = g .ensures (w .pattern) (w .sound) (w .columns) (w .here) in (figures-inside (w .pattern) (w .sound) (a .n) (w .here) _ _ eo eg (o .ensures .1), figures-fit (w .pattern) (w .sound) (a .n) (w .here) _ _ eo eg (o .ensures .1) _ (a .at) (c .before .before .before .before .before .before .before .before .before .before .before .before .before .before .before .before .before .before .before .before .before .before .before .before .before .before .before .before .before .before .pre .1 .0) (c .before .before .before .before .before .before .before .before .before .before .before .before .before .before .before .before .before .before .before .before .before .before .before .before .before .before .before .before .before .before .pre .1 .1))
+put-figures-requires c κs =
+    let start = c .before .before .before .before .before .before .before .before .before .before .before .before .before .before .before .before .before .before .before .before .before .before .before .before .before .before .before .before .before .before in
+    let put-openings = c .before .before .before .before .before .before .before .before .before .before .before .before .before .before .before .put-openings in
+    let k : Columns = lent (start .args .points) (start .args .edges) (start .args .uses .now) (start .args .turned .now) (start .args .starts .now) (start .args .wires .now) (start .args .firsts .now) (start .args .fronts .now) (start .args .backs .now) (start .args .places .now) (start .args .listings .now) in let eo = put-openings .ensures .0 (start .pre .0 .pattern) (start .pre .0 .sound) (start .pre .0 .columns) (start .pre .0 .here) in let eg = c .before .before .before .before .before .before .before .before .before .put-groups .ensures (start .pre .0 .pattern) (start .pre .0 .sound) (start .pre .0 .columns) (start .pre .0 .here) in (figures-inside (start .pre .0 .pattern) (start .pre .0 .sound) (start .args .n) (start .pre .0 .here) _ _ eo eg (put-openings .ensures .1), figures-fit (start .pre .0 .pattern) (start .pre .0 .sound) _ (start .pre .0 .here) _ _ eo eg (put-openings .ensures .1) _ _ (start .pre .1 .0) (start .pre .1 .1))
 
 sub-check-shell : tie.Need-sub-check-shell
-sub-check-shell c = let a = c .before .before .before .before .before .before .before .before .before .before .before .before .before .before .before .before .before .before .before .before .before .before .before .before .before .before .before .before .before .before .before .before .before .args in let w = c .before .before .before .before .before .before .before .before .before .before .before .before .before .before .before .before .before .before .before .before .before .before .before .before .before .before .before .before .before .before .before .before .before .pre .0 in let k : Columns = lent (a .points) (a .edges) (a .uses .now) (a .turned .now) (a .starts .now) (a .wires .now) (a .firsts .now) (a .fronts .now) (a .backs .now) (a .places .now) (a .listings .now) in in-places k (a .n) (w .pattern) (w .sound) (w .columns) (w .here) .0
+sub-check-shell c =
+    let start = c .before .before .before .before .before .before .before .before .before .before .before .before .before .before .before .before .before .before .before .before .before .before .before .before .before .before .before .before .before .before .before .before .before in
+    let k : Columns = lent (start .args .points) (start .args .edges) (start .args .uses .now) (start .args .turned .now) (start .args .starts .now) (start .args .wires .now) (start .args .firsts .now) (start .args .fronts .now) (start .args .backs .now) (start .args .places .now) (start .args .listings .now) in in-places k (start .args .n) (start .pre .0 .pattern) (start .pre .0 .sound) (start .pre .0 .columns) (start .pre .0 .here) .0
 
 returns : tie.Need-returns
-returns c = let a = c .before .before .before .before .before .before .before .before .before .before .before .before .before .before .before .before .before .before .before .before .before .before .before .before .before .before .before .before .before .before .before .before .before .before .args in let k : Columns = lent (a .points) (a .edges) (a .uses .now) (a .turned .now) (a .starts .now) (a .wires .now) (a .firsts .now) (a .fronts .now) (a .backs .now) (a .places .now) (a .listings .now) in let o = c .before .before .before .before .before .before .before .before .before .before .before .before .before .before .before .before .before .before .before .put-openings in let g = c .before .before .before .before .before .before .before .before .before .before .before .before .before .put-groups in let f = c .before .before .before .put-figures .ensures in (λ p t e h. shelled p t (a .n) h _ _ (o .ensures .0 p t e h) (g .ensures p t e h) (o .ensures .1) k e _ _ (a .at) _ _ f (c .check-shell .ensures), f .2)
+returns c =
+    let put-openings = c .before .before .before .before .before .before .before .before .before .before .before .before .before .before .before .before .before .before .before .put-openings in
+    let put-figures = c .before .before .before .put-figures in
+    let k : Columns = lent _ _ _ _ _ _ _ _ _ _ _ in (λ p t e h. shelled p t _ h _ _ (put-openings .ensures .0 p t e h) (c .before .before .before .before .before .before .before .before .before .before .before .before .before .put-groups .ensures p t e h) (put-openings .ensures .1) k e _ _ _ _ _ (put-figures .ensures) (c .check-shell .ensures), put-figures .ensures .2)
 
 pub shell-text-spec : {M : Type 1} → statement M
-shell-text-spec =
-    tie.close
-    (tie.spec
-    (λ c. search needs)
-    shared-slice-read-first
-    (λ c. search needs)
-    (λ c. search needs)
-    shared-slice-read-end
-    (λ c. search needs)
-    (λ c. search needs)
-    (λ c κs. search needs)
-    (λ c. search needs)
-    (λ c. search needs)
-    (λ c. search needs)
-    (λ c κs. search needs)
-    (λ c. search needs)
-    (λ c. search needs)
-    (λ c. search needs)
-    (λ c. search needs)
-    (λ c. search needs)
-    put-figures-requires
-    sub-check-shell
-    (λ c κs. search needs)
-    (λ c. search needs)
-    returns)
+shell-text-spec = tie.close (tie.spec (search needs) shared-slice-read-first (search needs) (search needs) shared-slice-read-end
+    (search needs) (search needs) (λ c κs. search needs) (search needs) (search needs) (search needs) (λ c κs. search needs) (search needs)
+    (search needs) (search needs) (search needs) (search needs) put-figures-requires sub-check-shell (search needs) (search needs) returns)

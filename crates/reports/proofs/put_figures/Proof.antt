@@ -7,22 +7,22 @@ use Rattle.reports.proofs.put_figures.Statement.{statement}
 use Rattle.reports.proofs.put_figures.Tie as tie
 
 components-first-requires : tie.Need-components-first-requires
-components-first-requires c κs = let a = c .before .before .before .before .before .before .before .before .before .before .before .before .before .args in let w = c .before .before .before .before .before .before .before .before .before .before .before .before .before .pre in let g : Pairs = pairsLent (a .number) (a .wires) (a .uses) (a .pairs .now) (a .counts .now) (a .spans .now) (a .lens .now) (a .shown .now) in ((w .0 .pairs, w .0 .spans, w .0 .shown), paired-into g _ _ _ _ _ (w .0) (w .1 .0) (w .1 .1))
+components-first-requires c κs =
+    let start = c .before .before .before .before .before .before .before .before .before .before .before .before .before in
+    let g : Pairs = pairsLent (start .args .number) (start .args .wires) (start .args .uses) (start .args .pairs .now) (start .args .counts .now) (start .args .spans .now) (start .args .lens .now) (start .args .shown .now) in ((start .pre .0 .pairs, start .pre .0 .spans, start .pre .0 .shown), paired-into g _ _ _ _ _ (start .pre .0) (start .pre .1 .0) (start .pre .1 .1))
 
 singular-first-requires : tie.Need-singular-first-requires
-singular-first-requires c κs = let a = c .before .before .before .before .before .before .before .before .before .before .before .before .before .before .before .before .before .before .before .args in let w = c .before .before .before .before .before .before .before .before .before .before .before .before .before .before .before .before .before .before .before .pre in let g : Pairs = pairsLent (a .number) (a .wires) (a .uses) (a .pairs .now) (a .counts .now) (a .spans .now) (a .lens .now) (a .shown .now) in ((w .0 .shown, w .0 .lens), cornered-into g _ _ _ _ (w .0) (w .1 .2))
+singular-first-requires c κs =
+    let start = c .before .before .before .before .before .before .before .before .before .before .before .before .before .before .before .before .before .before .before in
+    let g : Pairs = pairsLent (start .args .number) (start .args .wires) (start .args .uses) (start .args .pairs .now) (start .args .counts .now) (start .args .spans .now) (start .args .lens .now) (start .args .shown .now) in ((start .pre .0 .shown, start .pre .0 .lens), cornered-into g _ _ _ _ (start .pre .0) (start .pre .1 .2))
 
 returns : tie.Need-returns
-returns c = let a = c .before .before .before .before .before .before .before .before .before .before .before .before .before .before .before .before .before .before .before .before .before .before .args in let w = c .before .before .before .before .before .before .before .before .before .before .before .before .before .before .before .before .before .before .before .before .before .before .pre in let g : Pairs = pairsLent (a .number) (a .wires) (a .uses) (a .pairs .now) (a .counts .now) (a .spans .now) (a .lens .now) (a .shown .now) in let d = c .before .before .before .before .before .before .before .before .components-first .ensures in let s = c .before .before .singular-first .ensures in figures-made g _ _ (a .points) _ _ _ _ _ _ _ _ _ (w .1 .0) (w .1 .1) (w .1 .2) (c .before .before .before .before .before .before .before .before .before .before .before .connected-first .ensures) (d .0) (d .1 .0) (d .1 .1) (s .0) (s .1)
+returns c =
+    let pre = c .before .before .before .before .before .before .before .before .before .before .before .before .before .before .before .before .before .before .before .before .before .before .pre in
+    let components-first = c .before .before .before .before .before .before .before .before .components-first in
+    let singular-first = c .before .before .singular-first in
+    let g : Pairs = pairsLent _ _ _ _ _ _ _ _ in figures-made g _ _ _ _ _ _ _ _ _ _ _ _ (pre .1 .0) (pre .1 .1) (pre .1 .2) (c .before .before .before .before .before .before .before .before .before .before .before .connected-first .ensures) (components-first .ensures .0) (components-first .ensures .1 .0) (components-first .ensures .1 .1) (singular-first .ensures .0) (singular-first .ensures .1)
 
 pub put-figures-spec : {M : Type 1} → statement M
-put-figures-spec =
-    tie.close
-    (tie.spec
-    (λ c κs. search needs)
-    components-first-requires
-    singular-first-requires
-    (λ c. search needs)
-    (λ c. search needs)
-    (λ c. search needs)
-    returns)
+put-figures-spec = tie.close (tie.spec (λ c κs. search needs) components-first-requires singular-first-requires (search needs)
+    (search needs) (search needs) returns)

@@ -9,22 +9,15 @@ thread-requires : tie.Need-thread-requires
 thread-requires c κs = fresh _ _ _ _ (c .before .before .before .before .before .before .pre)
 
 put-groups-requires : tie.Need-put-groups-requires
-put-groups-requires c κs = (c .before .before .before .before .before .before .before .before .before .before .before .before .before .pre, (search needs, (search needs, (c .before .before .before .before .before .before .thread .ensures .0, c .before .before .before .before .before .before .thread .ensures .1))))
+put-groups-requires c κs = let thread = c .before .before .before .before .before .before .thread in
+    (c .before .before .before .before .before .before .before .before .before .before .before .before .before .pre, (search needs, (search needs, (thread .ensures .0, thread .ensures .1))))
 
 returns : tie.Need-returns
-returns c = (c .before .before .before .before .put-groups .ensures .0, (c .before .before .before .before .put-groups .ensures .1 .0, (c .before .before .before .before .put-groups .ensures .1 .1, (key-groups-long (c .before .before .before .before .before .before .before .before .before .before .before .before .before .before .before .before .before .before .args .names .now) (c .before .before .before .before .before .before .before .before .before .before .before .before .before .before .before .before .before .before .args .keys .now), omega (arith, c .before .before .before .before .put-groups .ensures .1 .1, key-groups-few (c .before .before .before .before .before .before .before .before .before .before .before .before .before .before .before .before .before .before .args .names .now) (c .before .before .before .before .before .before .before .before .before .before .before .before .before .before .before .before .before .before .args .keys .now))))))
+returns c =
+    let args = c .before .before .before .before .before .before .before .before .before .before .before .before .before .before .before .before .before .before .args in
+    let put-groups = c .before .before .before .before .put-groups in
+    (put-groups .ensures .0, (put-groups .ensures .1 .0, (put-groups .ensures .1 .1, (key-groups-long (args .names .now) (args .keys .now), omega (arith, put-groups .ensures .1 .1, key-groups-few (args .names .now) (args .keys .now))))))
 
 pub groups-by-spec : {M : Type 1} → statement M
-groups-by-spec =
-    tie.close
-    (tie.spec
-    (λ c. search needs)
-    (λ c. search needs)
-    (λ c. search needs)
-    thread-requires
-    (λ c. search needs)
-    (λ c. search needs)
-    put-groups-requires
-    (λ c. search needs)
-    (λ c. search needs)
-    returns)
+groups-by-spec = tie.close (tie.spec (search needs) (search needs) (search needs) thread-requires (search needs) (search needs)
+    put-groups-requires (search needs) (search needs) returns)

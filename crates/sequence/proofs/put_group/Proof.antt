@@ -34,21 +34,5 @@ returns : tie.Need-returns Inv-loop μ-loop
 returns c = (following-out _ _ _ _ _ _ _ _ _ (c .before .loop .inv) (omega arith), following-end _ _ _ _ _ _ _ _ _ (c .before .loop .inv) (omega arith))
 
 pub put-group-spec : {M : Type 1} → statement M
-put-group-spec =
-    tie.close
-    (tie.spec
-    Inv-loop
-    μ-loop
-    loop-holds
-    (λ c. search needs)
-    (λ c. search needs)
-    (λ c. search needs)
-    slice-write-out
-    (λ c. search needs)
-    (λ c. search needs)
-    (λ c. search needs)
-    (λ c κs. search needs)
-    loop-less
-    loop-again
-    same-length
-    returns)
+put-group-spec = tie.close (tie.spec Inv-loop μ-loop loop-holds (search needs) (search needs) (search needs) slice-write-out (search needs)
+    (search needs) (search needs) (search needs) loop-less loop-again same-length returns)

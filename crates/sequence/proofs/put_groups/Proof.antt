@@ -16,7 +16,8 @@ abbrev μ-loop : tie.MeasureT-loop
 μ-loop keys names next head out₀ lens₀ at₀ count₀ i₀ out lens at count i = length keys - i
 
 loop-holds : tie.Need-loop-holds Inv-loop μ-loop
-loop-holds c = placing-start _ _ _ _ _ _ (c .before .before .before .before .before .before .pre .0) (c .before .before .before .before .before .before .pre .1 .0) (c .before .before .before .before .before .before .pre .1 .1 .0) (c .before .before .before .before .before .before .pre .1 .1 .1 .0) (c .before .before .before .before .before .before .pre .1 .1 .1 .1)
+loop-holds c = let pre = c .before .before .before .before .before .before .pre in
+    placing-start _ _ _ _ _ _ (pre .0) (pre .1 .0) (pre .1 .1 .0) (pre .1 .1 .1 .0) (pre .1 .1 .1 .1)
 
 shared-slice-read-index-2 : tie.Need-shared-slice-read-index-2 Inv-loop μ-loop
 shared-slice-read-index-2 c = placing-key _ _ _ _ _ _ _ _ _ _ _ (c .before .before .before .before .loop .inv) (omega arith) _ (c .before .index .ensures .0)
@@ -40,7 +41,8 @@ add-count : tie.Need-add-count Inv-loop μ-loop
 add-count c = omega (arith, placing-few _ _ _ _ _ _ _ _ _ _ _ (c .before .before .before .before .before .before .before .before .before .before .loop .inv))
 
 loop-again : tie.Need-loop-again Inv-loop μ-loop
-loop-again c = ⊎-elim (λ w. rw (w .5, w .6, w .7, w .8) (placing-first _ _ _ _ _ _ _ _ _ _ _ (c .before .before .before .before .before .before .loop .inv) (omega arith) _ (c .before .before .before .index .ensures .0) _ (c .before .index2 .ensures .0) (w .0 .taken) _ _ _ (w .2 .ensures .0) (w .2 .ensures .1) refl)) (λ w. rw (w .1, w .2, w .3, w .4) (placing-other _ _ _ _ _ _ _ _ _ _ _ (c .before .before .before .before .before .before .loop .inv) (omega arith) _ (c .before .before .before .index .ensures .0) _ (c .before .index2 .ensures .0) (w .0 .left))) (c .if1 .came)
+loop-again c = let loop = c .before .before .before .before .before .before .loop in let index = c .before .before .before .index in
+    ⊎-elim (λ w. rw (w .5, w .6, w .7, w .8) (placing-first _ _ _ _ _ _ _ _ _ _ _ (loop .inv) (omega arith) _ (index .ensures .0) _ (c .before .index2 .ensures .0) (w .0 .taken) _ _ _ (w .2 .ensures .0) (w .2 .ensures .1) refl)) (λ w. rw (w .1, w .2, w .3, w .4) (placing-other _ _ _ _ _ _ _ _ _ _ _ (loop .inv) (omega arith) _ (index .ensures .0) _ (c .before .index2 .ensures .0) (w .0 .left))) (c .if1 .came)
 
 same-length : tie.Need-same-length Inv-loop μ-loop
 same-length c = placing-out _ _ _ _ _ _ _ _ _ _ _ (c .before .loop .inv)
@@ -52,27 +54,6 @@ returns : tie.Need-returns Inv-loop μ-loop
 returns c = placing-all _ _ _ _ _ _ _ _ _ _ _ (c .before .loop .inv) (omega arith)
 
 pub put-groups-spec : {M : Type 1} → statement M
-put-groups-spec =
-    tie.close
-    (tie.spec
-    Inv-loop
-    μ-loop
-    loop-holds
-    (λ c. search needs)
-    (λ c. search needs)
-    (λ c κs. search needs)
-    (λ c. search needs)
-    shared-slice-read-index-2
-    (λ c κs. search needs)
-    put-group-requires
-    sub-lens
-    cast-lens
-    mul-lens
-    slice-write-lens
-    add-count
-    (λ c. search needs)
-    (λ c. search needs)
-    loop-again
-    same-length
-    same-length-2
-    returns)
+put-groups-spec = tie.close (tie.spec Inv-loop μ-loop loop-holds (search needs) (search needs) (search needs) (search needs)
+    shared-slice-read-index-2 (search needs) put-group-requires sub-lens cast-lens mul-lens slice-write-lens add-count (search needs)
+    (search needs) loop-again same-length same-length-2 returns)

@@ -30,27 +30,6 @@ returns : tie.Need-returns Inv-loop μ-loop
 returns c = (threading-heads _ _ _ _ _ _ (c .before .loop .inv) (omega arith), threading-nexts _ _ _ _ _ _ (c .before .loop .inv) (omega arith))
 
 pub thread-spec : {M : Type 1} → statement M
-thread-spec =
-    tie.close
-    (tie.spec
-    Inv-loop
-    μ-loop
-    loop-holds
-    (λ c. search needs)
-    (λ c. search needs)
-    (λ c. search needs)
-    (λ c. search needs)
-    (λ c κs. search needs)
-    (λ c. search needs)
-    slice-read-next
-    (λ c. search needs)
-    (λ c. search needs)
-    (λ c. search needs)
-    (λ c. search needs)
-    slice-write-head
-    (λ c. search needs)
-    (λ c. search needs)
-    loop-again
-    (λ c. search needs)
-    (λ c. search needs)
-    returns)
+thread-spec = tie.close (tie.spec Inv-loop μ-loop loop-holds (search needs) (search needs) (search needs) (search needs) (search needs)
+    (search needs) slice-read-next (search needs) (search needs) (search needs) (search needs) slice-write-head (search needs)
+    (search needs) loop-again (search needs) (search needs) returns)

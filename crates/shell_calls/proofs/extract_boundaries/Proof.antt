@@ -41,16 +41,5 @@ returns-3 c =
     )
 
 pub extract-boundaries-spec : {M : Type 1} → statement M
-extract-boundaries-spec =
-    tie.close
-    (tie.spec
-    (λ c κs. search needs)
-    (λ c. search needs)
-    (λ c. search needs)
-    (λ c. search needs)
-    openings-at-requires
-    (λ c κs. search needs)
-    (λ c κs. search needs)
-    returns
-    returns-2
-    returns-3)
+extract-boundaries-spec = tie.close (tie.spec (λ c κs. search needs) (λ c. search needs) (λ c. search needs) (λ c. search needs)
+    openings-at-requires (λ c κs. search needs) (λ c κs. search needs) returns returns-2 returns-3)

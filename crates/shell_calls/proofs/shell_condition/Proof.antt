@@ -37,14 +37,5 @@ returns-3 c =
     ap (λ (r : ShellOpenings). Is (record { 0 = r .condition })) (r .ensures .0) ∙ ap (λ (q : Presence). conditionWhen q (content (a .p)) (a .n)) e
 
 pub shell-condition-spec : {M : Type 1} → statement M
-shell-condition-spec =
-    tie.close
-    (tie.spec
-    (λ c κs. search needs)
-    (λ c. search needs)
-    (λ c. search needs)
-    (λ c. search needs)
-    openings-at-requires
-    returns
-    returns-2
-    returns-3)
+shell-condition-spec = tie.close (tie.spec (λ c κs. search needs) (λ c. search needs) (λ c. search needs) (λ c. search needs)
+    openings-at-requires returns returns-2 returns-3)

@@ -14,29 +14,18 @@ abbrev μ-loop : tie.MeasureT-loop
 μ-loop listings out₀ k₀ out k = length listings - k
 
 loop-holds : tie.Need-loop-holds Inv-loop μ-loop
-loop-holds c = flagging-start (c .before .args .listings .now)
+loop-holds c = flagging-start _
 
 array-write-out : tie.Need-array-write-out Inv-loop μ-loop
 array-write-out c = omega (arith, c .index .ensures .0, c .before .before .before .before .before .pre (c .before .before .before .loop .k) (omega arith))
 
 loop-again : tie.Need-loop-again Inv-loop μ-loop
-loop-again c = flagging-next _ _ _ (c .before .before .before .loop .inv) _ (omega arith) (c .index .ensures .0) (omega (arith, c .index .ensures .0, c .before .before .before .before .before .pre (c .before .before .before .loop .k) (omega arith)))
+loop-again c = let loop = c .before .before .before .loop in
+    flagging-next _ _ _ (loop .inv) _ (omega arith) (c .index .ensures .0) (omega (arith, c .index .ensures .0, c .before .before .before .before .before .pre (loop .k) (omega arith)))
 
 returns : tie.Need-returns Inv-loop μ-loop
 returns c = flagging-all _ _ _ (c .before .loop .inv) (omega arith)
 
 pub face-flags-spec : {M : Type 1} → statement M
-face-flags-spec =
-    tie.close
-    (tie.spec
-    Inv-loop
-    μ-loop
-    loop-holds
-    (λ c. search needs)
-    (λ c. search needs)
-    (λ c κs. search needs)
-    array-write-out
-    (λ c. search needs)
-    (λ c. search needs)
-    loop-again
-    returns)
+face-flags-spec = tie.close (tie.spec Inv-loop μ-loop loop-holds (search needs) (search needs) (search needs) array-write-out
+    (search needs) (search needs) loop-again returns)

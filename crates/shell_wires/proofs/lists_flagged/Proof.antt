@@ -14,10 +14,11 @@ abbrev μ-loop : tie.MeasureT-loop
 μ-loop listings flags k₀ k = length listings - k
 
 loop-holds : tie.Need-loop-holds Inv-loop μ-loop
-loop-holds c = looking-start (c .before .before .args .flags .now) (c .before .before .args .listings .now)
+loop-holds c = looking-start _ _
 
 shared-slice-read-if1 : tie.Need-shared-slice-read-if1 Inv-loop μ-loop
-shared-slice-read-if1 c = omega (arith, c .before .index .ensures .0, c .before .before .before .before .before .before .before .pre .0 (c .before .before .before .before .loop .k) (omega arith), c .before .before .before .before .before .before .before .pre .1)
+shared-slice-read-if1 c = let pre = c .before .before .before .before .before .before .before .pre in
+    omega (arith, c .before .index .ensures .0, pre .0 (c .before .before .before .before .loop .k) (omega arith), pre .1)
 
 returns : tie.Need-returns Inv-loop μ-loop
 returns c = looking-stop _ _ _ (c .before .before .before .before .before .loop .inv) _ (omega arith) (c .before .before .index .ensures .0) (c .if1 .taken)
@@ -29,18 +30,5 @@ returns-2 : tie.Need-returns-2 Inv-loop μ-loop
 returns-2 c = looking-all _ _ _ (c .before .loop .inv) (omega arith)
 
 pub lists-flagged-spec : {M : Type 1} → statement M
-lists-flagged-spec =
-    tie.close
-    (tie.spec
-    Inv-loop
-    μ-loop
-    loop-holds
-    (λ c. search needs)
-    (λ c. search needs)
-    (λ c κs. search needs)
-    shared-slice-read-if1
-    returns
-    (λ c. search needs)
-    (λ c. search needs)
-    loop-again
-    returns-2)
+lists-flagged-spec = tie.close (tie.spec Inv-loop μ-loop loop-holds (search needs) (search needs) (search needs) shared-slice-read-if1
+    returns (search needs) (search needs) loop-again returns-2)

@@ -13,7 +13,7 @@ abbrev μ-loop : tie.MeasureT-loop
 μ-loop out₀ at n flag k₀ out k = n - k
 
 loop-holds : tie.Need-loop-holds Inv-loop μ-loop
-loop-holds c = putting-start (c .args .out .now) (c .args .at) (c .args .n) (c .args .flag) (c .pre)
+loop-holds c = putting-start _ _ _ _ (c .pre)
 
 slice-write-out : tie.Need-slice-write-out Inv-loop μ-loop
 slice-write-out c = omega (arith, putting-long _ _ _ _ _ _ (c .before .loop .inv), c .before .loop .inv .room)
@@ -28,16 +28,5 @@ returns : tie.Need-returns Inv-loop μ-loop
 returns c = putting-all _ _ _ _ _ _ (c .before .loop .inv) (omega arith)
 
 pub put-flags-spec : {M : Type 1} → statement M
-put-flags-spec =
-    tie.close
-    (tie.spec
-    Inv-loop
-    μ-loop
-    loop-holds
-    (λ c. search needs)
-    slice-write-out
-    (λ c. search needs)
-    (λ c. search needs)
-    loop-again
-    same-length
-    returns)
+put-flags-spec = tie.close (tie.spec Inv-loop μ-loop loop-holds (search needs) slice-write-out (search needs) (search needs) loop-again
+    same-length returns)

@@ -6,10 +6,10 @@ use Rattle.singular.proofs.first_end.Statement.{statement}
 use Rattle.singular.proofs.first_end.Tie as tie
 
 returns : tie.Need-returns
-returns c = rw (le-leb 32768 (c .before .args .u) (c .if1 .taken))
+returns c = rw (le-leb 32768 _ (c .if1 .taken))
 
 returns-2 : tie.Need-returns-2
 returns-2 c = rw (lt-leb 32768 (c .before .args .u) (omega arith))
 
 pub first-end-spec : {M : Type 1} → statement M
-first-end-spec = tie.close (tie.spec (λ c. search needs) (λ c. search needs) returns (λ c. search needs) returns-2)
+first-end-spec = tie.close (tie.spec (search needs) (search needs) returns (search needs) returns-2)

@@ -8,28 +8,18 @@ use Rattle.singular.proofs.join_ends.Statement.{statement}
 use Rattle.singular.proofs.join_ends.Tie as tie
 
 start-requires : tie.Need-start-requires
-start-requires c κs = let p = c .before .before .before .before .before .pre in rw (p .1) (omega (arith, p .0 .few-edges, length-replicate {A = ℕ} 2048 0), (omega (arith, p .0 .few-edges, length-replicate {A = ℕ} 2048 0), omega (arith, p .0 .few-edges, length-replicate {A = ℕ} 2048 0)))
+start-requires c κs = let pre = c .before .before .before .before .before .pre in
+    rw (pre .1) (omega (arith, pre .0 .few-edges, length-replicate {A = ℕ} 2048 0), (omega (arith, pre .0 .few-edges, length-replicate {A = ℕ} 2048 0), omega (arith, pre .0 .few-edges, length-replicate {A = ℕ} 2048 0)))
 
 join-wires-requires : tie.Need-join-wires-requires
 join-wires-requires c κs =
-    let a = c .before .before .before .before .before .before .before .before .before .before .before .args in
-    let p = c .before .before .before .before .before .before .before .before .before .before .before .pre in
-    (ends-forest (a .uses .now) (a .lens .now) (a .edges) (p .0) (a .parents .now) (replicate 2048 0) (c .before .before .before .before .before .start .ensures), p .0)
+    let start = c .before .before .before .before .before .before .before .before .before .before .before in
+    (ends-forest (start .args .uses .now) (start .args .lens .now) _ (start .pre .0) _ (replicate 2048 0) (c .before .before .before .before .before .start .ensures), start .pre .0)
 
 returns : tie.Need-returns
 returns c =
-    let a = c .before .before .before .before .before .before .before .before .before .before .before .before .before .before .before .args in
-    let p = c .before .before .before .before .before .before .before .before .before .before .before .before .before .before .before .pre in
-    ends-joined (a .uses .now) (a .lens .now) (a .edges) (p .0) (p .1) (c .before .before .before .before .before .before .before .before .before .start .ensures) (c .before .before .before .join-wires .ensures .0)
+    let pre = c .before .before .before .before .before .before .before .before .before .before .before .before .before .before .before .pre in
+    ends-joined _ _ _ (pre .0) (pre .1) (c .before .before .before .before .before .before .before .before .before .start .ensures) (c .before .before .before .join-wires .ensures .0)
 
 pub join-ends-spec : {M : Type 1} → statement M
-join-ends-spec =
-    tie.close
-    (tie.spec
-    (λ c. search needs)
-    (λ c. search needs)
-    start-requires
-    (λ c. search needs)
-    join-wires-requires
-    (λ c. search needs)
-    returns)
+join-ends-spec = tie.close (tie.spec (search needs) (search needs) start-requires (search needs) join-wires-requires (search needs) returns)

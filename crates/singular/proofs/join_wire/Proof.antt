@@ -22,36 +22,20 @@ loop-holds c = joins-start _ _ _ _ _ (c .before .before .before .pre .0)
 
 join-requires : tie.Need-join-requires Inv-loop μ-loop
 join-requires c κs =
-    let a = c .before .before .before .before .before .before .before .before .before .before .before .before .before .args in
-    let e = corner-ends (a .edges) (a .wire .now) (c .before .before .before .before .before .before .before .before .before .before .before .before .before .pre .1) (c .before .before .before .before .before .before .before .before .before .loop .i) (omega arith) (c .before .before .before .before .before .before .last-end .ensures) (c .before .before .before .before .before .index .ensures .0) (c .before .before .before .first-end .ensures ∙ ap firstEnd (c .before .before .before .before .next-use .ensures)) (c .before .before .index2 .ensures .0) in
-    ready _ _ _ (c .before .before .before .before .before .before .before .before .before .loop .inv .forest) _ _ (e .0) (e .1)
+    let start = c .before .before .before .before .before .before .before .before .before .before .before .before .before in
+    let loop = c .before .before .before .before .before .before .before .before .before .loop in
+    let e = corner-ends (start .args .edges) (start .args .wire .now) (start .pre .1) (loop .i) (omega arith) (c .before .before .before .before .before .before .last-end .ensures) (c .before .before .before .before .before .index .ensures .0) (c .before .before .before .first-end .ensures ∙ ap firstEnd (c .before .before .before .before .next-use .ensures)) (c .before .before .index2 .ensures .0) in
+    ready _ _ _ (loop .inv .forest) _ _ (e .0) (e .1)
 
 loop-again : tie.Need-loop-again Inv-loop μ-loop
 loop-again c =
-    let a = c .before .before .before .before .before .before .before .before .before .before .before .before .before .before .before .before .before .before .args in
-    cornering-next (a .edges) (a .wire .now) _ _ _ _ (c .before .before .before .before .before .before .before .before .before .before .before .before .before .before .loop .i) (c .before .before .before .before .before .before .before .before .before .before .before .before .before .before .before .before .before .before .pre .1) (c .before .before .before .before .before .before .before .before .before .before .before .before .before .before .loop .inv) (omega arith) (c .before .before .before .before .before .before .before .before .before .before .before .last-end .ensures) (c .before .before .before .before .before .before .before .before .before .before .index .ensures .0) (c .before .before .before .before .before .before .before .before .first-end .ensures ∙ ap firstEnd (c .before .before .before .before .before .before .before .before .before .next-use .ensures)) (c .before .before .before .before .before .before .before .index2 .ensures .0) (c .before .before .before .before .join .ensures)
+    let start = c .before .before .before .before .before .before .before .before .before .before .before .before .before .before .before .before .before .before in
+    let loop = c .before .before .before .before .before .before .before .before .before .before .before .before .before .before .loop in
+    cornering-next (start .args .edges) (start .args .wire .now) _ _ _ _ (loop .i) (start .pre .1) (loop .inv) (omega arith) (c .before .before .before .before .before .before .before .before .before .before .before .last-end .ensures) (c .before .before .before .before .before .before .before .before .before .before .index .ensures .0) (c .before .before .before .before .before .before .before .before .first-end .ensures ∙ ap firstEnd (c .before .before .before .before .before .before .before .before .before .next-use .ensures)) (c .before .before .before .before .before .before .before .index2 .ensures .0) (c .before .before .before .before .join .ensures)
 
 returns : tie.Need-returns Inv-loop μ-loop
-returns c = cornering-all (c .before .before .before .before .before .args .edges) (c .before .before .before .before .before .args .wire .now) _ _ _ _ (c .before .loop .i) (c .before .before .before .before .before .pre .1) (c .before .loop .inv) (omega arith)
+returns c = cornering-all _ _ _ _ _ _ _ (c .before .before .before .before .before .pre .1) (c .before .loop .inv) (omega arith)
 
 pub join-wire-spec : {M : Type 1} → statement M
-join-wire-spec =
-    tie.close
-    (tie.spec
-    Inv-loop
-    μ-loop
-    loop-holds
-    (λ c. search needs)
-    (λ c. search needs)
-    (λ c κs. search needs)
-    (λ c κs. search needs)
-    (λ c κs. search needs)
-    (λ c κs. search needs)
-    (λ c κs. search needs)
-    join-requires
-    (λ c. search needs)
-    (λ c. search needs)
-    loop-again
-    (λ c. search needs)
-    (λ c. search needs)
-    returns)
+join-wire-spec = tie.close (tie.spec Inv-loop μ-loop loop-holds (search needs) (search needs) (search needs) (search needs) (search needs)
+    (search needs) (search needs) join-requires (search needs) (search needs) loop-again (search needs) (search needs) returns)

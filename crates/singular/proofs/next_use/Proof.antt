@@ -6,19 +6,10 @@ use Rattle.singular.proofs.next_use.Statement.{statement}
 use Rattle.singular.proofs.next_use.Tie as tie
 
 returns : tie.Need-returns
-returns c = next-inner (c .before .before .args .wire .now) (c .before .before .args .i) (omega arith)
+returns c = let args = c .before .before .args in next-inner (args .wire .now) (args .i) (omega arith)
 
 returns-2 : tie.Need-returns-2
-returns-2 c = next-last (c .before .before .args .wire .now) (c .before .before .args .i) (omega arith) (omega arith)
+returns-2 c = let args = c .before .before .args in next-last (args .wire .now) (args .i) (omega arith) (omega arith)
 
 pub next-use-spec : {M : Type 1} → statement M
-next-use-spec =
-    tie.close
-    (tie.spec
-    (λ c. search needs)
-    (λ c. search needs)
-    (λ c. search needs)
-    (λ c. search needs)
-    returns
-    (λ c. search needs)
-    returns-2)
+next-use-spec = tie.close (tie.spec (search needs) (search needs) (search needs) (search needs) returns (search needs) returns-2)

@@ -8,31 +8,21 @@ use Rattle.singular.proofs.note.Tie as tie
 
 returns : tie.Need-returns
 returns c =
-    let a = c .before .before .args in
-    let e = noted-first (a .roots .now) (a .several .now) (a .p) (a .r) (c .if1 .taken) in
+    let args = c .before .before .args in
+    let e = noted-first (args .roots .now) (args .several .now) (args .p) (args .r) (c .if1 .taken) in
     rw e (refl, (refl, λ o. (o, refl)))
 
 returns-2 : tie.Need-returns-2
 returns-2 c =
-    let a = c .before .before .before .args in
-    let e = noted-other (a .roots .now) (a .several .now) (a .p) (a .r) (c .before .if1 .left) (c .if2 .taken) in
+    let args = c .before .before .before .args in
+    let e = noted-other (args .roots .now) (args .several .now) (args .p) (args .r) (c .before .if1 .left) (c .if2 .taken) in
     rw e (refl, (refl, λ o. absurd (true≢false o)))
 
 returns-3 : tie.Need-returns-3
 returns-3 c =
-    let a = c .before .before .before .args in
-    let e = noted-same (a .roots .now) (a .several .now) (a .p) (a .r) (c .before .if1 .left) (c .if2 .left) in
+    let args = c .before .before .before .args in
+    let e = noted-same (args .roots .now) (args .several .now) (args .p) (args .r) (c .before .if1 .left) (c .if2 .left) in
     rw e (refl, (refl, λ o. (o, refl)))
 
 pub note-spec : {M : Type 1} → statement M
-note-spec =
-    tie.close
-    (tie.spec
-    (λ c. search needs)
-    (λ c. search needs)
-    (λ c. search needs)
-    (λ c. search needs)
-    returns
-    (λ c. search needs)
-    returns-2
-    returns-3)
+note-spec = tie.close (tie.spec (search needs) (search needs) (search needs) (search needs) returns (search needs) returns-2 returns-3)

@@ -17,10 +17,12 @@ loop-holds : tie.Need-loop-holds Inv-loop μ-loop
 loop-holds c = listed-start _ _ _
 
 put-point-requires : tie.Need-put-point-requires Inv-loop μ-loop
-put-point-requires c κs = let s = c .before .before .before .loop .inv in (omega (arith, c .before .before .before .before .before .pre .0), omega (arith, s .few, listed-long s, c .before .before .before .before .before .pre .1))
+put-point-requires c κs = let pre = c .before .before .before .before .before .pre in let loop = c .before .before .before .loop in
+    (omega (arith, pre .0), omega (arith, loop .inv .few, listed-long (loop .inv), pre .1))
 
 loop-again : tie.Need-loop-again Inv-loop μ-loop
-loop-again c = listed-next (c .before .before .before .before .before .before .loop .inv) (omega arith) (c .before .before .put-point .ensures .0) (c .before .before .put-point .ensures .1)
+loop-again c = let put-point = c .before .before .put-point in
+    listed-next (c .before .before .before .before .before .before .loop .inv) (omega arith) (put-point .ensures .0) (put-point .ensures .1)
 
 same-length : tie.Need-same-length Inv-loop μ-loop
 same-length c = listed-long (c .before .loop .inv)
@@ -29,16 +31,5 @@ returns : tie.Need-returns Inv-loop μ-loop
 returns c = (listed-all (c .before .loop .inv) (omega arith), omega (arith, c .before .loop .inv .few, c .before .loop .inv .low))
 
 pub put-points-spec : {M : Type 1} → statement M
-put-points-spec =
-    tie.close
-    (tie.spec
-    Inv-loop
-    μ-loop
-    loop-holds
-    (λ c. search needs)
-    put-point-requires
-    (λ c. search needs)
-    (λ c. search needs)
-    loop-again
-    same-length
-    returns)
+put-points-spec = tie.close (tie.spec Inv-loop μ-loop loop-holds (search needs) put-point-requires (search needs) (search needs) loop-again
+    same-length returns)

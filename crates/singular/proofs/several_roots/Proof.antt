@@ -17,7 +17,7 @@ loop-holds : tie.Need-loop-holds Inv-loop μ-loop
 loop-holds c = noting-start _ _ _ _ (c .before .before .before .before .pre .1)
 
 note-use-requires : tie.Need-note-use-requires Inv-loop μ-loop
-note-use-requires c κs = c .before .before .before .before .before .before .before .before .before .pre .0 (c .before .before .before .before .loop .i) (c .before .before .before .loop-test .taken)
+note-use-requires c κs = c .before .before .before .before .before .before .before .before .before .pre .0 _ (c .before .before .before .loop-test .taken)
 
 loop-again : tie.Need-loop-again Inv-loop μ-loop
 loop-again c = noting-next _ _ _ _ (c .before .before .before .before .before .loop .inv) (c .before .before .before .before .loop-test .taken) (c .note-use .ensures)
@@ -26,16 +26,5 @@ returns : tie.Need-returns Inv-loop μ-loop
 returns c = noting-all _ _ _ _ (c .before .loop .inv) (omega arith)
 
 pub several-roots-spec : {M : Type 1} → statement M
-several-roots-spec =
-    tie.close
-    (tie.spec
-    Inv-loop
-    μ-loop
-    loop-holds
-    (λ c. search needs)
-    (λ c. search needs)
-    note-use-requires
-    (λ c. search needs)
-    (λ c. search needs)
-    loop-again
-    returns)
+several-roots-spec = tie.close (tie.spec Inv-loop μ-loop loop-holds (search needs) (search needs) note-use-requires (search needs)
+    (search needs) loop-again returns)

@@ -9,30 +9,18 @@ use Rattle.singular.proofs.singular_of.Tie as tie
 
 several-roots-requires : tie.Need-several-roots-requires
 several-roots-requires c κs =
-    let a = c .before .before .before .before .before .before .before .before .before .before .args in
-    (noteable (a .uses .now) (a .lens .now) (a .fronts .now) (a .backs .now) (a .points) (a .out .now) (c .before .before .before .before .before .before .before .before .before .before .pre) (c .before .before .before .join-ends .ensures), refl)
+    (noteable _ _ _ _ _ _ (c .before .before .before .before .before .before .before .before .before .before .pre) (c .before .before .before .join-ends .ensures), refl)
 
 returns : tie.Need-returns
 returns c =
-    let a = c .before .before .before .before .before .before .before .before .before .before .before .before .args in
-    let n = c .before .several-roots .ensures in
-    rw (singular-none (a .uses .now) (a .lens .now) (a .fronts .now) (a .backs .now) (a .points) (a .out .now) (c .before .before .before .before .before .before .before .before .before .before .before .before .pre) (c .before .before .before .before .before .join-ends .ensures) (n .0) (n .1 (not-true _ (c .if1 .taken)))) ((refl, refl), omega arith)
+    let start = c .before .before .before .before .before .before .before .before .before .before .before .before in
+    rw (singular-none (start .args .uses .now) (start .args .lens .now) (start .args .fronts .now) (start .args .backs .now) (start .args .points) (start .args .out .now) (start .pre) (c .before .before .before .before .before .join-ends .ensures) (c .before .several-roots .ensures .0) (c .before .several-roots .ensures .1 (not-true _ (c .if1 .taken)))) ((refl, refl), omega arith)
 
 returns-2 : tie.Need-returns-2
 returns-2 c =
-    let a = c .before .before .before .before .before .before .before .before .before .before .before .before .before .before .before .before .before .args in
-    let e = singular-marked (a .uses .now) (a .lens .now) (a .fronts .now) (a .backs .now) (a .points) (a .out .now) (c .before .before .before .before .before .before .before .before .before .before .before .before .before .before .before .before .before .pre) (c .before .before .before .before .before .before .before .before .before .before .join-ends .ensures) (c .before .before .before .before .before .before .several-roots .ensures .0) in
+    let e = singular-marked _ _ _ _ _ _ (c .before .before .before .before .before .before .before .before .before .before .before .before .before .before .before .before .before .pre) (c .before .before .before .before .before .before .before .before .before .before .join-ends .ensures) (c .before .before .before .before .before .before .several-roots .ensures .0) in
     rw (← e) (c .before .before .put-points .ensures)
 
 pub singular-of-spec : {M : Type 1} → statement M
-singular-of-spec =
-    tie.close
-    (tie.spec
-    (λ c. search needs)
-    (λ c κs. search needs)
-    (λ c. search needs)
-    several-roots-requires
-    returns
-    (λ c κs. search needs)
-    (λ c. search needs)
-    returns-2)
+singular-of-spec = tie.close (tie.spec (λ c. search needs) (λ c κs. search needs) (λ c. search needs) several-roots-requires returns
+    (λ c κs. search needs) (λ c. search needs) returns-2)

@@ -15,10 +15,10 @@ abbrev μ-loop : tie.MeasureT-loop
 μ-loop word n₀ i₀ n i = length word - i
 
 returns : tie.Need-returns Inv-loop μ-loop
-returns c = sym (name-long (c .before .before .args .word .now) (omega arith))
+returns c = sym (name-long _ (omega arith))
 
 loop-holds : tie.Need-loop-holds Inv-loop μ-loop
-loop-holds c = (named-start (c .before .before .args .word .now), omega arith)
+loop-holds c = (named-start _, omega arith)
 
 mul-n : tie.Need-mul-n Inv-loop μ-loop
 mul-n c = omega (arith, named-small (c .before .loop .inv .0) (omega arith))
@@ -27,24 +27,12 @@ add-n : tie.Need-add-n Inv-loop μ-loop
 add-n c = omega (arith, named-small (c .before .before .before .loop .inv .0) (omega arith))
 
 loop-again : tie.Need-loop-again Inv-loop μ-loop
-loop-again c = (rw (c .wide .ensures .0) (named-next (c .before .before .before .loop .inv .0) (c .before .before .loop-test .taken) (omega arith)), c .before .before .before .loop .inv .1)
+loop-again c = let loop = c .before .before .before .loop in
+    (rw (c .wide .ensures .0) (named-next (loop .inv .0) (c .before .before .loop-test .taken) (omega arith)), loop .inv .1)
 
 returns-2 : tie.Need-returns-2 Inv-loop μ-loop
 returns-2 c = sym (named-all (c .before .loop .inv .0) (c .before .loop .inv .1) (c .loop-test .left))
 
 pub name-of-spec : {M : Type 1} → statement M
-name-of-spec =
-    tie.close
-    (tie.spec
-    Inv-loop
-    μ-loop
-    returns
-    loop-holds
-    mul-n
-    (λ c. search needs)
-    (λ c κs. search needs)
-    add-n
-    (λ c. search needs)
-    (λ c. search needs)
-    loop-again
-    returns-2)
+name-of-spec = tie.close (tie.spec Inv-loop μ-loop returns loop-holds mul-n (search needs) (search needs) add-n (search needs)
+    (search needs) loop-again returns-2)

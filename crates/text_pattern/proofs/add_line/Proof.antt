@@ -60,28 +60,7 @@ returns-4 c =
     (sym (c .before .before .before .before .before .before .before .before .before .before .enum-told2 .given .1) ∙ c .before .before .before .before .before .before .before .before .before .before .before .before .check-counts .ensures) (c .add-values .ensures)
 
 pub add-line-spec : {M : Type 1} → statement M
-add-line-spec =
-    tie.close
-    (tie.spec
-    (λ c κs. search needs)
-    (λ c. search needs)
-    (λ c. search needs)
-    returns
-    (λ c. search needs)
-    (λ c. search needs)
-    returns-2
-    (λ c. search needs)
-    (λ c. search needs)
-    part-counts-after-end
-    (λ c κs. search needs)
-    (λ c κs. search needs)
-    (λ c. search needs)
-    (λ c. search needs)
-    (λ c. search needs)
-    (λ c. search needs)
-    part-add-values-end
-    add-values-requires
-    (λ c. search needs)
-    returns-3
-    (λ c. search needs)
-    returns-4)
+add-line-spec = tie.close (tie.spec (λ c κs. search needs) (λ c. search needs) (λ c. search needs) returns (λ c. search needs)
+    (λ c. search needs) returns-2 (λ c. search needs) (λ c. search needs) part-counts-after-end (λ c κs. search needs)
+    (λ c κs. search needs) (λ c. search needs) (λ c. search needs) (λ c. search needs) (λ c. search needs) part-add-values-end
+    add-values-requires (λ c. search needs) returns-3 (λ c. search needs) returns-4)

@@ -61,29 +61,7 @@ returns-2 : tie.Need-returns-2 Inv-loop μ-loop
 returns-2 c = gathering-all (c .before .loop .inv .1) (c .loop-test .left)
 
 pub gather-spec : {M : Type 1} → statement M
-gather-spec =
-    tie.close
-    (tie.spec
-    Inv-loop
-    μ-loop
-    loop-holds
-    (λ c κs. search needs)
-    (λ c. search needs)
-    (λ c. search needs)
-    (λ c. search needs)
-    (λ c κs. search needs)
-    add-last
-    sub-add-line
-    part-add-line-start
-    part-add-line-end
-    add-line-requires
-    (λ c. search needs)
-    (λ c. search needs)
-    returns
-    (λ c. search needs)
-    add-line
-    (λ c. search needs)
-    loop-less
-    loop-again
-    (λ c. search needs)
-    returns-2)
+gather-spec = tie.close (tie.spec Inv-loop μ-loop loop-holds (λ c κs. search needs) (λ c. search needs) (λ c. search needs)
+    (λ c. search needs) (λ c κs. search needs) add-last sub-add-line part-add-line-start part-add-line-end add-line-requires
+    (λ c. search needs) (λ c. search needs) returns (λ c. search needs) add-line (λ c. search needs) loop-less loop-again
+    (λ c. search needs) returns-2)

@@ -36,18 +36,6 @@ returns-2 c =
     seven-default (lineParts (words (s .args .line .now))) (s .args .b) (c .if1 .left)
 
 pub line-count-spec : {M : Type 1} → statement M
-line-count-spec =
-    tie.close
-    (tie.spec
-    (λ c κs. search needs)
-    (λ c κs. search needs)
-    (λ c. search needs)
-    (λ c. search needs)
-    part-counts-after-end
-    counts-after-requires
-    (λ c. search needs)
-    (λ c. search needs)
-    (λ c. search needs)
-    returns
-    (λ c. search needs)
+line-count-spec = tie.close (tie.spec (λ c κs. search needs) (λ c κs. search needs) (λ c. search needs) (λ c. search needs)
+    part-counts-after-end counts-after-requires (λ c. search needs) (λ c. search needs) (λ c. search needs) returns (λ c. search needs)
     returns-2)

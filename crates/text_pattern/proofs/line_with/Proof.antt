@@ -59,27 +59,6 @@ returns-2 : tie.Need-returns-2 Inv-loop μ-loop
 returns-2 c = finding-all (c .before .loop .inv .1) (c .loop-test .left)
 
 pub line-with-spec : {M : Type 1} → statement M
-line-with-spec =
-    tie.close
-    (tie.spec
-    Inv-loop
-    μ-loop
-    loop-holds
-    (λ c κs. search needs)
-    (λ c. search needs)
-    (λ c. search needs)
-    (λ c. search needs)
-    (λ c κs. search needs)
-    add-last
-    sub-line-count
-    part-line-count-start
-    part-line-count-end
-    line-count-requires
-    (λ c. search needs)
-    returns
-    add-number
-    (λ c. search needs)
-    loop-less
-    loop-again
-    (λ c. search needs)
-    returns-2)
+line-with-spec = tie.close (tie.spec Inv-loop μ-loop loop-holds (λ c κs. search needs) (λ c. search needs) (λ c. search needs)
+    (λ c. search needs) (λ c κs. search needs) add-last sub-line-count part-line-count-start part-line-count-end line-count-requires
+    (λ c. search needs) returns add-number (λ c. search needs) loop-less loop-again (λ c. search needs) returns-2)

@@ -38,30 +38,7 @@ returns-4 : tie.Need-returns-4
 returns-4 c = making-bad (written (c .before .before .before .before .before .before .before .before .before .before .before .before)) (c .before .before .before .before .before .before .before .before .before .before .before .before .before .before .before .before .before .before .before .before .before .before .before .before .before .before .before .before .before .before .before .before .before .before .before .before .args .out .now) _ _ _ _ (sym (c .before .before .before .before .before .before .judged .given .1) ∙ c .before .before .before .before .before .before .before .before .check-made .ensures) (c .before .before .before .before .body-of .ensures) (c .before .before .before .record-of .ensures) (c .before .line-with .ensures)
 
 pub make-spec : {M : Type 1} → statement M
-make-spec =
-    tie.close
-    (tie.spec
-    returns
-    (λ c. search needs)
-    (λ c κs. search needs)
-    (λ c. search needs)
-    returns-2
-    (λ c. search needs)
-    (λ c. search needs)
-    put-file-requires
-    (λ c. search needs)
-    (λ c. search needs)
-    (λ c. search needs)
-    (λ c κs. search needs)
-    (λ c. search needs)
-    (λ c. search needs)
-    (λ c. search needs)
-    (λ c. search needs)
-    (λ c κs. search needs)
-    (λ c. search needs)
-    (λ c κs. search needs)
-    (λ c κs. search needs)
-    (λ c. search needs)
-    line-with-requires
-    returns-3
-    returns-4)
+make-spec = tie.close (tie.spec returns (λ c. search needs) (λ c κs. search needs) (λ c. search needs) returns-2 (λ c. search needs)
+    (λ c. search needs) put-file-requires (λ c. search needs) (λ c. search needs) (λ c. search needs) (λ c κs. search needs)
+    (λ c. search needs) (λ c. search needs) (λ c. search needs) (λ c. search needs) (λ c κs. search needs) (λ c. search needs)
+    (λ c κs. search needs) (λ c κs. search needs) (λ c. search needs) line-with-requires returns-3 returns-4)

@@ -64,25 +64,6 @@ returns-6 : tie.Need-returns-6
 returns-6 c = read-right (matched (c .before .before .before .before .before .before)) (c .before .before .before .before .before .before .before .before .before .before .before .before .before .args .t2) (c .before .before .before .before .before .before .before .before .before .if1 .left) (c .before .before .before .before .before .before .before .before .if2 .left) (next (c .before .before .before)) (not-false _ (c .before .before .if5 .left)) (rw (← c .before .needed .ensures) (c .if6 .left))
 
 pub read-line-spec : {M : Type 1} → statement M
-read-line-spec =
-    tie.close
-    (tie.spec
-    (λ c κs. search needs)
-    returns
-    returns-2
-    (λ c κs. search needs)
-    slice-read-if4
-    (λ c κs. search needs)
-    (λ c. search needs)
-    (λ c. search needs)
-    (λ c. search needs)
-    returns-3
-    add-t28
-    (λ c. search needs)
-    returns-4
-    (λ c κs. search needs)
-    add-t32
-    (λ c. search needs)
-    returns-5
-    (λ c. search needs)
-    returns-6)
+read-line-spec = tie.close (tie.spec (λ c κs. search needs) returns returns-2 (λ c κs. search needs) slice-read-if4 (λ c κs. search needs)
+    (λ c. search needs) (λ c. search needs) (λ c. search needs) returns-3 add-t28 (λ c. search needs) returns-4 (λ c κs. search needs)
+    add-t32 (λ c. search needs) returns-5 (λ c. search needs) returns-6)

@@ -25,16 +25,5 @@ returns-2 : tie.Need-returns-2 Inv-loop μ-loop
 returns-2 c = sym (c .before .before .before .before .loop .inv .1 ∙ find-here _ _ _ (c .before .before .before .if1 .left) (c .if2 .taken))
 
 pub find-use-spec : {M : Type 1} → statement M
-find-use-spec =
-    tie.close
-    (tie.spec
-    Inv-loop
-    μ-loop
-    (λ c. search needs)
-    (λ c. search needs)
-    (λ c. search needs)
-    (λ c. search needs)
-    (λ c. search needs)
-    loop-again
-    returns
-    returns-2)
+find-use-spec = tie.close (tie.spec Inv-loop μ-loop (search needs) (search needs) (search needs) (search needs) (search needs) loop-again
+    returns returns-2)

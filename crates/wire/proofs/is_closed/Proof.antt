@@ -26,48 +26,31 @@ back-of-requires c κs = named-edge _ _ _ (c .before .before .before .before .be
 
 loop-holds : tie.Need-loop-holds Inv-loop μ-loop
 loop-holds c =
-    let a = c .before .before .before .before .before .before .before .before .args in
-    (omega arith, rw (c .back-of .ensures, c .before .before .front-of .ensures) (closed-start (a .fronts .now) (a .backs .now) (a .uses .now) (omega arith)))
+    (omega arith, rw (c .back-of .ensures, c .before .before .front-of .ensures) (closed-start _ _ _ (omega arith)))
 
 front-of-requires-2 : tie.Need-front-of-requires-2 Inv-loop μ-loop
-front-of-requires-2 c κs = named-edge _ _ _ (c .before .before .before .before .before .before .before .before .before .before .before .pre) (c .before .before .loop .i) (omega arith)
+front-of-requires-2 c κs = named-edge _ _ _ (c .before .before .before .before .before .before .before .before .before .before .before .pre) _ (omega arith)
 
 returns-2 : tie.Need-returns-2 Inv-loop μ-loop
 returns-2 c =
-    let a = c .before .before .before .before .before .before .before .before .before .before .before .before .before .args in
-    sym (c .before .before .before .before .loop .inv .1 ∙ runs-stop (a .fronts .now) (a .backs .now) (a .uses .now) (c .before .before .before .before .loop .at) (c .before .before .before .before .before .before .before .front-of .result) (c .before .before .before .before .loop .i) (omega arith) (λ e. c .if2 .taken (e ∙ sym (c .before .front-of2 .ensures))))
+    let args = c .before .before .before .before .before .before .before .before .before .before .before .before .before .args in
+    let loop = c .before .before .before .before .loop in
+    sym (loop .inv .1 ∙ runs-stop (args .fronts .now) (args .backs .now) (args .uses .now) (loop .at) (c .before .before .before .before .before .before .before .front-of .result) (loop .i) (omega arith) (λ e. c .if2 .taken (e ∙ sym (c .before .front-of2 .ensures))))
 
 back-of-requires-2 : tie.Need-back-of-requires-2 Inv-loop μ-loop
-back-of-requires-2 c κs = named-edge _ _ _ (c .before .before .before .before .before .before .before .before .before .before .before .before .before .pre) (c .before .before .before .before .loop .i) (omega arith)
+back-of-requires-2 c κs = named-edge _ _ _ (c .before .before .before .before .before .before .before .before .before .before .before .before .before .pre) _ (omega arith)
 
 loop-again : tie.Need-loop-again Inv-loop μ-loop
 loop-again c =
-    let a = c .before .before .before .before .before .before .before .before .before .before .before .before .before .before .args in
-    (omega arith, rw (c .back-of2 .ensures) (c .before .before .before .before .before .loop .inv .1 ∙ runs-next (a .fronts .now) (a .backs .now) (a .uses .now) (c .before .before .before .before .before .loop .at) (c .before .before .before .before .before .before .before .before .front-of .result) (c .before .before .before .before .before .loop .i) (omega arith) (c .before .if2 .left ∙ c .before .before .front-of2 .ensures)))
+    let args = c .before .before .before .before .before .before .before .before .before .before .before .before .before .before .args in
+    let loop = c .before .before .before .before .before .loop in
+    (omega arith, rw (c .back-of2 .ensures) (loop .inv .1 ∙ runs-next (args .fronts .now) (args .backs .now) (args .uses .now) (loop .at) (c .before .before .before .before .before .before .before .before .front-of .result) (loop .i) (omega arith) (c .before .if2 .left ∙ c .before .before .front-of2 .ensures)))
 
 returns-3 : tie.Need-returns-3 Inv-loop μ-loop
 returns-3 c =
-    let a = c .before .before .before .before .before .before .before .before .before .before .args in
-    sym (c .before .loop .inv .1 ∙ runs-past (a .fronts .now) (a .backs .now) (a .uses .now) (c .before .loop .at) (c .before .before .before .before .front-of .result) (c .before .loop .i) (omega arith))
+    let args = c .before .before .before .before .before .before .before .before .before .before .args in
+    sym (c .before .loop .inv .1 ∙ runs-past (args .fronts .now) (args .backs .now) (args .uses .now) (c .before .loop .at) (c .before .before .before .before .front-of .result) (c .before .loop .i) (omega arith))
 
 pub is-closed-spec : {M : Type 1} → statement M
-is-closed-spec =
-    tie.close
-    (tie.spec
-    Inv-loop
-    μ-loop
-    returns
-    (λ c. search needs)
-    front-of-requires
-    (λ c. search needs)
-    back-of-requires
-    loop-holds
-    (λ c. search needs)
-    (λ c. search needs)
-    front-of-requires-2
-    returns-2
-    back-of-requires-2
-    (λ c. search needs)
-    (λ c. search needs)
-    loop-again
-    returns-3)
+is-closed-spec = tie.close (tie.spec Inv-loop μ-loop returns (search needs) front-of-requires (search needs) back-of-requires loop-holds
+    (search needs) (search needs) front-of-requires-2 returns-2 back-of-requires-2 (search needs) (search needs) loop-again returns-3)

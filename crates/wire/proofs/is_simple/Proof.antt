@@ -9,12 +9,10 @@ use Rattle.wire.proofs.is_simple.Tie as tie
 
 returns : tie.Need-returns
 returns c =
-    let a = c .before .before .before .before .before .before .before .before .args in
-    let pre = c .before .before .before .before .before .before .before .before .pre in
-    let said = c .before .before .stamp-points .ensures in (
-      sym (once-says (a .fronts .now) (a .backs .now) (a .uses .now) (a .marks .now) (a .stamp) _ (pre .0) (pre .1 .0) (pre .1 .1) (said .0)),
-      rw (said .1) (below-next (a .stamp) (points (a .fronts .now) (a .backs .now) (a .uses .now)) (a .marks .now) (pre .1 .1)),
+    let start = c .before .before .before .before .before .before .before .before in let stamp-points = c .before .before .stamp-points in (
+      sym (once-says (start .args .fronts .now) (start .args .backs .now) (start .args .uses .now) (start .args .marks .now) (start .args .stamp) _ (start .pre .0) (start .pre .1 .0) (start .pre .1 .1) (stamp-points .ensures .0)),
+      rw (stamp-points .ensures .1) (below-next _ (points (start .args .fronts .now) (start .args .backs .now) (start .args .uses .now)) (start .args .marks .now) (start .pre .1 .1)),
     )
 
 pub is-simple-spec : {M : Type 1} → statement M
-is-simple-spec = tie.close (tie.spec (λ c κs. search needs) (λ c. search needs) returns)
+is-simple-spec = tie.close (tie.spec (λ c κs. search needs) (search needs) returns)

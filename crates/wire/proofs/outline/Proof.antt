@@ -7,25 +7,14 @@ use Rattle.wire.proofs.outline.Statement.{statement}
 use Rattle.wire.proofs.outline.Tie as tie
 
 returns : tie.Need-returns
-returns c = outline-part (c .before .before .before .args .uses .now) (c .before .before .before .args .start) (c .before .before .before .args .n) (omega arith)
+returns c = let args = c .before .before .before .args in outline-part (args .uses .now) (args .start) (args .n) (omega arith)
 
 returns-2 : tie.Need-returns-2
 returns-2 c =
-    let past = outline-past (c .before .before .args .uses .now) (c .before .before .args .start) (c .before .before .args .n) in
+    let args = c .before .before .args in
+    let past = outline-past (args .uses .now) (args .start) (args .n) in
     ⊎-elim (λ w. past (omega arith)) (λ w. past (omega arith)) (c .before .if1 .came)
 
 pub outline-spec : {M : Type 1} → statement M
-outline-spec =
-    tie.close
-    (tie.spec
-    (λ c. search needs)
-    (λ c. search needs)
-    (λ c. search needs)
-    (λ c. search needs)
-    (λ c. search needs)
-    (λ c. search needs)
-    returns
-    (λ c. search needs)
-    (λ c. search needs)
-    (λ c. search needs)
-    returns-2)
+outline-spec = tie.close (tie.spec (search needs) (search needs) (search needs) (search needs) (search needs) (search needs) returns
+    (search needs) (search needs) (search needs) returns-2)

@@ -21,34 +21,31 @@ loop-holds : tie.Need-loop-holds Inv-loop μ-loop
 loop-holds c = (omega arith, stamping-start _ _ _)
 
 front-of-requires : tie.Need-front-of-requires Inv-loop μ-loop
-front-of-requires c κs = named-edge _ _ _ (c .before .before .before .before .before .before .before .pre .0) (c .before .before .loop .i) (omega arith)
+front-of-requires c κs = named-edge _ _ _ (c .before .before .before .before .before .before .before .pre .0) _ (omega arith)
 
 mul-if1 : tie.Need-mul-if1 Inv-loop μ-loop
-mul-if1 c = omega (arith, front-below _ _ _ (c .before .before .before .before .before .before .before .before .pre .0) (c .before .before .before .loop .i) (c .front-of .result) (omega arith) (c .front-of .ensures))
+mul-if1 c = omega (arith, front-below _ _ _ (c .before .before .before .before .before .before .before .before .pre .0) _ _ (omega arith) (c .front-of .ensures))
 
 slice-read-if1 : tie.Need-slice-read-if1 Inv-loop μ-loop
-slice-read-if1 c = rw (c .before .before .before .before .loop .inv .1 .long ∙ c .before .before .before .before .before .before .before .before .before .pre .1) (front-below _ _ _ (c .before .before .before .before .before .before .before .before .before .pre .0) (c .before .before .before .before .loop .i) (c .before .front-of .result) (omega arith) (c .before .front-of .ensures))
+slice-read-if1 c = let pre = c .before .before .before .before .before .before .before .before .before .pre in
+    rw (c .before .before .before .before .loop .inv .1 .long ∙ pre .1) (front-below _ _ _ (pre .0) _ _ (omega arith) (c .before .front-of .ensures))
 
 mul-marks : tie.Need-mul-marks Inv-loop μ-loop
-mul-marks c = omega (arith, front-below _ _ _ (c .before .before .before .before .before .before .before .before .before .before .pre .0) (c .before .before .before .before .before .loop .i) (c .before .before .front-of .result) (omega arith) (c .before .before .front-of .ensures))
+mul-marks c = omega (arith, front-below _ _ _ (c .before .before .before .before .before .before .before .before .before .before .pre .0) _ _ (omega arith) (c .before .before .front-of .ensures))
 
 slice-write-marks : tie.Need-slice-write-marks Inv-loop μ-loop
-slice-write-marks c = rw (c .before .before .before .before .before .loop .inv .1 .long ∙ c .before .before .before .before .before .before .before .before .before .before .pre .1) (front-below _ _ _ (c .before .before .before .before .before .before .before .before .before .before .pre .0) (c .before .before .before .before .before .loop .i) (c .before .before .front-of .result) (omega arith) (c .before .before .front-of .ensures))
+slice-write-marks c = let pre = c .before .before .before .before .before .before .before .before .before .before .pre in
+    rw (c .before .before .before .before .before .loop .inv .1 .long ∙ pre .1) (front-below _ _ _ (pre .0) _ _ (omega arith) (c .before .before .front-of .ensures))
 
 loop-again : tie.Need-loop-again Inv-loop μ-loop
 loop-again c =
-    let a = c .before .before .before .before .before .before .before .before .before .before .args in
-    let v = c .before .before .before .before .before .loop .inv in
-    let i = c .before .before .before .before .before .loop .i in
-    let f = a .fronts .now in
-    let b = a .backs .now in
-    let us = a .uses .now in
-    let l : i < length us = omega arith in
-    let p = c .before .before .front-of .result in
-    let at : p ≡ getD (points f b us) i 0 = c .before .before .front-of .ensures ∙ sym (getD-points f b us i l) in
-    let lp : i < length (points f b us) = rw (length-points f b us) l in (
+    let args = c .before .before .before .before .before .before .before .before .before .before .args in
+    let loop = c .before .before .before .before .before .loop in let front-of = c .before .before .front-of in
+    let l : (loop .i) < length (args .uses .now) = omega arith in
+    let at : (front-of .result) ≡ getD (points (args .fronts .now) (args .backs .now) (args .uses .now)) (loop .i) 0 = front-of .ensures ∙ sym (getD-points (args .fronts .now) (args .backs .now) (args .uses .now) (loop .i) l) in
+    let lp : (loop .i) < length (points (args .fronts .now) (args .backs .now) (args .uses .now)) = rw (length-points (args .fronts .now) (args .backs .now) (args .uses .now)) l in (
       omega arith,
-      ⊎-elim (λ w. rw (w .1) (stamping-again _ _ _ _ _ _ _ (v .1) lp at (w .0 .taken))) (λ w. rw (w .1) (stamping-on _ _ _ _ _ _ _ (v .1) lp at (w .0 .left))) (c .if1 .came),
+      ⊎-elim (λ w. rw (w .1) (stamping-again _ _ _ _ _ _ _ (loop .inv .1) lp at (w .0 .taken))) (λ w. rw (w .1) (stamping-on _ _ _ _ _ _ _ (loop .inv .1) lp at (w .0 .left))) (c .if1 .came),
     )
 
 same-length : tie.Need-same-length Inv-loop μ-loop
@@ -56,27 +53,10 @@ same-length c = c .before .loop .inv .1 .long
 
 returns : tie.Need-returns Inv-loop μ-loop
 returns c =
-    let v = c .before .loop .inv in
-    let a = c .before .before .before .before .before .before .args in
-    let l : length (points (a .fronts .now) (a .backs .now) (a .uses .now)) ≤ c .before .loop .i = rw (length-points (a .fronts .now) (a .backs .now) (a .uses .now)) (omega arith) in
-    (stamping-met _ _ _ _ _ _ (v .1) l, stamping-marks _ _ _ _ _ _ (v .1) l)
+    let args = c .before .before .before .before .before .before .args in
+    let l : length (points (args .fronts .now) (args .backs .now) (args .uses .now)) ≤ c .before .loop .i = rw (length-points (args .fronts .now) (args .backs .now) (args .uses .now)) (omega arith) in
+    (stamping-met _ _ _ _ _ _ (c .before .loop .inv .1) l, stamping-marks _ _ _ _ _ _ (c .before .loop .inv .1) l)
 
 pub stamp-points-spec : {M : Type 1} → statement M
-stamp-points-spec =
-    tie.close
-    (tie.spec
-    Inv-loop
-    μ-loop
-    loop-holds
-    (λ c. search needs)
-    (λ c. search needs)
-    front-of-requires
-    mul-if1
-    slice-read-if1
-    mul-marks
-    slice-write-marks
-    (λ c. search needs)
-    (λ c. search needs)
-    loop-again
-    same-length
-    returns)
+stamp-points-spec = tie.close (tie.spec Inv-loop μ-loop loop-holds (search needs) (search needs) front-of-requires mul-if1 slice-read-if1
+    mul-marks slice-write-marks (search needs) (search needs) loop-again same-length returns)

@@ -12,6 +12,4 @@ returns : tie.Need-returns
 returns c = rw add-one
 
 pub put-u16-spec : {M : Type 1} → statement M
-put-u16-spec =
-    tie.close
-    (tie.spec (λ c. search needs) (λ c. search needs) (λ c. search needs) (λ c. search needs) slice-write-out-2 (λ c. search needs) returns)
+put-u16-spec = tie.close (tie.spec (search needs) (search needs) (search needs) (search needs) slice-write-out-2 (search needs) returns)

@@ -7,16 +7,8 @@ use Rattle.words.specs.Words.{bytes32}
 use Rattle.words.proofs.put_u64.Tie as tie
 
 returns : tie.Need-returns
-returns c = c .before .before .put-u322 .ensures ∙ rw (c .before .before .before .before .before .before .put-u32 .ensures) (sets-append (c .before .before .before .before .before .before .before .before .before .args .out .now) (c .before .before .before .before .before .before .before .before .before .args .at) (bytes32 (c .before .before .before .before .before .before .before .before .before .args .n % 4294967296)) (bytes32 (c .before .before .before .before .before .before .before .before .before .args .n / 4294967296)))
+returns c = let args = c .before .before .before .before .before .before .before .before .before .args in
+    c .before .before .put-u322 .ensures ∙ rw (c .before .before .before .before .before .before .put-u32 .ensures) (sets-append (args .out .now) (args .at) (bytes32 (args .n % 4294967296)) (bytes32 (args .n / 4294967296)))
 
 pub put-u64-spec : {M : Type 1} → statement M
-put-u64-spec =
-    tie.close
-    (tie.spec
-    (λ c. search needs)
-    (λ c κs. search needs)
-    (λ c. search needs)
-    (λ c. search needs)
-    (λ c κs. search needs)
-    (λ c. search needs)
-    returns)
+put-u64-spec = tie.close (tie.spec (search needs) (search needs) (search needs) (search needs) (search needs) (search needs) returns)

@@ -18,29 +18,17 @@ float-to-bits-put-u64-2 c = span-no-nan _ (c .before .before .before .before .be
 
 returns : tie.Need-returns
 returns c =
-    let a = c .before .before .before .before .before .before .before .before .before .before .before .before .before .before .before .before .before .before .before .args in
-    let front = bytes16 (a .e .front .0) in
-    let back = bytes16 (a .e .back .0) in
-    let t0 = bytes64 (toBits binary64 (a .e .curve .t0)) in
-    let t1 = bytes64 (toBits binary64 (a .e .curve .t1)) in
-    sets-then (a .out .now) (a .at) (front ++ back ++ t0) t1 (a .at + 12) refl
-    (sets-then (a .out .now) (a .at) (front ++ back) t0 (a .at + 4) refl
-    (sets-then (a .out .now) (a .at) front back (a .at + 2) refl (c .before .before .before .before .before .before .before .before .before .before .before .before .before .before .before .before .put-u16 .ensures) (c .before .before .before .before .before .before .before .before .before .before .before .before .put-u162 .ensures))
+    let args = c .before .before .before .before .before .before .before .before .before .before .before .before .before .before .before .before .before .before .before .args in
+    let front = bytes16 (args .e .front .0) in
+    let back = bytes16 _ in
+    let t0 = bytes64 (toBits binary64 _) in
+    let t1 = bytes64 (toBits binary64 _) in
+    sets-then (args .out .now) _ (front ++ back ++ t0) t1 (args .at + 12) refl
+    (sets-then (args .out .now) _ (front ++ back) t0 (args .at + 4) refl
+    (sets-then (args .out .now) _ front back (args .at + 2) refl (c .before .before .before .before .before .before .before .before .before .before .before .before .before .before .before .before .put-u16 .ensures) (c .before .before .before .before .before .before .before .before .before .before .before .before .put-u162 .ensures))
     (c .before .before .before .before .before .before .before .put-u64 .ensures))
     (c .before .before .put-u642 .ensures)
 
 pub put-edge-spec : {M : Type 1} → statement M
-put-edge-spec =
-    tie.close
-    (tie.spec
-    (λ c κs. search needs)
-    (λ c. search needs)
-    (λ c κs. search needs)
-    (λ c. search needs)
-    float-to-bits-put-u64
-    (λ c κs. search needs)
-    (λ c. search needs)
-    float-to-bits-put-u64-2
-    (λ c κs. search needs)
-    (λ c. search needs)
-    returns)
+put-edge-spec = tie.close (tie.spec (search needs) (search needs) (search needs) (search needs) float-to-bits-put-u64 (search needs)
+    (search needs) float-to-bits-put-u64-2 (search needs) (search needs) returns)

@@ -24,13 +24,16 @@ loop-holds c =
     (long, laid-start edgeBytes 20 _ _ _ _ (λ x. refl) (omega (arith, long)))
 
 put-edge-requires : tie.Need-put-edge-requires Inv-loop μ-loop
-put-edge-requires c κs = (
-  laid-room edgeBytes 20 _ _ _ _ _ _ (c .before .before .before .loop .inv .1) (c .before .before .before .before .before .pre .0 .0) (c .before .before .loop-test .taken),
-  rw (getD-any (c .before .before .before .before .before .args .t3) (c .before .before .before .loop .k) noEdge zeroEdge (omega (arith, c .before .before .before .loop .inv .0))) (c .before .before .before .before .before .pre .1 _ (c .before .before .loop-test .taken)),
-)
+put-edge-requires c κs =
+    let start = c .before .before .before .before .before in let loop = c .before .before .before .loop in
+    let loop-test = c .before .before .loop-test in (
+      laid-room edgeBytes 20 _ _ _ _ _ _ (loop .inv .1) (start .pre .0 .0) (loop-test .taken),
+      rw (getD-any (start .args .t3) (loop .k) noEdge zeroEdge (omega (arith, loop .inv .0))) (start .pre .1 _ (loop-test .taken)),
+    )
 
 loop-again : tie.Need-loop-again Inv-loop μ-loop
-loop-again c = (c .before .before .before .before .before .before .loop .inv .0, laid-next edgeBytes 20 _ _ _ _ _ _ (c .before .before .before .before .before .before .loop .inv .1) _ noEdge (c .before .before .before .before .before .loop-test .taken) (c .before .before .put-edge .ensures))
+loop-again c = let loop = c .before .before .before .before .before .before .loop in
+    (loop .inv .0, laid-next edgeBytes 20 _ _ _ _ _ _ (loop .inv .1) _ noEdge (c .before .before .before .before .before .loop-test .taken) (c .before .before .put-edge .ensures))
 
 same-length : tie.Need-same-length Inv-loop μ-loop
 same-length c = laid-long edgeBytes 20 _ _ _ _ _ _ (c .before .loop .inv .1)
@@ -39,19 +42,5 @@ returns : tie.Need-returns Inv-loop μ-loop
 returns c = laid-all edgeBytes 20 _ _ _ _ _ _ (c .before .loop .inv .1) (c .loop-test .left)
 
 pub put-edges-spec : {M : Type 1} → statement M
-put-edges-spec =
-    tie.close
-    (tie.spec
-    Inv-loop
-    μ-loop
-    loop-holds
-    (λ c. search needs)
-    (λ c. search needs)
-    (λ c. search needs)
-    (λ c. search needs)
-    put-edge-requires
-    (λ c. search needs)
-    (λ c. search needs)
-    loop-again
-    same-length
-    returns)
+put-edges-spec = tie.close (tie.spec Inv-loop μ-loop loop-holds (search needs) (search needs) (search needs) (search needs)
+    put-edge-requires (search needs) (search needs) loop-again same-length returns)

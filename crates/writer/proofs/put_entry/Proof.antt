@@ -9,17 +9,8 @@ use Rattle.writer.proofs.put_entry.Tie as tie
 
 returns : tie.Need-returns
 returns c =
-    let a = c .before .before .before .before .before .before .before .before .before .args in
-    sets-then (a .out .now) (a .at) (bytes32 (a .offset)) (bytes32 (a .count)) (a .at + 4) refl (c .before .before .before .before .before .before .put-u32 .ensures) (c .before .before .put-u322 .ensures)
+    let args = c .before .before .before .before .before .before .before .before .before .args in
+    sets-then (args .out .now) _ (bytes32 (args .offset)) (bytes32 _) (args .at + 4) refl (c .before .before .before .before .before .before .put-u32 .ensures) (c .before .before .put-u322 .ensures)
 
 pub put-entry-spec : {M : Type 1} → statement M
-put-entry-spec =
-    tie.close
-    (tie.spec
-    (λ c. search needs)
-    (λ c κs. search needs)
-    (λ c. search needs)
-    (λ c. search needs)
-    (λ c κs. search needs)
-    (λ c. search needs)
-    returns)
+put-entry-spec = tie.close (tie.spec (search needs) (search needs) (search needs) (search needs) (search needs) (search needs) returns)

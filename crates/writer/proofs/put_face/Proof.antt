@@ -9,9 +9,8 @@ use Rattle.writer.proofs.put_face.Tie as tie
 
 returns : tie.Need-returns
 returns c =
-    let a = c .before .before .before .before .before .before .before .before .before .args in
-    sets-then (a .out .now) (a .at) (bytes16 (a .f .wires)) (bytes16 (a .f .surface)) (a .at + 2) refl (c .before .before .before .before .before .before .put-u16 .ensures) (c .before .before .put-u162 .ensures)
+    let args = c .before .before .before .before .before .before .before .before .before .args in
+    sets-then (args .out .now) _ (bytes16 (args .f .wires)) (bytes16 _) (args .at + 2) refl (c .before .before .before .before .before .before .put-u16 .ensures) (c .before .before .put-u162 .ensures)
 
 pub put-face-spec : {M : Type 1} → statement M
-put-face-spec =
-    tie.close (tie.spec (λ c κs. search needs) (λ c. search needs) (λ c κs. search needs) (λ c. search needs) returns)
+put-face-spec = tie.close (tie.spec (search needs) (search needs) (search needs) (search needs) returns)

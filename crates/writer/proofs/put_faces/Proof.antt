@@ -25,7 +25,8 @@ put-face-requires : tie.Need-put-face-requires Inv-loop μ-loop
 put-face-requires c κs = laid-room faceBytes 4 _ _ _ _ _ _ (c .before .before .before .loop .inv .1) (c .before .before .before .before .before .pre .0) (c .before .before .loop-test .taken)
 
 loop-again : tie.Need-loop-again Inv-loop μ-loop
-loop-again c = (c .before .before .before .before .before .before .loop .inv .0, laid-next faceBytes 4 _ _ _ _ _ _ (c .before .before .before .before .before .before .loop .inv .1) _ zeroFace (c .before .before .before .before .before .loop-test .taken) (c .before .before .put-face .ensures))
+loop-again c = let loop = c .before .before .before .before .before .before .loop in
+    (loop .inv .0, laid-next faceBytes 4 _ _ _ _ _ _ (loop .inv .1) _ zeroFace (c .before .before .before .before .before .loop-test .taken) (c .before .before .put-face .ensures))
 
 same-length : tie.Need-same-length Inv-loop μ-loop
 same-length c = laid-long faceBytes 4 _ _ _ _ _ _ (c .before .loop .inv .1)
@@ -34,19 +35,5 @@ returns : tie.Need-returns Inv-loop μ-loop
 returns c = laid-all faceBytes 4 _ _ _ _ _ _ (c .before .loop .inv .1) (c .loop-test .left)
 
 pub put-faces-spec : {M : Type 1} → statement M
-put-faces-spec =
-    tie.close
-    (tie.spec
-    Inv-loop
-    μ-loop
-    loop-holds
-    (λ c. search needs)
-    (λ c. search needs)
-    (λ c. search needs)
-    (λ c. search needs)
-    put-face-requires
-    (λ c. search needs)
-    (λ c. search needs)
-    loop-again
-    same-length
-    returns)
+put-faces-spec = tie.close (tie.spec Inv-loop μ-loop loop-holds (search needs) (search needs) (search needs) (search needs)
+    put-face-requires (search needs) (search needs) loop-again same-length returns)

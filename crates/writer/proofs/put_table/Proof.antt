@@ -21,11 +21,13 @@ loop-holds c = (search needs, entries-start _ _)
 
 put-entry-requires : tie.Need-put-entry-requires Inv-loop μ-loop
 put-entry-requires c κs =
-    let fit = entry-fits (c .before .before .before .before .args .t2) (c .before .before .before .before .args .t3) (c .before .before .loop .b) (c .before .before .before .before .pre .2) (c .before .before .before .before .pre .1) (c .before .before .loop .inv .0) (omega arith) in
-    (entries-room _ _ _ _ (c .before .before .loop .inv .1) (c .before .before .before .before .pre .0) (omega arith), omega (arith, fit .0), omega (arith, fit .1))
+    let start = c .before .before .before .before in let loop = c .before .before .loop in
+    let fit = entry-fits (start .args .t2) (start .args .t3) (loop .b) (start .pre .2) (start .pre .1) (loop .inv .0) (omega arith) in
+    (entries-room _ _ _ _ (loop .inv .1) (start .pre .0) (omega arith), omega (arith, fit .0), omega (arith, fit .1))
 
 loop-again : tie.Need-loop-again Inv-loop μ-loop
-loop-again c = (c .before .before .before .before .before .loop .inv .0, entries-next _ _ _ _ (c .before .before .before .before .before .loop .inv .1) _ _ (c .before .before .before .before .before .before .before .pre .2) (omega arith) (c .before .before .put-entry .ensures))
+loop-again c = let loop = c .before .before .before .before .before .loop in
+    (loop .inv .0, entries-next _ _ _ _ (loop .inv .1) _ _ (c .before .before .before .before .before .before .before .pre .2) (omega arith) (c .before .before .put-entry .ensures))
 
 same-length : tie.Need-same-length Inv-loop μ-loop
 same-length c = laid-long entryBytes 8 _ _ _ _ _ _ (c .before .loop .inv .1)
@@ -34,20 +36,5 @@ returns : tie.Need-returns Inv-loop μ-loop
 returns c = entries-all _ _ _ _ (c .before .loop .inv .1) (omega arith)
 
 pub put-table-spec : {M : Type 1} → statement M
-put-table-spec =
-    tie.close
-    (tie.spec
-    Inv-loop
-    μ-loop
-    loop-holds
-    (λ c. search needs)
-    (λ c. search needs)
-    (λ c. search needs)
-    (λ c. search needs)
-    (λ c. search needs)
-    put-entry-requires
-    (λ c. search needs)
-    (λ c. search needs)
-    loop-again
-    same-length
-    returns)
+put-table-spec = tie.close (tie.spec Inv-loop μ-loop loop-holds (search needs) (search needs) (search needs) (search needs) (search needs)
+    put-entry-requires (search needs) (search needs) loop-again same-length returns)

@@ -33,49 +33,39 @@ seven s = search needs
 
 -- the checks found nothing
 none : (c : tie.After-enum-told) → patternFaults (c .before .before .before .before .args .p) ≡ []
-none c = accepted-none (patternFaults (c .before .before .before .before .args .p)) (sym (c .before .before .check .ensures) ∙ c .enum-told .given .1)
+none c = accepted-none (patternFaults _) (sym (c .before .before .check .ensures) ∙ c .enum-told .given .1)
 
 few : (c : tie.After-enum-told) → countFaults (c .before .before .before .before .args .p .counts) ≡ []
 few c = none-left _ _ (none c)
 
 -- the last start is the length of the file
 end : (c : tie.After-starts-of) → getD (c .starts-of .result) 7 0 ≡ length (fileBytes (content (c .before .before .before .before .before .before .args .p)))
-end c = file-length (c .before .before .before .before .before .before .args .p) (full (c .before .before .before .before .before .before)) (seven (c .before .before .before .before .before .before)) (few (c .before .before)) _ (c .starts-of .ensures)
+end c = let place = c .before .before .before .before .before .before in
+    file-length _ (full place) (seven place) (few (c .before .before)) _ (c .starts-of .ensures)
 
 returns : tie.Need-returns
 returns c =
-    let a = c .before .before .before .before .before .args in
-    write-refused (fileBytes (content (a .p))) (a .out .now) (patternFaults (a .p)) _ (sym (c .before .before .before .check .ensures) ∙ c .before .answer .given .1)
+    write-refused (fileBytes (content (c .before .before .before .before .before .args .p))) _ (patternFaults _) _ (sym (c .before .before .before .check .ensures) ∙ c .before .answer .given .1)
 
 starts-of-requires : tie.Need-starts-of-requires
 starts-of-requires c κs = few (c .before)
 
 returns-2 : tie.Need-returns-2
 returns-2 c =
-    let a = c .before .before .before .before .before .before .before .args in
-    write-short (fileBytes (content (a .p))) (a .out .now) (patternFaults (a .p)) (none (c .before .before .before)) (omega (arith, end (c .before), c .if1 .taken))
+    let args = c .before .before .before .before .before .before .before .args in
+    write-short (fileBytes (content (args .p))) (args .out .now) (patternFaults (args .p)) (none (c .before .before .before)) (omega (arith, end (c .before), c .if1 .taken))
 
 write-content-requires : tie.Need-write-content-requires
-write-content-requires c κs = ((few (c .before .before .before .before), none-right (countFaults (c .before .before .before .before .before .before .before .before .args .p .counts)) _ (none (c .before .before .before .before))), (c .before .before .starts-of .ensures, c .before .if1 .left))
+write-content-requires c κs = let place = c .before .before .before .before in
+    ((few place, none-right (countFaults (c .before .before .before .before .before .before .before .before .args .p .counts)) _ (none place)), (c .before .before .starts-of .ensures, c .before .if1 .left))
 
 returns-3 : tie.Need-returns-3
 returns-3 c =
-    let a = c .before .before .before .before .before .before .before .before .before .before .before .args in
-    write-whole (fileBytes (content (a .p))) (a .out .now) (patternFaults (a .p)) (none (c .before .before .before .before .before .before .before)) _ _ (omega (arith, end (c .before .before .before .before .before), c .before .before .before .before .if1 .left)) (end (c .before .before .before .before .before))
+    let args = c .before .before .before .before .before .before .before .before .before .before .before .args in
+    let place = c .before .before .before .before .before in
+    write-whole (fileBytes (content (args .p))) (args .out .now) (patternFaults (args .p)) (none (c .before .before .before .before .before .before .before)) _ _ (omega (arith, end place, c .before .before .before .before .if1 .left)) (end place)
     (c .before .before .write-content .ensures)
 
 pub write-spec : {M : Type 1} → statement M
-write-spec =
-    tie.close
-    (tie.spec
-    (λ c κs. search needs)
-    (λ c. search needs)
-    returns
-    (λ c. search needs)
-    starts-of-requires
-    (λ c. search needs)
-    returns-2
-    write-content-requires
-    (λ c. search needs)
-    (λ c. search needs)
-    returns-3)
+write-spec = tie.close (tie.spec (search needs) (search needs) returns (search needs) starts-of-requires (search needs) returns-2
+    write-content-requires (search needs) (search needs) returns-3)

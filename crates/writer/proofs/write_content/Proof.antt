@@ -133,30 +133,7 @@ returns : tie.Need-returns
 returns c = stage-all _ _ _ _ (stage7 (c .before .before))
 
 pub write-content-spec : {M : Type 1} → statement M
-write-content-spec =
-    tie.close
-    (tie.spec
-    put-table-requires
-    (λ c. search needs)
-    (λ c. search needs)
-    put-points-requires
-    (λ c. search needs)
-    (λ c. search needs)
-    put-edges-requires
-    (λ c. search needs)
-    (λ c. search needs)
-    put-u16s-requires
-    (λ c. search needs)
-    (λ c. search needs)
-    put-u16s-requires-2
-    (λ c. search needs)
-    (λ c. search needs)
-    put-faces-requires
-    (λ c. search needs)
-    (λ c. search needs)
-    put-u16s-requires-3
-    (λ c. search needs)
-    (λ c. search needs)
-    put-u16s-requires-4
-    same-length
-    returns)
+write-content-spec = tie.close (tie.spec put-table-requires (search needs) (search needs) put-points-requires (search needs) (search needs)
+    put-edges-requires (search needs) (search needs) put-u16s-requires (search needs) (search needs) put-u16s-requires-2 (search needs)
+    (search needs) put-faces-requires (search needs) (search needs) put-u16s-requires-3 (search needs) (search needs) put-u16s-requires-4
+    same-length returns)

@@ -6,22 +6,10 @@ use Rattle.condition.proofs.Tally.insert.Tie as tie
 
 returns : tie.Need-returns
 returns c =
-    inserted-is (c .before .before .before .before .before .before .args .t1) (c .before .before .before .before .before .before .args .u) _ _ _ _ _ _ (omega (arith, c .before .before .before .before .before .before .pre))
+    let start = c .before .before .before .before .before .before in
+    inserted-is (start .args .t1) (start .args .u) _ _ _ _ _ _ (omega (arith, start .pre))
     (c .before .before .before .before .state-in .ensures .0) (c .before .before .before .use-condition .ensures) (c .before .before .join .ensures) (c .before .next-state .ensures .0) (c .with-state .ensures)
 
 pub insert-spec : {M : Type 1} → statement M
-insert-spec =
-    tie.close
-    (tie.spec
-    (λ c. search needs)
-    (λ c. search needs)
-    (λ c. search needs)
-    (λ c. search needs)
-    (λ c. search needs)
-    (λ c κs. search needs)
-    (λ c κs. search needs)
-    (λ c κs. search needs)
-    (λ c κs. search needs)
-    (λ c κs. search needs)
-    (λ c. search needs)
-    returns)
+insert-spec = tie.close (tie.spec (search needs) (search needs) (search needs) (search needs) (search needs) (search needs) (search needs)
+    (search needs) (search needs) (search needs) (search needs) returns)

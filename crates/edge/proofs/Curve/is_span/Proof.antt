@@ -13,15 +13,12 @@ returns c = all-three _ _ _ (sym (c .before .before .before .before .in-range .e
 returns-2 : tie.Need-returns-2
 unfolding isSpan
 returns-2 c =
-    let k = c .before .before .before .before .args .self in
-    not-second (inRange (k .t0)) (inRange (k .t1)) (lt (k .t0) (k .t1)) (sym (c .before .in-range2 .ensures) ∙ c .if2 .left)
+    not-second (inRange _) (inRange _) (lt _ _) (sym (c .before .in-range2 .ensures) ∙ c .if2 .left)
 
 returns-3 : tie.Need-returns-3
 unfolding isSpan
 returns-3 c =
-    let k = c .before .before .args .self in
-    not-first (inRange (k .t0)) (inRange (k .t1)) (lt (k .t0) (k .t1)) (sym (c .before .in-range .ensures) ∙ c .if1 .left)
+    not-first (inRange _) (inRange _) (lt _ _) (sym (c .before .in-range .ensures) ∙ c .if1 .left)
 
 pub is-span-spec : {M : Type 1} → statement M
-is-span-spec =
-    tie.close (tie.spec (λ c κs. search needs) (λ c κs. search needs) returns returns-2 returns-3)
+is-span-spec = tie.close (tie.spec (search needs) (search needs) returns returns-2 returns-3)

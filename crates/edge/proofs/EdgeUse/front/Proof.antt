@@ -10,6 +10,4 @@ returns-2 : tie.Need-returns-2
 returns-2 c = sym (rw (c .before .if1 .left))
 
 pub front-spec : {M : Type 1} → statement M
-front-spec =
-    tie.close
-    (tie.spec (λ c. search needs) (λ c. search needs) (λ c. search needs) (λ c. search needs) (λ c. search needs) returns returns-2)
+front-spec = tie.close (tie.spec (search needs) (search needs) (search needs) (search needs) (search needs) returns returns-2)

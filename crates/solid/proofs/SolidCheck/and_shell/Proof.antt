@@ -14,4 +14,4 @@ returns-3 : tie.Need-returns-3
 returns-3 c = sym (rw (c .before .before .before .enum-told .given .1, c .before .shell .given .1))
 
 pub and-shell-spec : {M : Type 1} → statement M
-and-shell-spec = tie.close (tie.spec (λ c. search needs) returns (λ c. search needs) (λ c. search needs) (λ c. search needs) returns-2 returns-3)
+and-shell-spec = tie.close (tie.spec (search needs) returns (search needs) (search needs) (search needs) returns-2 returns-3)
