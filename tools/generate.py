@@ -82,7 +82,7 @@ def words(numbers):
 
 def at(parameter):
     """A parameter as an edit writes it."""
-    return struct.pack(">d", parameter).hex()
+    return "0x" + struct.pack(">d", parameter).hex()
 
 
 def above(number, steps=1):
@@ -615,10 +615,11 @@ EDITS = [
         (cut(0, 0, 3, math.inf), 16), (cut(0, 0, 3, -math.inf), 16), (cut(0, 0, 3, 7.0), 16),
         "report"]),
     ("cut-same-notch-again", spare(TRIANGLE), [
-        (cut(0, 0, 3, 0.25), "new 3 4\n"
-                             "edge 3 points 0 3 span 0000000000000000 3fd0000000000000\n"
-                             "edge 4 points 3 1 span 3fd0000000000000 3ff0000000000000\n"
-                             "wire 0 uses 3+ 4+ 1+ 2+\n"),
+        (cut(0, 0, 3, 0.25), "done edges 3 4\n"
+                             "- face 0 surface 1 wire 0+ 1+ 2+\n"
+                             "+ edge 3 from 0 to 3 span 0 0.25\n"
+                             "+ edge 4 from 3 to 1 span 0.25 1\n"
+                             "+ face 0 surface 1 wire 3+ 4+ 1+ 2+\n"),
         (cut(0, 0, 3, 0.25), 14), (cut(0, 3, 3, 0.1), 14),
         (cut(0, 0, 4, 0.25), 15), (cut(0, 0, 4, None), 15),
         cut(0, 4, 4, 0.5), cut(0, 1, 5, 0.5), "report"]),
@@ -636,16 +637,18 @@ EDITS = [
     ("cut-not-27-twice-in-one-shell", listed(NEIGHBOURS, "0+ 1+ 0- 0+"), [
         cut(0, 1, 4, 0.5), cut(0, 0, 5, 0.5), "report"]),
     ("cut-there-and-back", spare(THERE_AND_BACK), [
-        (cut(0, 0, 2, 0.5), "new 1 2\n"
-                            "edge 1 points 0 2 span 0000000000000000 3fe0000000000000\n"
-                            "edge 2 points 2 1 span 3fe0000000000000 3ff0000000000000\n"
-                            "wire 0 uses 1+ 2+ 0-\n"),
+        (cut(0, 0, 2, 0.5), "done edges 1 2\n"
+                            "- face 0 surface 1 wire 0+ 0-\n"
+                            "+ edge 1 from 0 to 2 span 0 0.5\n"
+                            "+ edge 2 from 2 to 1 span 0.5 1\n"
+                            "+ face 0 surface 1 wire 1+ 2+ 0-\n"),
         "report", cut(0, 0, 3, 0.25), "report", (cut(0, 0, 4, 0.5), 15)]),
     ("cut-there-and-back-listed-twice", listed(spare(THERE_AND_BACK), "0+ 0+"), [
-        (cut(0, 0, 2, 0.5), "new 1 2\n"
-                            "edge 1 points 0 2 span 0000000000000000 3fe0000000000000\n"
-                            "edge 2 points 2 1 span 3fe0000000000000 3ff0000000000000\n"
-                            "wire 0 uses 1+ 2+ 0-\n"), "report"]),
+        (cut(0, 0, 2, 0.5), "done edges 1 2\n"
+                            "- face 0 surface 1 wire 0+ 0-\n"
+                            "+ edge 1 from 0 to 2 span 0 0.5\n"
+                            "+ edge 2 from 2 to 1 span 0.5 1\n"
+                            "+ face 0 surface 1 wire 1+ 2+ 0-\n"), "report"]),
     ("cut-back-and-there", spare(draw(2, edges("01"), [["0- 0+"]], ["0+"])), [
         cut(0, 0, 2, 0.5), "report"]),
     ("cut-bounds-0-to-1", *bounds(0.0, 1.0)),
@@ -677,8 +680,8 @@ EDITS = [
         ("remove 1 0", 3), ("remove 0 7", 3), ("remove 0 4", 23), ("remove 0 0", 23)]),
     ("remove-one-wire", spare(TRIANGLE), [
         "remove 0 1", "report", "fresh", "remove 0 2", "report", "fresh",
-        ("remove 0 0", "new 3\nedge 3 points 2 1 span 0000000000000000 4000000000000000\n"
-                       "wire 0 uses 1+ 3+\n"), "report",
+        ("remove 0 0", "done edge 3\n- face 0 surface 1 wire 0+ 1+ 2+\n"
+                       "+ edge 3 from 2 to 1 span 0 2\n+ face 0 surface 1 wire 1+ 3+\n"), "report",
         ("remove 0 1", 25), ("remove 0 2", 25), ("remove 0 0", 23)]),
     ("remove-two-corners", TWO_TRIANGLES, [("remove 0 0", 24), "remove 0 1", "remove 0 3"]),
     ("remove-24-before-25",             # the last such wire has two edges
@@ -707,8 +710,9 @@ EDITS = [
     ("remove-cut-undone-backwards",     # the span is not the old one: 0.25 to 1.25
      listed(NEIGHBOURS, "1+"), [
         cut(0, 1, 4, 0.25),
-        ("remove 0 4", "new 7\nedge 7 points 2 1 span 3fd0000000000000 3ff4000000000000\n"
-                       "wire 1 uses 7+ 3+ 4+\n"), "report"]),
+        ("remove 0 4", "done edge 7\n- face 1 surface 1 wire 6- 5- 3+ 4+\n"
+                       "+ edge 7 from 2 to 1 span 0.25 1.25\n"
+                       "+ face 1 surface 1 wire 7+ 3+ 4+\n"), "report"]),
     ("remove-26", span(span(spare(TRIANGLE), 0, 0.0, 1.0), 1, 0.0, 1000000.0), [
         ("remove 0 1", 26), ("remove 0 2", 26), "remove 0 0"]),
     ("remove-end-at-1000000", span(span(TRIANGLE, 0, 0.0, 500000.0), 1, 0.0, 500000.0), [
@@ -749,8 +753,8 @@ EDITS = [
         ("add 0+ 99 9 3+ 4+ 5+ 3+ 4+ 5+", 8), ("add 3- 99 9 4+ 5+ 5- 4-", 8),
         ("add 0+ 99 9 0+ 0-", 9), ("add 0+ 99 9 1+ 2+ 0+", 9), ("add 0- 99 9 0+ 0-", 9),
         ("add 0+ 0 0 0+ 0-", 9),
-        ("add 0+ 99 9 3+ 4+ 5+", "lengths 6 2\nwire 0+ 1+ 2+\nwire 3+ 4+ 5+\n"),
-        ("add 0- 99 9 3+ 4+ 5+", "lengths 6 2\nwire 0+ 1+ 2+\nwire 5- 4- 3-\n"),
+        ("add 0+ 99 9 3+ 4+ 5+", "done wire 0+ 1+ 2+ wire 3+ 4+ 5+\n"),
+        ("add 0- 99 9 3+ 4+ 5+", "done wire 0+ 1+ 2+ wire 5- 4- 3-\n"),
         "add 0+ 6 2 3+ 4+ 5+", ("add 0+ 5 2 3+ 4+ 5+", 17), ("add 0+ 6 1 3+ 4+ 5+", 17),
         "add 0+ 99 9 6+ 6-", "add 0- 99 9 6+ 6-", "add 3+ 3 1 0+ 1+ 2+", "add 3- 3 1 0+ 1+ 2+",
         ("add 3+ 2 1 0+ 1+ 2+", 17), "add 2+ 99 9 4+ 5+ 3+"]),
@@ -773,7 +777,7 @@ EDITS = [
         ("cutface 0+ 99 9 5+", 19), ("cutface 0+ 99 9 6+", 19), ("cutface 0+ 99 9 10+", 19),
         ("cutface 0+ 99 9 10- 6+", 19), ("cutedge 0+ 99 9 5+", 19),
         ("cutface 0+ 99 9 4+",
-         "lengths 6 2\nwire 3+ 0+ 4+\nwire 1+ 2+ 4-\n"),
+         "done wire 3+ 0+ 4+ wire 1+ 2+ 4-\n"),
         "cutedge 0+ 99 9 4+", "cutface 0+ 99 9 4-", "cutface 0- 99 9 4+", "cutedge 0- 99 9 4-",
         "cutface 0+ 99 9 11+", "cutface 0+ 99 9 7+", "cutface 0+ 99 9 7-",
         "cutface 0+ 99 9 5+ 6+", "cutface 0+ 99 9 6- 5-", "cutface 0- 99 9 5+ 6+",
@@ -803,7 +807,7 @@ EDITS = [
         ("glue 0+ 2- 99 9", 20), ("glue 0- 2+ 0 0", 20),
         ("glue 0+ 1+ 99 9", 22), ("glue 1- 0- 99 9", 22), ("glue 5+ 5+ 99 9", 22),
         ("glue 0+ 1+ 0 0", 22), ("glue 4+ 4+ 99 9", 22), ("glue 5+ 4+ 99 9", 22),
-        ("glue 0+ 2+ 99 9", "lengths 4 1\nwire 0+ 3+ 4+ 2+\n"),
+        ("glue 0+ 2+ 99 9", "done wire 0+ 3+ 4+ 2+\n"),
         "glue 2+ 0+ 99 9", "glue 0- 2- 99 9", "glue 0+ 2+ 4 1",
         ("glue 0+ 2+ 3 1", 17), ("glue 0+ 2+ 4 0", 17),
         ("glue 5+ 3+ 99 9", 21), "glue 3+ 5+ 99 9", "glue 0+ 3+ 99 9", "glue 3+ 0+ 99 9",
@@ -817,12 +821,12 @@ EDITS = [
     # p = 0, a = 1, b = 2, x = 3; the second outline begins at p, or at a
     ("glue-by-the-document", draw(4, edges("01 12 20 03 31"),
                                   [["0+ 1+ 2+"], ["3+ 4+ 0-"], ["0- 3+ 4+"]], [""]), [
-        ("glue 0+ 1+ 99 9", 28), ("glue 0+ 2+ 99 9", "lengths 4 1\nwire 3+ 4+ 1+ 2+\n"),
+        ("glue 0+ 1+ 99 9", 28), ("glue 0+ 2+ 99 9", "done wire 3+ 4+ 1+ 2+\n"),
         ("glue 0+ 1+ 0 0", 28), ("glue 0+ 2+ 0 9", 17), "glue 1+ 0+ 99 9", "glue 2+ 0+ 99 9"]),
     # both glues accept, and the first face's uses are replaced
     ("glue-replaces", draw(5, edges("14 24 00 42 00 00 12".replace("00", "03")),
                            [["1+ 3+"], ["0- 6+ 3-"]], [""]), [
-        ("glue 0+ 1+ 99 9", "lengths 3 1\nwire 6+ 3- 0-\n"), "glue 1+ 0+ 99 9"]),
+        ("glue 0+ 1+ 99 9", "done wire 6+ 3- 0-\n"), "glue 1+ 0+ 99 9"]),
     ("glue-two-outlines", draw(8, edges("01 12 20 34 45 53 62 16 75 47"),
                                [["0+ 1+ 2+", "3+ 4+ 5+"], ["6+ 1- 7+", "8+ 4- 9+"]], [""]), [
         "glue 0+ 1+ 99 9", "glue 1+ 0+ 99 9", "glue 0- 1- 99 9", ("glue 0+ 1+ 7 2", 17),

@@ -18,14 +18,14 @@ ROOM = "4096 4096"
 
 
 def bits(x):
-    return struct.pack(">d", x).hex()
+    return "0x" + struct.pack(">d", x).hex()
 
 
 def same(job):
     """A job that the oracle takes as it stands, but for the parameter and the room of the lists."""
     words = job.split()
-    if words[0] == "cut" and words[4] != "nowhere":
-        words[4] = words[4][2:] if words[4].startswith("0x") else bits(float(words[4]))
+    if words[0] == "cut" and words[4] != "nowhere" and not words[4].startswith("0x"):
+        words[4] = bits(float(words[4]))
     if words[0] in ("add", "cutface"):
         words.insert(2, ROOM)
     if words[0] == "glue":
@@ -121,16 +121,6 @@ ROWS = [
 ]
 
 
-def told(lines):
-    """The oracle's answer as edit writes it."""
-    first = lines[0].split()
-    if first[0] == "refused":
-        return lines[0]
-    if first[0] == "new":
-        return f"done edge{'s' if len(first) == 3 else ''} {' '.join(first[1:])}"
-    return "done " + " ".join(line for line in lines[1:])
-
-
 def main():
     asked = [same(job) for job, answer in ROWS if answer is None]
     with tempfile.NamedTemporaryFile("w") as jobs:
@@ -139,12 +129,12 @@ def main():
         sample = ROOT / "samples/coat.pattern"
         out = subprocess.run([ROOT / "target/oracle/release/oracle", "edit", sample, jobs.name], check=True, capture_output=True, text=True).stdout
     answers, lines = [], out.split("\n")[1:-1]
-    for k, line in enumerate(asked):
+    for line in asked:
         assert lines.pop(0) == line
-        said = []
-        while lines and (k + 1 == len(asked) or lines[0] != asked[k + 1] or not said):
-            said.append(lines.pop(0))
-        answers.append(told(said))
+        answers.append(lines.pop(0))
+        # what changed in the pattern
+        while lines and lines[0][0] in "+-":
+            lines.pop(0)
     program = ROOT / "crates/edit"
     program.joinpath("stdin").write_bytes("\n".join(job for job, _ in ROWS).encode())
     program.joinpath("stdout").write_text("".join((answers.pop(0) if answer is None else answer) + "\n" for _, answer in ROWS))

@@ -6,7 +6,8 @@
 FOLDER is one that `tools/generate.py random` made; without it the recorded answers
 of this repository are read.  Every answer is worked out again, by the text of
 document 01 and in its words, with nothing of the Rust or of the port; each file
-that is answered otherwise is named.
+that is answered otherwise is named.  recorded/README.md has the words of the edits
+and of their answers, docs/GUIDE.md the lines of a pattern as text.
 """
 
 import math
@@ -34,6 +35,23 @@ def turned(wire):
 
 def text(uses):
     return "".join(f" {name(use)}{'-' if use & REVERSED else '+'}" for use in uses)
+
+
+def wires_text(wires):
+    return "".join(" wire" + text(wire) for wire in wires)
+
+
+def bits(real):
+    return "0x" + struct.pack(">d", real).hex()
+
+
+def real_text(real):
+    """The decimal of the fewest places, up to nine, that reads back and has at most 15 digits."""
+    for places in range(10):
+        word = f"{real:.{places}f}"
+        if sum(map(str.isdigit, word)) <= 15 and bits(float(word)) == bits(real):
+            return word
+    return bits(real)
 
 
 def groups(things, links):
@@ -199,6 +217,14 @@ class Pattern:
         return sorted(point for point, pairs in links.items()
                       if len(groups(list(dict.fromkeys(sum(pairs, ()))), pairs)) > 1)
 
+    def text(self):
+        """The pattern as text, but for its points, which no edit changes."""
+        return ([f"edge {k} from {front} to {back} span {real_text(t0)} {real_text(t1)}"
+                 for k, (front, back, t0, t1) in enumerate(self.edges)]
+                + [f"face {k} surface {surface}" + wires_text(wires)
+                   for k, (surface, wires) in enumerate(zip(self.surfaces, self.faces))]
+                + [f"shell {k} faces" + text(shell) for k, shell in enumerate(self.shells)])
+
     # -------------------------------------------------------------- edits
 
     def edit(self, line):
@@ -219,17 +245,6 @@ class Pattern:
         self.edges = self.edges + list(edges)
         return list(range(first, first + len(edges)))
 
-    def told(self, new):
-        lines = ["new " + " ".join(map(str, new))]
-        for k in new:
-            front, back, t0, t1 = self.edges[k]
-            bits = " ".join(struct.pack(">d", t).hex() for t in (t0, t1))
-            lines.append(f"edge {k} points {front} {back} span {bits}")
-        for k, wire in enumerate(wire for face in self.faces for wire in face):
-            if any(name(use) in new for use in wire):
-                lines.append(f"wire {k} uses" + text(wire))
-        return lines
-
     def cut(self, s, e, v, found):
         s, e, v = int(s), int(e), int(v)
         self.named(s, e, v)
@@ -240,7 +255,7 @@ class Pattern:
         if all(name(use) != e for use in uses):
             raise Refused(15)
         front, back, t0, t1 = self.edges[e]
-        t = math.nan if found == "nowhere" else struct.unpack(">d", bytes.fromhex(found))[0]
+        t = math.nan if found == "nowhere" else struct.unpack(">d", bytes.fromhex(found[2:]))[0]
         if not math.isfinite(t) or t < t0 + 0.000001 or t > t1 - 0.000001:
             raise Refused(16)
         wires = [wire for face in dict.fromkeys(map(name, self.shells[s]))
@@ -248,11 +263,11 @@ class Pattern:
         every = sum(len(wire) for face in self.faces for wire in face)
         if len(self.edges) + 2 > 1024 or every + len(wires) > 4096:
             raise Refused(17)
-        a, b = new = self.appended((front, v, t0, t), (v, back, t, t1))
+        a, b = self.appended((front, v, t0, t), (v, back, t, t1))
         for wire in wires:
             k = list(map(name, wire)).index(e)
             wire[k:k + 1] = turned([a, b]) if wire[k] & REVERSED else [a, b]
-        return self.told(new)
+        return f"done edges {a} {b}"
 
     def join(self, a, b):
         """25, 26, 17; the new edge."""
@@ -265,7 +280,7 @@ class Pattern:
             raise Refused(26)
         if len(self.edges) + 1 > 1024:
             raise Refused(17)
-        return self.appended((self.front(a), self.back(b), start, end))
+        return self.appended((self.front(a), self.back(b), start, end))[0]
 
     def remove(self, s, v):
         s, v = int(s), int(v)
@@ -285,12 +300,12 @@ class Pattern:
             if name(first) != name(b) or name(a) != name(after):
                 raise Refused(24)
         new = self.join(a, b)
-        for use, (wire, k, _, _) in zip([new[0], new[0] + REVERSED], reversed(ends)):
+        for use, (wire, k, _, _) in zip([new, new + REVERSED], reversed(ends)):
             if k == len(wire) - 1:
                 wire.append(wire.pop(0))
                 k -= 1
             wire[k:k + 2] = [use]
-        return self.told(new)
+        return f"done edge {new}"
 
     def concat(self, a, b):
         a, b = signed(a), signed(b)
@@ -298,7 +313,7 @@ class Pattern:
             raise Refused(3)
         if self.back(a) != self.front(b):
             raise Refused(29)
-        return self.told(self.join(a, b))
+        return f"done edge {self.join(a, b)}"
 
     def face_and_wire(self, face, uses):
         face, wire = signed(face), list(map(signed, uses))
@@ -370,14 +385,14 @@ def written(wires, u, w):
     uses = sum(map(len, wires))
     if uses > int(u) or len(wires) > int(w):
         raise Refused(17)
-    return [f"lengths {uses} {len(wires)}"] + ["wire" + text(wire) for wire in wires]
+    return "done" + wires_text(wires)
 
 
 # --------------------------------------------------------------- comparing
 
-def answer(question, *arguments):
+def answer(question):
     try:
-        return question(*arguments)
+        return question()
     except Refused as refused:
         number, *place = refused.args
         return [f"refused {number}" + "".join(f" {word} {where}" for word, where
@@ -408,7 +423,11 @@ def edits(data):
         elif line == "report":
             lines += pattern.report()
         else:
-            lines += answer(pattern.edit, line)
+            before = pattern.text()
+            lines += answer(lambda: [pattern.edit(line)])
+            after = pattern.text()
+            lines += ["- " + gone for gone in before if gone not in after]
+            lines += ["+ " + new for new in after if new not in before]
     return lines
 
 

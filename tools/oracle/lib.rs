@@ -239,12 +239,12 @@ pub fn point(v: &Vertex) -> usize { v.point().0 }
 pub fn as_used(e: &Edge) -> Signed { (e.curve().edge, e.orientation()) }
 fn as_listed(f: &Face) -> Signed { (f.surface().face, f.orientation()) }
 
-pub fn write_uses(out: &mut String, wire: &Wire) {
-    for (edge, plus) in wire.iter().map(as_used) {
-        write!(out, " {edge}{}", sign(plus)).unwrap();
-    }
-    out.push('\n');
-}
+fn word((number, plus): &Signed) -> String { format!("{number}{}", sign(*plus)) }
+
+/// Each word after a space.
+pub fn words(all: &[Signed]) -> String { all.iter().map(|one| format!(" {}", word(one))).collect() }
+
+pub fn uses(wire: &Wire) -> String { words(&wire.iter().map(as_used).collect::<Vec<_>>()) }
 
 // ----------------------------------------------------------------- report
 
@@ -305,16 +305,11 @@ impl Report {
             writeln!(out, "shell {s}\ncondition {:?}", shell.condition).unwrap();
             writeln!(out, "connected {}", if shell.connected { "yes" } else { "no" }).unwrap();
             for opening in &shell.openings {
-                out.push_str("opening");
-                write_uses(out, opening);
+                writeln!(out, "opening{}", uses(opening)).unwrap();
             }
             writeln!(out, "lookups {}", shell.lookups).unwrap();
             for members in &shell.components {
-                out.push_str("component");
-                for (face, plus) in members {
-                    write!(out, " {face}{}", sign(*plus)).unwrap();
-                }
-                out.push('\n');
+                writeln!(out, "component{}", words(members)).unwrap();
             }
             for point in &shell.singular {
                 writeln!(out, "singular {point}").unwrap();
@@ -383,7 +378,10 @@ impl From<&str> for Edit {
                 point: words.number(),
                 parameter: match words.word() {
                     "nowhere" => None,
-                    bits => Some(f64::from_bits(u64::from_str_radix(bits, 16).expect("digits"))),
+                    word => {
+                        let digits = word.strip_prefix("0x").expect("0x");
+                        Some(f64::from_bits(u64::from_str_radix(digits, 16).expect("digits")))
+                    }
                 },
             },
             "remove" => Edit::Remove { shell: words.number(), point: words.number() },
@@ -426,16 +424,12 @@ fn to_signed(word: &str) -> Signed {
 /// The line of an edit.
 impl fmt::Display for Edit {
     fn fmt(&self, f: &mut fmt::Formatter<'_>) -> fmt::Result {
-        let word = |(number, plus): &Signed| format!("{number}{}", sign(*plus));
-        let words = |wire: &[Signed]| -> String {
-            wire.iter().map(|u| format!(" {}", word(u))).collect()
-        };
         match self {
             Edit::Cut { shell, edge, point, parameter } => {
                 write!(f, "cut {shell} {edge} {point} ")?;
                 match parameter {
                     None => write!(f, "nowhere"),
-                    Some(parameter) => write!(f, "{:016x}", parameter.to_bits()),
+                    Some(parameter) => write!(f, "{:#018x}", parameter.to_bits()),
                 }
             }
             Edit::Remove { shell, point } => write!(f, "remove {shell} {point}"),

@@ -7,7 +7,7 @@
 //!     oracle said PATTERN EDITS ..    the same; after each refusal what the Rust said
 //!
 //! A file of edits has one to a line; an answer stands after its line:
-//!     cut SHELL EDGE POINT PARAMETER  a parameter is 16 hex digits, or `nowhere`
+//!     cut SHELL EDGE POINT PARAMETER  a parameter is 0x and 16 hex digits, or `nowhere`
 //!     remove SHELL POINT
 //!     concat USE USE
 //!     add FACE U W USE..              U and W: how many uses and wires the lent
@@ -16,10 +16,12 @@
 //!     glue FACE FACE U W
 //!     report                          the pattern as it now is
 //!     fresh                           the pattern as it was read
-//! Answers: `refused N`; `new E ..`, a line for each new edge, a line for each
-//! stored wire that uses one; `lengths U W` and a line for each wire; `panic`.
+//! Answers, in the words of the program `edit`: `refused N`; `done edge E` or `done edges E E`,
+//! and what changed in the pattern as text, each line of before that is gone after `- `, then
+//! each new line after `+ `; `done wire USE.. wire ..`; or `panic`.
 
-use oracle::{as_used, point, read, refused_line, report, write_uses, Asked, Curve, Done, Pattern};
+use oracle::{point, read, refused_line, report, uses, words};
+use oracle::{Asked, Curve, Done, Edge, Face, Pattern, Signed, Wire};
 use std::fmt::Write as _;
 use std::io::Write as _;
 use std::panic::{catch_unwind, AssertUnwindSafe};
@@ -41,40 +43,63 @@ fn report_of(bytes: &[u8]) -> String {
     })
 }
 
-/// What an edit came to: the new edges and the stored wires that use one, or its wires.
+/// An f64 as a word: the decimal of the fewest places, at most nine, that reads back to the same
+/// bits and has at most 15 digits; else its bits.
+fn real(t: f64) -> String {
+    let reads_back = |word: &String| {
+        let digits = word.chars().filter(char::is_ascii_digit).count();
+        digits <= 15 && word.parse::<f64>().unwrap().to_bits() == t.to_bits()
+    };
+    let mut decimals = (0..=9).map(|places| format!("{t:.places$}"));
+    decimals.find(reads_back).unwrap_or(format!("{:#018x}", t.to_bits()))
+}
+
+/// The pattern as text, but for its points, which no edit changes.
+fn shown(p: &Pattern) -> Vec<String> {
+    let edge = |(k, edge): (usize, &Edge)| {
+        let Curve { t0, t1, .. } = edge.curve();
+        let (front, back) = (point(edge.absolute_front()), point(edge.absolute_back()));
+        format!("edge {k} from {front} to {back} span {} {}", real(t0), real(t1))
+    };
+    let face = |(k, face): (usize, &Face)| {
+        let wires = wires(face.absolute_boundaries());
+        format!("face {k} surface {}{wires}", face.surface().value)
+    };
+    let shell = |(k, shell): (usize, &Vec<Signed>)| format!("shell {k} faces{}", words(shell));
+    let edges = p.edges.iter().enumerate().map(edge);
+    let faces = p.faces.iter().enumerate().map(face);
+    edges.chain(faces).chain(p.shells.iter().enumerate().map(shell)).collect()
+}
+
+fn wires(wires: &[Wire]) -> String {
+    wires.iter().map(|wire| format!(" wire{}", uses(wire))).collect()
+}
+
+/// What an edit came to.
 fn told(p: &Pattern, done: &Done) -> String {
-    let mut out = String::new();
     match done {
-        Done::New(count) => {
-            let first = p.edges.len() - count;
-            out.push_str("new");
-            for k in first..p.edges.len() {
-                write!(out, " {k}").unwrap();
-            }
-            out.push('\n');
-            for (k, edge) in p.edges.iter().enumerate().skip(first) {
-                let Curve { t0, t1, .. } = edge.curve();
-                let (front, back) = (point(edge.absolute_front()), point(edge.absolute_back()));
-                let (t0, t1) = (t0.to_bits(), t1.to_bits());
-                writeln!(out, "edge {k} points {front} {back} span {t0:016x} {t1:016x}").unwrap();
-            }
-            for (k, wire) in p.wires().enumerate() {
-                if wire.iter().any(|edge| as_used(edge).0 >= first) {
-                    write!(out, "wire {k} uses").unwrap();
-                    write_uses(&mut out, wire);
-                }
-            }
-        }
-        Done::Wires(wires) => {
-            let uses: usize = wires.iter().map(|wire| wire.len()).sum();
-            writeln!(out, "lengths {uses} {}", wires.len()).unwrap();
-            for wire in wires {
-                out.push_str("wire");
-                write_uses(&mut out, wire);
-            }
-        }
+        Done::New(1) => format!("done edge {}\n", p.edges.len() - 1),
+        Done::New(_) => format!("done edges {} {}\n", p.edges.len() - 2, p.edges.len() - 1),
+        Done::Wires(all) => format!("done{}\n", wires(all)),
     }
-    out
+}
+
+/// The lines of one text that the other has not, after a mark.
+fn missing(mark: char, one: &[String], other: &[String]) -> String {
+    let lines = one.iter().filter(|line| !other.contains(line));
+    lines.map(|line| format!("{mark} {line}\n")).collect()
+}
+
+fn edited(p: &mut Pattern, line: &str, said: bool) -> String {
+    let before = shown(p);
+    match p.edit(&line.into()) {
+        Ok(done) => {
+            let after = shown(p);
+            told(p, &done) + &missing('-', &before, &after) + &missing('+', &after, &before)
+        }
+        Err((number, word)) if said => format!("refused {number} {word}\n"),
+        Err((number, _)) => format!("refused {number}\n"),
+    }
 }
 
 fn edits(bytes: &[u8], lines: &str, said: bool) -> String {
@@ -88,11 +113,7 @@ fn edits(bytes: &[u8], lines: &str, said: bool) -> String {
         match line {
             "fresh" => pattern = read(bytes, Asked::Again).unwrap(),
             "report" => out.push_str(&guarded(|| report_text(&pattern))),
-            _ => out.push_str(&guarded(|| match pattern.edit(&line.into()) {
-                Ok(done) => told(&pattern, &done),
-                Err((number, word)) if said => format!("refused {number} {word}\n"),
-                Err((number, _)) => format!("refused {number}\n"),
-            })),
+            _ => out.push_str(&guarded(|| edited(&mut pattern, line, said))),
         }
     }
     out

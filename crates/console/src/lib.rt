@@ -67,6 +67,12 @@ pub fn print_report(fd: i32, text: &[u8; 1126400], n: usize) -> bool {
     io::write_all(fd, &whole[0..n])
 }
 
+// The first n bytes of an answer to a job, or nothing where there are fewer. Whether all was written.
+pub fn print_answer(fd: i32, text: &[u8; 65536], n: usize) -> bool {
+    let whole: &[u8] = text;
+    print_first(fd, whole, n)
+}
+
 // Argument k, of at most 64 bytes.
 pub fn print_argument(fd: i32, k: usize) -> bool {
     let mut name = [0u8; 64];
@@ -86,4 +92,18 @@ pub fn open_argument(k: usize) -> i32 {
     let mut name = [0u8; 64];
     let length = os::arg(k, &mut name);
     os::open_read(&name[..length])
+}
+
+// Reads the file that argument k names, and answers how many bytes it put at the start of the list; 0 where
+// the file cannot be opened.
+pub fn read_argument(k: usize, bytes: &mut [u8]) -> usize
+    ensures { λ r. ⌜ Counts r (now (bytes .exit)) ⌝ }
+{
+    let fd = open_argument(k);
+    if fd < 0 {
+        return 0;
+    }
+    let n = io::read_full(fd, bytes);
+    libc::close(fd);
+    n
 }

@@ -8,12 +8,6 @@ use libc::STDIN_FILENO;
 use libc::STDOUT_FILENO;
 use replace::Replaced;
 
-// Prints the first n bytes of an answer. Whether it was printed.
-fn print(text: &[u8; 65536], n: usize) -> bool {
-    let whole: &[u8] = text;
-    console::print_first(STDOUT_FILENO, whole, n)
-}
-
 // Replaces the file by the first n bytes of an edited one, where there are any.
 fn save(path: &[u8], out: &[u8; 41048], n: usize) -> Replaced {
     let whole: &[u8] = out;
@@ -40,7 +34,7 @@ fn answer(path: &[u8], line: &[u8]) -> bool {
     let done = jobs::run(line, &file[0..n], &mut out, &mut text);
     let saved = save(path, &out, done.file);
     match saved {
-        Replaced::Done => print(&text, done.text),
+        Replaced::Done => console::print_answer(STDOUT_FILENO, &text, done.text),
         Replaced::Kept => {
             io::write_all(STDOUT_FILENO, b"failed: the file keeps its old bytes\n")
         }

@@ -38,7 +38,7 @@ pub fn shell_job(j: usize, v: &[u64], file: &[u8], out: &mut [u8]) -> Answer
 }
 
 // The values as numbers of 16 bits.
-fn put_small(v: &[u64], out: &mut [u16])
+pub fn put_small(v: &[u64], out: &mut [u16])
     requires { ⌜ length (now v) ≤ length (now out) ⌝ }
     ensures { λ _. ⌜ now (out .exit) ≡ sets (now (out .entry)) 0 (map (λ (u : ℕ). min u 65535) (now (v .entry))) ⌝ }
 {

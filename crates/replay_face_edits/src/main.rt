@@ -1,223 +1,178 @@
-// Replays edits of faces: the arguments name a pattern file and a file of edits, and so on in pairs.
-// Prints for each pair the pattern's name, and for each edit its line and the answer: `refused N`, or
-// the two lengths of the result and its wires. recorded/README.md has the words.
-ghost use mathlib.Core.Path.{_≡_};
-ghost use lib.ListN.{length};
-use add_boundary::try_add_boundary;
-use cut_face::cut_by_edge;
-use cut_face::cut_by_wire;
-use edit_answers::FaceAnswer;
-use edit_answers::face_edit_number;
-use edit_lines::byte_at;
-use edit_lines::line_end;
-use edit_lines::number_word;
-use edit_lines::print_number;
-use edit_lines::read_argument;
-use edit_lines::use_word;
-use edit_lines::word_at;
-use errors::Check;
-use glue::glue_at_boundaries;
+// Replays the edits of faces: the arguments name a pattern file and a file of edits, and so on in pairs.
+// Prints for each pair the pattern file's name, and for each line the line and what the library answers, in
+// the words of `edit`. recorded/README.md has the words.
+ghost use Prim.Native.Nat.{_≤_};
+use answer_lines::put_refused;
+use answers::Answer;
+use forms::Matched;
+use forms::NUMBER;
+use forms::SIGNED;
+use forms::put_values;
+use job_edits::put_small;
+use job_lines::put_done;
 use libc::STDOUT_FILENO;
-use pattern::Pattern;
+use text::line_end;
+use text::name_of;
+use text::word_end;
+use words::index;
+use words::sum_of;
+use wuzsanget::wuzsanget_add_boundary;
+use wuzsanget::wuzsanget_cut_by_edge;
+use wuzsanget::wuzsanget_cut_by_wire;
+use wuzsanget::wuzsanget_glue;
 
-// The uses from word k on, as many as the list has room for; how many.
-fn wire_words(line: &[u8], k: usize, wire: &mut [u16]) -> usize
-    ensures { λ _. ⌜ length (now (wire .exit)) ≡ length (now (wire .entry)) ⌝ }
-{
-    let mut n: usize = 0;
-    while n < wire.len() {
-        if k > 9 {
-            return n;
-        }
-        if n > 65535 {
-            return n;
-        }
-        if word_at(line, k + n) >= line.len() {
-            return n;
-        }
-        wire[n] = use_word(line, k + n);
-        n += 1;
+// The names of the edits, as `text::name_of` has them.
+const ADD: u64 = 0x1616464;
+
+const CUTFACE: u64 = 0x163757466616365;
+
+const CUTEDGE: u64 = 0x163757465646765;
+
+const GLUE: u64 = 0x1676c7565;
+
+// The kinds of the words after a name; any further word is a use.
+fn kinds_of(name: u64) -> [u64; 4] {
+    if name == GLUE {
+        return [SIGNED, SIGNED, NUMBER, NUMBER];
     }
-    n
+    [SIGNED, NUMBER, NUMBER, SIGNED]
 }
 
-fn print_use(u: u16) {
-    print_number(b" ", words::index(u % 32768));
-    if u < 32768 {
-        io::write_all(STDOUT_FILENO, b"+");
-    } else {
-        io::write_all(STDOUT_FILENO, b"-");
+// Whether the words after a name make the edit. A line that is no edit has no answer.
+fn is_edit(name: u64, m: Matched) -> bool {
+    if !m.all {
+        return false;
     }
-}
-
-// The n uses from `at` on.
-fn print_wire(uses: &[u16], at: usize, n: usize) {
-    io::write_all(STDOUT_FILENO, b"wire");
-    let mut k: usize = 0;
-    while k < n {
-        if at >= uses.len() {
-            return;
-        }
-        if k >= uses.len() - at {
-            return;
-        }
-        print_use(uses[at + k]);
-        k += 1;
+    if name == GLUE || name == CUTEDGE {
+        return m.words == 4;
     }
-    io::write_all(STDOUT_FILENO, b"\n");
+    name == ADD || name == CUTFACE
 }
 
-fn print_wires(uses: &[u16], lens: &[u16], n: usize) {
-    let mut at: usize = 0;
-    let mut w: usize = 0;
-    while w < n {
-        if w >= lens.len() {
-            return;
-        }
-        if at > 65535 {
-            return;
-        }
-        let m = words::index(lens[w]);
-        print_wire(uses, at, m);
-        if m > 65535 {
-            return;
-        }
-        at += m;
-        w += 1;
-    }
-}
-
-fn print_answer(a: FaceAnswer, uses: &[u16], lens: &[u16]) {
-    match a {
-        FaceAnswer::Written(m, k) => {
-            print_number(b"lengths ", m);
-            print_number(b" ", k);
-            io::write_all(STDOUT_FILENO, b"\n");
-            print_wires(uses, lens, k);
-        }
-        FaceAnswer::Refused(f) => {
-            console::print_refusal(STDOUT_FILENO, f);
-        }
-        FaceAnswer::Not(e) => {
-            print_number(b"refused ", face_edit_number(e));
-            io::write_all(STDOUT_FILENO, b"\n");
-        }
-    }
-}
-
-// A number of at most `most`.
-fn at_most(n: u16, most: usize) -> usize {
-    let m = words::index(n);
-    if m > most { most } else { m }
-}
-
-// An edit by a wire, the first n of `wire`.
-fn replay_wire(
-    p: Pattern,
-    line: &[u8],
+// Applies an edit with these values and this wire; the lists take the wires of its result.
+fn apply(
+    name: u64,
+    v: &[u16; 2048],
     wire: &[u16],
-    n: usize,
+    file: &[u8],
     uses: &mut [u16],
     lens: &mut [u16],
-) {
-    if n > wire.len() {
-        return;
+) -> Answer {
+    if name == GLUE {
+        return wuzsanget_glue(file, v[0], v[1], uses, lens);
     }
-    let face = use_word(line, 1);
-    if byte_at(line, 0) == 97 {
-        let a = try_add_boundary(p, face, &wire[0..n], uses, lens);
-        print_answer(a, uses, lens);
-        return;
+    if name == CUTEDGE {
+        return wuzsanget_cut_by_edge(file, v[0], v[3], uses, lens);
     }
-    let a = cut_by_wire(p, face, &wire[0..n], uses, lens);
-    print_answer(a, uses, lens);
+    if name == ADD {
+        return wuzsanget_add_boundary(file, v[0], wire, uses, lens);
+    }
+    wuzsanget_cut_by_wire(file, v[0], wire, uses, lens)
 }
 
-// One edit with lent lists.
-fn replay_edit(p: Pattern, line: &[u8], uses: &mut [u16], lens: &mut [u16]) {
-    let face = use_word(line, 1);
-    if byte_at(line, 0) == 103 {
-        let a = glue_at_boundaries(p, face, use_word(line, 2), uses, lens);
-        print_answer(a, uses, lens);
-        return;
-    }
-    if byte_at(line, 3) == 101 {
-        let a = cut_by_edge(p, face, use_word(line, 4), uses, lens);
-        print_answer(a, uses, lens);
-        return;
-    }
-    let mut wire = [0u16; 1024];
-    let n = wire_words(line, 4, &mut wire);
-    replay_wire(p, line, &wire, n, uses, lens);
-}
-
-// The length of lent list k, 0 or 1, at most `most`. The lengths stand after the faces.
-fn lent_length(line: &[u8], k: usize, most: usize) -> usize {
-    if k > 1 {
+// Writes the answer of an edit whose result is these wires, and returns its length.
+fn put_wires(uses: &[u16], lens: &[u16], text: &mut [u8; 65536]) -> usize {
+    if uses.len() > 4096 {
         return 0;
     }
-    if byte_at(line, 0) == 103 {
-        return at_most(number_word(line, 3 + k), most);
+    if lens.len() > 4096 {
+        return 0;
     }
-    at_most(number_word(line, 2 + k), most)
+    if sum_of(lens, lens.len()) != uses.len() {
+        return 0;
+    }
+    put_done(text, uses, lens)
 }
 
-fn replay_line(p: Pattern, line: &[u8]) {
+// Writes an answer whose wires are in the lists, and returns its length.
+fn put_answer(a: Answer, uses: &[u16; 4096], lens: &[u16; 4096], text: &mut [u8; 65536]) -> usize {
+    if a.outcome != 0 {
+        return put_refused(text, a.outcome, a.number, a.first, a.second);
+    }
+    let us: &[u16] = uses;
+    let ls: &[u16] = lens;
+    let m = a.first;
+    let k = a.second;
+    if m > us.len() {
+        return 0;
+    }
+    if k > ls.len() {
+        return 0;
+    }
+    put_wires(&us[0..m], &ls[0..k], text)
+}
+
+// The length of a lent list.
+fn lent(n: u16) -> usize
+    ensures { λ r. ⌜ r ≤ 4096 ⌝ }
+{
+    if n > 4096 { 4096 } else { index(n) }
+}
+
+// Replays an edit with lent lists of m uses and k lengths.
+fn replay_edit(name: u64, v: &[u16; 2048], wire: &[u16], file: &[u8], m: u16, k: u16) {
+    let mut uses = [0u16; 4096];
+    let mut lens = [0u16; 4096];
+    let mut text = [0u8; 65536];
+    let u = lent(m);
+    let w = lent(k);
+    let a = apply(name, v, wire, file, &mut uses[0..u], &mut lens[0..w]);
+    let n = put_answer(a, &uses, &lens, &mut text);
+    console::print_answer(STDOUT_FILENO, &text, n);
+}
+
+// Replays an edit with n values.
+fn replay_values(name: u64, v: &[u16; 2048], n: usize, file: &[u8]) {
+    let all: &[u16] = v;
+    if n < 3 {
+        return;
+    }
+    if n > all.len() {
+        return;
+    }
+    if name == GLUE {
+        replay_edit(name, v, &all[3..n], file, v[2], v[3]);
+        return;
+    }
+    replay_edit(name, v, &all[3..n], file, v[1], v[2]);
+}
+
+fn replay_line(file: &[u8], line: &[u8]) {
     io::write_all(STDOUT_FILENO, line);
     io::write_all(STDOUT_FILENO, b"\n");
-    let mut uses = [0u16; 4096];
-    let mut lens = [0u16; 1024];
-    let m = lent_length(line, 0, 4096);
-    let n = lent_length(line, 1, 1024);
-    if m <= 4096 {
-        if n <= 1024 {
-            replay_edit(p, line, &mut uses[0..m], &mut lens[0..n]);
-        }
+    if line.len() > 4096 {
+        return;
+    }
+    let end = word_end(line, 0);
+    let name = name_of(&line[0..end]);
+    let kinds = kinds_of(name);
+    let mut values = [0u64; 2048];
+    let mut small = [0u16; 2048];
+    let m = put_values(line, end, &kinds, SIGNED, &mut values);
+    if is_edit(name, m) {
+        put_small(&values, &mut small);
+        replay_values(name, &small, m.words, file);
     }
 }
 
-fn replay_lines(p: Pattern, edits: &[u8]) {
-    let mut at: usize = 0;
-    while at < edits.len() {
-        let end = line_end(edits, at);
-        if end < at {
-            return;
-        }
-        if end > edits.len() {
-            return;
-        }
-        replay_line(p, &edits[at..end]);
-        at = end + 1;
+fn replay_lines(file: &[u8], lines: &[u8]) {
+    let mut from: usize = 0;
+    while from < lines.len() {
+        let end = line_end(lines, from);
+        replay_line(file, &lines[from..end]);
+        from = end + 1;
     }
 }
 
-fn replay_file(bytes: &[u8], edits: &[u8]) {
-    let reading = reader::read(bytes);
-    let answer = reading.answer;
-    match answer {
-        Check::Refused(f) => {
-            console::print_refusal(STDOUT_FILENO, f);
-        }
-        Check::Accepted => {
-            let p = reading.pattern;
-            replay_lines(p, edits);
-        }
-    }
-}
-
-// Replays the edits that argument `e` names on the pattern that argument `k` names.
+// Replays the lines of the file that argument `e` names on the pattern file that argument `k` names.
 fn replay(k: usize, e: usize) {
     console::print_file_line(STDOUT_FILENO, k);
     // One byte more than the longest file.
     let mut bytes = [0u8; 41049];
-    let mut edits = [0u8; 16384];
-    let n = read_argument(k, &mut bytes);
-    let m = read_argument(e, &mut edits);
-    if n <= 41049 {
-        if m <= 16384 {
-            replay_file(&bytes[0..n], &edits[0..m]);
-        }
-    }
+    let mut lines = [0u8; 16384];
+    let n = console::read_argument(k, &mut bytes);
+    let m = console::read_argument(e, &mut lines);
+    replay_lines(&bytes[..n], &lines[..m]);
 }
 
 fn main() {

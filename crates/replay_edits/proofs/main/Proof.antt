@@ -4,11 +4,24 @@ use Rattle.replay_edits.proofs.main.Statement.{statement}
 use Rattle.replay_edits.proofs.main.Tie as tie
 
 abbrev Inv-loop : tie.InvT-loop
-Inv-loop text₀ n k₀ text k = k ≤ 2 + n
+Inv-loop n k₀ k = k ≤ 2 + n
 
 abbrev μ-loop : tie.MeasureT-loop
-μ-loop text₀ n k₀ text k = n - k
+μ-loop n k₀ k = n - k
 
 pub main-spec : {M : Type 1} → statement M
-main-spec = tie.close (tie.spec Inv-loop μ-loop (λ c κs. search needs) (λ c. search needs) (λ c. search needs) (λ c. search needs)
-    (λ c. search needs) (λ c κs. search needs) (λ c. search needs) (λ c. search needs) (λ c. search needs) (λ c. search needs))
+main-spec =
+    tie.close
+    (tie.spec
+    Inv-loop
+    μ-loop
+    (λ c κs. search needs)
+    (λ c. search needs)
+    (λ c. search needs)
+    (λ c. search needs)
+    (λ c. search needs)
+    (λ c κs. search needs)
+    (λ c. search needs)
+    (λ c. search needs)
+    (λ c. search needs)
+    (λ c. search needs))
