@@ -1,2 +1,4 @@
+pub mod Endings
+pub mod Flagging
 pub mod Places
 pub mod Wires

@@ -17,13 +17,13 @@ use Rattle.lists.proofs.Split.{walk-fits, getD-split}
 use Rattle.lists.specs.Lists.{rotated, split, sum}
 use Rattle.corners.specs.Corners.{cornerOf, placeOf, fit}
 use Rattle.corners.specs.declared.Corner.{Corner}
-use Rattle.endings.specs.declared.Ending.{Ending}
+use Rattle.corners.specs.declared.Ending.{Ending}
 use Rattle.shell_edits.specs.Edits.{placeIn}
 use Rattle.wire.proofs.Laws.{named-part}
 use Rattle.wire.specs.Wires.{Named, endFrom}
 use Rattle.wire.specs.declared.Found.{Found}
 use Rattle.wire.specs.declared.Found.the-variants.{At, Nothing}
-use Rattle.endings.proofs.Flagging.{isAt}
+use Rattle.corners.proofs.Flagging.{isAt}
 
 module _ (fronts backs : List ℕ) (v : ℕ) where
   -- the place lies on the wire

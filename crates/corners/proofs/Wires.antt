@@ -17,7 +17,7 @@ use Rattle.lists.proofs.Sets.{flat-next, sets-then}
 use Rattle.lists.proofs.Split.{Walk, walk-fits, walk-next, walk-part, walk-start}
 use Rattle.lists.specs.Lists.{flat, rotated, split, sum}
 use Rattle.corners.specs.Corners.{joinedWire, placeOf, removedWire}
-use Rattle.endings.specs.declared.Ending.{Ending}
+use Rattle.corners.specs.declared.Ending.{Ending}
 use Rattle.shell_edits.specs.Edits.{eachWire}
 use Rattle.wire_swaps.specs.Swaps.{swapPair, swapSubwire}
 

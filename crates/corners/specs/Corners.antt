@@ -9,7 +9,7 @@ use Rattle.edge.specs.Uses.{turned, edgeNumber}
 use Rattle.wire_swaps.specs.Swaps.{swapSubwire}
 use Rattle.shell_edits.specs.Edits.{placeIn}
 use Rattle.corners.specs.declared.Corner.{Corner}
-use Rattle.endings.specs.declared.Ending.{Ending}
+use Rattle.corners.specs.declared.Ending.{Ending}
 use Rattle.wire.specs.Wires.{endFrom}
 
 module _ (fronts backs : List ℕ) (v : ℕ) where

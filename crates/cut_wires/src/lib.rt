@@ -12,7 +12,7 @@ ghost use Rattle.cut_wires.specs.Halves.{cutFlagged, Halved};
 use edge::EdgeID;
 use wire::Found;
 use wire::find_use;
-use wire::swap_edge_into_wire;
+use wire_swaps::swap_edge_into_wire;
 use words::copy_u16s;
 use words::index;
 

@@ -1,2 +1,3 @@
+pub mod Spliced
 pub mod Splice
 pub mod Counted

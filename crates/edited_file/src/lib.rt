@@ -1,26 +1,38 @@
 // The file of an edited pattern, made of the file of the pattern: what the edit leaves as it was is
 // copied.
 ghost use mathlib.Core.Path.{_≡_};
-ghost use mathlib.Core.Bool.{true};
 ghost use mathlib.Core.List.{[], _∷_, _++_, map};
-ghost use Prim.Native.Nat.{_+_, _*_, _≤_};
-ghost use lib.ListN.{drop, getD, length, take};
+ghost use mathlib.Core.Bool.{true};
+ghost use Prim.Native.Nat.{_+_, _<_, _*_, _≤_};
+ghost use lib.ListN.{getD, drop, length, take};
 ghost use lib.Seq.{sets};
+ghost use Rattle.pattern_file.specs.File.{fileContent, fileCounts, fileFaults, countAt, edgeBytes, fileBytes, startOf};
+ghost use Rattle.shell_edits.specs.Edits.{edgeAt};
 ghost use Rattle.edge.specs.Edges.{isSpan};
 ghost use Rattle.lists.specs.Lists.{flat, tabulate};
 ghost use Rattle.pattern.specs.Checks.{countFaults};
 ghost use Rattle.pattern.specs.Contents.{countsOf};
-ghost use Rattle.pattern_file.specs.File.{countAt, edgeBytes, fileBytes, fileCounts, fileFaults, startOf};
 ghost use Rattle.writer.specs.Writing.{writeAnswer, writeBytes};
 ghost use Rattle.edited_file.specs.EditedFile.{editedFile};
 use edge::Edge;
 use file_table::counts_of;
 use output::put_text;
 use pattern_file::starts_of;
+use reader::edge_at;
 use writer::Written;
 use writer::put_edge;
 use writer::put_table;
 use writer::put_u16s;
+
+// Edge i of an accepted file.
+pub fn file_edge(file: &[u8], counts: [usize; 7], i: usize) -> Edge
+    requires { ⌜ (fileFaults (now file) ≡ []) × (counts ≡ fileCounts (now file)) × (i < getD counts 1 0) ⌝ }
+    ensures { λ r. ⌜ r ≡ edgeAt (fileContent (now (file .entry))) i ⌝ }
+{
+    let starts = starts_of(counts);
+    let at = starts[1];
+    edge_at(file, at + 20 * i)
+}
 
 // Writes the first `more` of two edges from `at` on.
 fn put_new(out: &mut [u8], at: usize, a: Edge, b: Edge, more: usize)

@@ -21,7 +21,7 @@ use Rattle.edit_answers.specs.declared.JoinAnswer.{JoinAnswer}
 use Rattle.edited_file.proofs.Counted.{table-right}
 use Rattle.edited_file.specs.EditedFile.{editedFile, joinBytes}
 use Rattle.file_concat.specs.FileConcat.{concatFile, concatFileBytes}
-use Rattle.file_edge.proofs.Spliced.{count-is, edit-answered, edit-written}
+use Rattle.edited_file.proofs.Spliced.{count-is, edit-answered, edit-written}
 use Rattle.file_table.proofs.Laws.{full, limits}
 use Rattle.pattern.specs.Checks.{patternFaults}
 use Rattle.pattern.specs.Contents.{Content, content, stored}

@@ -17,10 +17,10 @@ use edge::EdgeID;
 use edit_answers::EditError;
 use edit_answers::JoinAnswer;
 use edit_answers::edit_number;
+use edited_file::file_edge;
 use edited_file::put_edited;
 use errors::Check;
 use file_columns::read_file;
-use file_edge::file_edge;
 use file_table::counts_of;
 
 // Two uses of an accepted file, joined: 3 first.

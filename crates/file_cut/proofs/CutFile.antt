@@ -41,7 +41,7 @@ use Rattle.shell_wires.proofs.Facts.{Fine}
 use Rattle.shell_wires.proofs.Made.{lent-fine}
 use Rattle.shell_wires.specs.Lent.{Lent}
 use Rattle.writer.specs.Writing.{writeAnswer, writeBytes, written}
-use Rattle.file_edge.proofs.Spliced.{edit-answered, edit-written}
+use Rattle.edited_file.proofs.Spliced.{edit-answered, edit-written}
 use Rattle.file_cut.specs.FileCut.{cutBytes, cutFile, cutFileBytes}
 
 -- the same halves, written

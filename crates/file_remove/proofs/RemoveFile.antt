@@ -20,8 +20,8 @@ use Rattle.edit_answers.specs.declared.EditError.{EditError}
 use Rattle.edit_answers.specs.declared.JoinAnswer.{JoinAnswer}
 use Rattle.edit_answers.specs.declared.JoinAnswer.the-variants.{Joined, Not, Refused}
 use Rattle.edited_file.specs.EditedFile.{editedFile, joinBytes}
-use Rattle.endings.specs.Endings.{endingOf}
-use Rattle.endings.specs.declared.Ending.{Ending}
+use Rattle.corners.specs.Endings.{endingOf}
+use Rattle.corners.specs.declared.Ending.{Ending}
 use Rattle.errors.proofs.Laws.{none-left, none-right}
 use Rattle.lists.specs.Lists.{flat, split}
 use Rattle.pattern.proofs.Counts.{edges-counted, limited}
@@ -45,7 +45,7 @@ use Rattle.shell_wires.proofs.Made.{lent-fine}
 use Rattle.shell_wires.specs.Lent.{Lent}
 use Rattle.writer.specs.Writing.{writeAnswer, writeBytes, written}
 use Rattle.writer.specs.declared.Written.{Written}
-use Rattle.file_edge.proofs.Spliced.{edit-answered, edit-written}
+use Rattle.edited_file.proofs.Spliced.{edit-answered, edit-written}
 use Rattle.file_remove.specs.FileRemove.{removeFile, removeFileBytes}
 
 -- an edge of the file

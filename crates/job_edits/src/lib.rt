@@ -14,13 +14,8 @@ use file_face_edits::file_add;
 use file_face_edits::file_cut_by_wire;
 use file_face_edits::file_glue;
 use file_remove::file_remove;
-
-// A value as a number of 16 bits; 65,535 for a larger one.
-fn small(v: u64) -> u16
-    ensures { λ r. ⌜ r ≡ min v 65535 ⌝ }
-{
-    if v > 65535 { 65535 } else { v as u16 }
-}
+use words::put_saturated;
+use words::saturated;
 
 // Applies job j, an edit of a shell, to a file; `out` takes the edited file.
 pub fn shell_job(j: usize, v: &[u64], file: &[u8], out: &mut [u8]) -> Answer
@@ -29,24 +24,19 @@ pub fn shell_job(j: usize, v: &[u64], file: &[u8], out: &mut [u8]) -> Answer
     ensures { λ _. ⌜ now (out .exit) ≡ shellOut j (now (v .entry)) (now (file .entry)) (now (out .entry)) ⌝ }
 {
     if j == 1 {
-        return file_cut(file, v[0] as usize, small(v[1]), small(v[2]), v[3], out);
+        return file_cut(
+            file,
+            v[0] as usize,
+            saturated(v[1]),
+            saturated(v[2]),
+            v[3],
+            out,
+        );
     }
     if j == 2 {
-        return file_remove(file, v[0] as usize, small(v[1]), out);
+        return file_remove(file, v[0] as usize, saturated(v[1]), out);
     }
-    file_concat(file, small(v[0]), small(v[1]), out)
-}
-
-// The values as numbers of 16 bits.
-pub fn put_small(v: &[u64], out: &mut [u16])
-    requires { ⌜ length (now v) ≤ length (now out) ⌝ }
-    ensures { λ _. ⌜ now (out .exit) ≡ sets (now (out .entry)) 0 (map (λ (u : ℕ). min u 65535) (now (v .entry))) ⌝ }
-{
-    let mut i: usize = 0;
-    while i < v.len() {
-        out[i] = small(v[i]);
-        i += 1;
-    }
+    file_concat(file, saturated(v[0]), saturated(v[1]), out)
 }
 
 // Applies job j, an edit of a face, to a file; the lists take the wires of its result.
@@ -57,13 +47,13 @@ pub fn face_job(j: usize, v: &[u64], file: &[u8], uses: &mut [u16], lens: &mut [
     ensures { λ _. ⌜ now (uses .exit) ≡ sets (now (uses .entry)) 0 (flat (faceWires j (now (v .entry)) (now (file .entry)))) ⌝ }
     ensures { λ _. ⌜ now (lens .exit) ≡ sets (now (lens .entry)) 0 (map length (faceWires j (now (v .entry)) (now (file .entry)))) ⌝ }
 {
-    let face = small(v[0]);
+    let face = saturated(v[0]);
     if j == 6 {
-        return file_glue(file, face, small(v[1]), uses, lens);
+        return file_glue(file, face, saturated(v[1]), uses, lens);
     }
     let mut wire = [0u16; 32768];
     let n = v.len() - 1;
-    put_small(&v[1..n + 1], &mut wire);
+    put_saturated(&v[1..n + 1], &mut wire, 0);
     if j == 4 {
         return file_add(file, face, &wire[0..n], uses, lens);
     }

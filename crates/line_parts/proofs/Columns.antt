@@ -12,14 +12,8 @@ use Rattle.lists.specs.Lists.{flat}
 use Rattle.pattern.proofs.Counts.{Limited, limited}
 use Rattle.pattern.specs.Checks.{countFaults}
 use Rattle.line_parts.proofs.Counts.{parts-none}
-use Rattle.line_parts.specs.Parts.{Parts, edgeRecord, faceRecord, joined, neededWords, partCounts, partsIn, partsOf, short, summed, wireLengths, wiresOf}
-
--- one more of the numbers of 16 bits
-pub small-next : (l : List ℕ) (at : ℕ) (v : List ℕ) (i : ℕ) → i < length v
-    → set (sets l at (map short (take i v))) (at + i) (short (getD v i 0)) ≡ sets l at (map short (take (i + 1) v))
-small-next l at v i h =
-    rw (map-take short i v, map-take short (i + 1) v, ← List·getD-map short v i 0)
-    (sets-next l at (map short v) i 0 (omega (arith, length-map v short)))
+use Rattle.line_parts.specs.Parts.{Parts, edgeRecord, faceRecord, joined, neededWords, partCounts, partsIn, partsOf, summed, wireLengths, wiresOf}
+use Rattle.words.specs.Words.{short}
 
 -- ---- a column
 

@@ -8,7 +8,8 @@ use lib.ListN.{drop, drop-of-length-le, getD, length, length-drop, length-map, s
 use lib.Seq.{take-all}
 use borrow.Author.Tests.{ne-eqb}
 use Rattle.lists.specs.Lists.{flat}
-use Rattle.line_parts.specs.Parts.{marked, nothing, partCounts, partsOf, short, summed, wiresOf}
+use Rattle.line_parts.specs.Parts.{marked, nothing, partCounts, partsOf, summed, wiresOf}
+use Rattle.words.specs.Words.{short}
 
 seven-cases : (P : List ℕ → Type 0) → ((a b c d e f g : ℕ) → P (a ∷ b ∷ c ∷ d ∷ e ∷ f ∷ g ∷ [])) → (ns : List ℕ) → length ns ≡ 7 → P ns
 seven-cases P h [] l = absurd (omega arith)

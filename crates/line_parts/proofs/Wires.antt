@@ -16,7 +16,8 @@ use Rattle.lists.proofs.Parts.{flat-one}
 use Rattle.lists.proofs.Sets.{sets-then}
 use Rattle.lists.specs.Lists.{flat}
 use Rattle.text.specs.Text.{front}
-use Rattle.line_parts.specs.Parts.{marked, short, wireLengths, wiresIn}
+use Rattle.line_parts.specs.Parts.{marked, wireLengths, wiresIn}
+use Rattle.words.specs.Words.{short}
 
 -- ---- one value more
 

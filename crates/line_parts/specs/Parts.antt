@@ -7,7 +7,7 @@ use lib.ListN.{drop, getD, length, take}
 use Rattle.lists.specs.Lists.{flat, pick}
 use Rattle.pattern.specs.Checks.{countFaults}
 use Rattle.text.specs.Text.{front}
-use Rattle.words.specs.Words.{bytes16, bytes64}
+use Rattle.words.specs.Words.{bytes16, bytes64, short}
 
 -- how many words must be there after the first
 unfoldable pub neededWords : ℕ → ℕ
@@ -42,9 +42,7 @@ joined p q = record {
 abbrev pub partCounts : Parts → List ℕ
 partCounts p = length (p .points) ∷ length (p .edges) / 20 ∷ length (p .uses) ∷ length (p .wires) ∷ length (p .faces) / 4 ∷ length (p .shells) ∷ length (p .listings) ∷ []
 
--- a number above 65,535 names nothing, as 65,535 does; a length above it passes a limit, as 65,535 does
-abbrev pub short : ℕ → ℕ
-short n = min n 65535
+-- `short`: a number above 65,535 names nothing, as 65,535 does; a length above it passes a limit, as 65,535 does
 
 -- the uses before the first word `wire`, and those after each
 unfoldable pub marked : List ℕ → List (List ℕ)

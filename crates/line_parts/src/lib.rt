@@ -6,9 +6,12 @@ ghost use lib.ListN.{length, set};
 ghost use lib.Seq.{sets};
 ghost use Rattle.lists.specs.Lists.{flat};
 ghost use Rattle.pattern.specs.Checks.{countFaults};
-ghost use Rattle.line_parts.specs.Parts.{edgeRecord, faceRecord, joined, neededWords, partCounts, partsIn, partsOf, short, summed, wireLengths, wiresIn};
+ghost use Rattle.line_parts.specs.Parts.{edgeRecord, faceRecord, joined, neededWords, partCounts, partsIn, partsOf, summed, wireLengths, wiresIn};
+ghost use Rattle.words.specs.Words.{short};
+use words::put_saturated;
 use words::put_u16;
 use words::put_u64;
+use words::saturated;
 
 // How many words a line of kind k must have after the first.
 pub fn needed(k: usize) -> usize
@@ -23,13 +26,7 @@ pub fn needed(k: usize) -> usize
     3
 }
 
-// A value as a number of 16 bits; 65,535 for a larger one.
-fn small(v: u64) -> u16
-    ensures { λ r. ⌜ r ≡ short v ⌝ }
-{
-    if v > 65535 { 65535 } else { v as u16 }
-}
-
+// A length as a number of 16 bits; 65,535 for a larger one.
 fn small_length(n: usize) -> u16
     ensures { λ r. ⌜ r ≡ short n ⌝ }
 {
@@ -120,7 +117,7 @@ fn add_wires(v: &[u64], uses: &mut [u16], used: usize, wires: &mut [u16], wired:
             w += 1;
             size = 0;
         } else if w > wired {
-            uses[u] = small(v[i]);
+            uses[u] = saturated(v[i]);
             u += 1;
             size += 1;
             wires[w - 1] = small_length(size);
@@ -146,26 +143,14 @@ fn add_shell(count: usize, shells: &mut [u16], n: usize)
     shells[n] = small_length(count);
 }
 
-// Writes numbers of 16 bits.
-fn add_small(v: &[u64], out: &mut [u16], at: usize)
-    requires { ⌜ at + length (now v) ≤ length (now out) ⌝ }
-    ensures { λ _. ⌜ now (out .exit) ≡ sets (now (out .entry)) at (map short (now (v .entry))) ⌝ }
-{
-    let mut i: usize = 0;
-    while i < v.len() {
-        out[at + i] = small(v[i]);
-        i += 1;
-    }
-}
-
 // Writes the record of an edge, as edge n.
 fn add_edge(v: &[u64], edges: &mut [u8], n: usize)
     requires { ⌜ (8 ≤ length (now v)) × (20 * n + 20 ≤ length (now edges)) ⌝ }
     ensures { λ _. ⌜ now (edges .exit) ≡ sets (now (edges .entry)) (20 * n) (edgeRecord (now (v .entry))) ⌝ }
 {
     let at = 20 * n;
-    put_u16(edges, at, small(v[2]));
-    put_u16(edges, at + 2, small(v[4]));
+    put_u16(edges, at, saturated(v[2]));
+    put_u16(edges, at + 2, saturated(v[4]));
     put_u64(edges, at + 4, v[6]);
     put_u64(edges, at + 12, v[7]);
 }
@@ -177,7 +162,7 @@ fn add_face(wires: usize, surface: u64, faces: &mut [u8], n: usize)
 {
     let at = 4 * n;
     put_u16(faces, at, small_length(wires));
-    put_u16(faces, at + 2, small(surface));
+    put_u16(faces, at + 2, saturated(surface));
 }
 
 // Adds what a line of kind k with these values says to the columns.
@@ -212,6 +197,6 @@ pub fn add_values(
     }
     if k == 4 {
         add_shell(n - 2, shells, counts[5]);
-        add_small(&v[2..n], listings, counts[6]);
+        put_saturated(&v[2..n], listings, counts[6]);
     }
 }

@@ -21,9 +21,9 @@ use Rattle.lists.proofs.Laws.{cases}
 use Rattle.lists.proofs.Parts.{all-place}
 use Rattle.lists.specs.Lists.{has, only, unless}
 use Rattle.pattern.specs.Contents.{Content}
-use Rattle.endings.specs.Endings.{endingOf, endsAt}
+use Rattle.corners.specs.Endings.{endingOf, endsAt}
 use Rattle.remove_vertex.specs.Removals.{OfEdges, nearFaults, pairing, removal}
-use Rattle.endings.specs.declared.Ending.{Ending}
+use Rattle.corners.specs.declared.Ending.{Ending}
 use Rattle.remove_vertex.specs.declared.Pairing.{Pairing}
 use Rattle.remove_vertex.specs.declared.Pairing.the-variants.{Found, Not as Pair·Not}
 use Rattle.remove_vertex.specs.declared.Removal.the-variants.{Joins, Not}

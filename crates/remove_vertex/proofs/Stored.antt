@@ -29,9 +29,9 @@ use Rattle.pattern.proofs.Passed.{content-passed, pattern-passed}
 use Rattle.pattern.specs.Checks.{contentFaults, outlines, recordFaults}
 use Rattle.pattern.specs.Contents.{Content, content}
 use Rattle.pattern.specs.declared.Pattern.{Pattern}
-use Rattle.endings.specs.Tables.{Paired, Tables}
+use Rattle.corners.specs.Tables.{Paired, Tables}
 use Rattle.corners.specs.Corners.{fit, removedWire}
-use Rattle.endings.specs.Endings.{endingOf, endsAt}
+use Rattle.corners.specs.Endings.{endingOf, endsAt}
 use Rattle.corners.specs.declared.Corner.{Corner}
 use Rattle.remove_vertex.proofs.Removals.{ending-inside, pairing-found, pairing-not}
 use Rattle.remove_vertex.specs.Removals.{cornerIn, cornerLent, nearFaults, pairEdge, pairStored, pairWires, pairing, removal}
@@ -39,7 +39,7 @@ use Rattle.remove_vertex.specs.declared.Pairing.{Pairing}
 use Rattle.remove_vertex.specs.declared.Pairing.the-variants.{Found, Not as Pair·Not}
 use Rattle.remove_vertex.specs.declared.Removal.{Removal}
 use Rattle.remove_vertex.specs.declared.Removal.the-variants.{Not}
-use Rattle.endings.specs.declared.Ending.{Ending}
+use Rattle.corners.specs.declared.Ending.{Ending}
 use Rattle.corners.proofs.Wires.{length-each}
 use Rattle.shell.specs.Shells.{listingsOf}
 use Rattle.shell_edits.proofs.Storage.{seven-are}

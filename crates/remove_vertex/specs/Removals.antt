@@ -2,7 +2,7 @@
 use Prim.Native.Nat.{_<_, ℕ}
 use mathlib.Core.List.{List, [], map, _∷_, _++_}
 use lib.ListN.{getD, length, take}
-use Rattle.endings.specs.declared.Ending.{Ending}
+use Rattle.corners.specs.declared.Ending.{Ending}
 use mathlib.Core.Bool.{_&&_, _||_, not}
 use mathlib.Core.Path.{_≡_}
 use lib.Dec.{leb, ltb}

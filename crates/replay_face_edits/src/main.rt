@@ -8,13 +8,13 @@ use forms::Matched;
 use forms::NUMBER;
 use forms::SIGNED;
 use forms::put_values;
-use job_edits::put_small;
 use job_lines::put_done;
 use libc::STDOUT_FILENO;
 use text::line_end;
 use text::name_of;
 use text::word_end;
 use words::index;
+use words::put_saturated;
 use words::sum_of;
 use wuzsanget::wuzsanget_add_boundary;
 use wuzsanget::wuzsanget_cut_by_edge;
@@ -150,7 +150,7 @@ fn replay_line(file: &[u8], line: &[u8]) {
     let mut small = [0u16; 2048];
     let m = put_values(line, end, &kinds, SIGNED, &mut values);
     if is_edit(name, m) {
-        put_small(&values, &mut small);
+        put_saturated(&values, &mut small, 0);
         replay_values(name, &small, m.words, file);
     }
 }

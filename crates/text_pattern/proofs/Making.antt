@@ -14,7 +14,7 @@ use Rattle.errors.specs.declared.Check.the-variants.{Accepted, Refused as Check
 use Rattle.errors.specs.declared.Refusal.{Refusal}
 use Rattle.line_parts.specs.Parts.{Parts, nothing}
 use Rattle.lists.proofs.Sets.{take-sets}
-use Rattle.parts_file.specs.PartsFile.{fileOf}
+use Rattle.text_pattern.specs.PartsFile.{fileOf}
 use Rattle.pattern_file.specs.File.{fileFaults}
 use Rattle.text.specs.Text.{lines}
 use Rattle.text_pattern.proofs.Lines.{sliced}

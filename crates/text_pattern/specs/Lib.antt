@@ -1,1 +1,2 @@
+pub mod PartsFile
 pub mod TextPattern

@@ -10,7 +10,7 @@ use Rattle.errors.specs.declared.Refusal.{Refusal}
 use Rattle.line_forms.specs.LineForms.{bodyCounted, lineKind, lineValues}
 use Rattle.line_parts.specs.Parts.{Parts, joined, neededWords, nothing, partCounts, partsOf}
 use Rattle.lists.specs.Lists.{pick, unless}
-use Rattle.parts_file.specs.PartsFile.{fileOf}
+use Rattle.text_pattern.specs.PartsFile.{fileOf}
 use Rattle.pattern.specs.Checks.{countFaults}
 use Rattle.pattern_file.specs.File.{fileFaults}
 use Rattle.text.specs.Text.{lines, words}

@@ -6,14 +6,14 @@ use native.Mathlib.Omega.{arith}
 use lib.ListN.{length}
 use borrow.Author.Tests.{ne-eqb}
 use Rattle.line_forms.specs.LineForms.{lineKind, lineValues}
-use Rattle.line_parts.specs.Parts.{Parts, faceParts, marked, partsOf, short, wireLengths}
+use Rattle.line_parts.specs.Parts.{Parts, faceParts, marked, partsOf, wireLengths}
 use Rattle.lists.proofs.Count.{All, all-weaker}
 use Rattle.lists.proofs.Parts.{map-same}
 use Rattle.lists.specs.Lists.{flat}
 use Rattle.text_pattern.specs.TextPattern.{lineParts}
 use Rattle.text_round_trip.proofs.Lines.{Small, edgeWords, faceWords, marks, pointWords, shellWords}
 use Rattle.text_round_trip.proofs.Values.{edge-kind, edge-values, face-kind, face-values, point-kind, point-values, shell-kind, shell-values}
-use Rattle.words.specs.Words.{bytes16, bytes64}
+use Rattle.words.specs.Words.{bytes16, bytes64, short}
 
 short-is : (n : ℕ) → n < 65536 → short n ≡ n
 short-is n h = omega arith

@@ -17,7 +17,7 @@ use Rattle.pattern.proofs.Counts.{Limited}
 use Rattle.pattern.specs.Checks.{countFaults, outlines}
 use Rattle.pattern.specs.Contents.{Content, countsOf}
 use Rattle.pattern_file.specs.File.{edgeBytes, faceBytes, fileBytes, tableBytes}
-use Rattle.parts_file.specs.PartsFile.{fileOf}
+use Rattle.text_pattern.specs.PartsFile.{fileOf}
 use Rattle.text_round_trip.proofs.States.{lists, partly, split-lengths}
 use Rattle.text_round_trip.proofs.Weights.{weight}
 use Rattle.words.specs.Words.{bytes16, bytes32}

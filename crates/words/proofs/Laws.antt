@@ -1,14 +1,16 @@
 -- A number is read from the bytes that were written for it, and bytes are written again as they were read.
 use Prim.Native.Nat.{_%_, _+_, _/_, _<_, _≤_, suc, ℕ}
-use mathlib.Core.List.{List, [], _++_, _∷_}
+use mathlib.Core.List.{List, [], _++_, _∷_, map}
 use mathlib.Core.Path.{_∙_, _≡_, ap, sym}
 use native.Mathlib.Nat.{add-zero}
 use native.Mathlib.Numerals.{add-one}
 use native.Mathlib.Omega.{arith}
-use lib.ListN.{drop, getD, length, take}
-use lib.Seq.{drop-cons, getD-drop}
+use lib.ListN.{List·getD-map, drop, getD, length, length-map, set, take}
+use lib.Seq.{drop-cons, getD-drop, sets}
 use Rattle.lists.proofs.Flat.{after, take-two}
-use Rattle.words.specs.Words.{bytes16, bytes32, bytes64, le16, le32, le64}
+use Rattle.lists.proofs.Laws.{map-take}
+use Rattle.lists.proofs.Sets.{sets-next}
+use Rattle.words.specs.Words.{bytes16, bytes32, bytes64, le16, le32, le64, short}
 
 abbrev pub Bytes : List ℕ → Type 0
 Bytes s = (k : ℕ) → getD s k 0 < 256
@@ -72,3 +74,10 @@ bytes64-of s at b h =
     (λ i. bytes32 (lo i) ++ bytes32 (hi i))
     ∙ (λ i. bytes32-of s at b (omega arith) i ++ bytes32-of s (at + 4) b (omega arith) i)
     ∙ take-two s at 4 4
+
+-- one more of the numbers of 16 bits
+pub short-next : (l : List ℕ) (at : ℕ) (v : List ℕ) (i : ℕ) → i < length v
+    → set (sets l at (map short (take i v))) (at + i) (short (getD v i 0)) ≡ sets l at (map short (take (i + 1) v))
+short-next l at v i h =
+    rw (map-take short i v, map-take short (i + 1) v, ← List·getD-map short v i 0)
+    (sets-next l at (map short v) i 0 (omega (arith, length-map v short)))

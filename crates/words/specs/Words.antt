@@ -1,5 +1,5 @@
 -- Little-endian numbers of two, four and eight bytes.
-use Prim.Native.Nat.{ℕ, _+_, _*_, _/_, _%_}
+use Prim.Native.Nat.{ℕ, _+_, _*_, _/_, _%_, min}
 use mathlib.Core.List.{List, [], _∷_, _++_}
 use lib.ListN.{getD}
 
@@ -22,3 +22,7 @@ bytes32 n = bytes16 (n % 65536) ++ bytes16 (n / 65536)
 
 abbrev pub bytes64 : ℕ → List ℕ
 bytes64 n = bytes32 (n % 4294967296) ++ bytes32 (n / 4294967296)
+
+-- as a number of 16 bits: 65,535 for a larger one
+abbrev pub short : ℕ → ℕ
+short n = min n 65535

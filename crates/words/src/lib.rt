@@ -1,10 +1,11 @@
 // Little-endian numbers in slices of bytes; columns of numbers: copies, sums.
 ghost use mathlib.Core.Path.{_≡_};
+ghost use mathlib.Core.List.{map};
 ghost use Prim.Native.Nat.{_+_, _≤_, _<_};
 ghost use lib.ListN.{length, take};
 ghost use lib.Seq.{sets};
 ghost use Rattle.lists.specs.Lists.{sum};
-ghost use Rattle.words.specs.Words.{le16, le32, le64, bytes16, bytes32, bytes64};
+ghost use Rattle.words.specs.Words.{le16, le32, le64, bytes16, bytes32, bytes64, short};
 
 fn wide(x: u8) -> u64
     ensures { λ r. ⌜ (r ≡ x) × (r < 256) ⌝ }
@@ -85,6 +86,25 @@ pub fn copy_u16s(from: &[u16], out: &mut [u16], at: usize)
     let mut i: usize = 0;
     while i < from.len() {
         out[at + i] = from[i];
+        i += 1;
+    }
+}
+
+// A number as one of 16 bits; 65,535 for a larger one.
+pub fn saturated(n: u64) -> u16
+    ensures { λ r. ⌜ r ≡ short n ⌝ }
+{
+    if n > 65535 { 65535 } else { n as u16 }
+}
+
+// Writes numbers as ones of 16 bits from `at` on.
+pub fn put_saturated(ns: &[u64], out: &mut [u16], at: usize)
+    requires { ⌜ at + length (now ns) ≤ length (now out) ⌝ }
+    ensures { λ _. ⌜ now (out .exit) ≡ sets (now (out .entry)) at (map short (now (ns .entry))) ⌝ }
+{
+    let mut i: usize = 0;
+    while i < ns.len() {
+        out[at + i] = saturated(ns[i]);
         i += 1;
     }
 }

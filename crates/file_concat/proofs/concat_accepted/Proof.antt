@@ -6,7 +6,7 @@ use lib.ListN.{getD, length}
 use Prim.Native.Nat.{ℕ}
 use Rattle.answers.specs.Values.{refused}
 use Rattle.edited_file.proofs.Counted.{edges-counted, table-right}
-use Rattle.file_edge.proofs.Spliced.{edges-are}
+use Rattle.edited_file.proofs.Spliced.{edges-are}
 use Rattle.file_concat.proofs.ConcatFile.{joined-answer, joined-bytes, joined-room, joined-span, not-joined}
 use Rattle.pattern.specs.Contents.{countsOf}
 use Rattle.pattern_file.specs.File.{fileContent}

@@ -4,7 +4,7 @@ use lib.ListN.{getD}
 use borrow.Author.Needs.{needs}
 use Rattle.concat.proofs.Judged.{concat-judged, first-unnamed, second-unnamed}
 use Rattle.edited_file.proofs.Counted.{table-right}
-use Rattle.file_edge.proofs.Spliced.{edges-are}
+use Rattle.edited_file.proofs.Spliced.{edges-are}
 use Rattle.pattern_file.specs.File.{fileContent}
 use Rattle.file_table.proofs.Laws.{table-long}
 use Rattle.file_concat.proofs.join_uses.Statement.{statement}

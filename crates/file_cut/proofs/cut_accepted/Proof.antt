@@ -9,7 +9,7 @@ use Rattle.answers.specs.Values.{refused}
 use Rattle.edge.specs.declared.Edge.{Edge}
 use Rattle.edited_file.proofs.Counted.{table-right}
 use Rattle.file_cut.proofs.CutFile.{cut-answered, cut-names, cut-refused, cut-unnamed, cut-written, edge-stored, parted-room, parted-spans}
-use Rattle.file_edge.proofs.Spliced.{file-lent}
+use Rattle.edited_file.proofs.Spliced.{file-lent}
 use Rattle.pattern.specs.Contents.{content, stored}
 use Rattle.pattern_file.specs.File.{fileContent}
 use Rattle.file_table.proofs.Laws.{table-long}

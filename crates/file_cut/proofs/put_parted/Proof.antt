@@ -11,7 +11,7 @@ use Rattle.edge.specs.declared.Edge.{Edge}
 use Rattle.edit_answers.specs.declared.CutAnswer.the-variants.{Cut}
 use Rattle.edited_file.proofs.Counted.{edges-counted, table-right}
 use Rattle.file_cut.proofs.CutFile.{same-answer, same-bytes}
-use Rattle.file_edge.proofs.Spliced.{edges-are}
+use Rattle.edited_file.proofs.Spliced.{edges-are}
 use Rattle.pattern.specs.Contents.{countsOf}
 use Rattle.pattern_file.specs.File.{fileContent}
 use Rattle.file_table.proofs.Laws.{counts-of-content, limits}

@@ -6,7 +6,7 @@ use lib.ListN.{getD}
 use borrow.Author.Needs.{needs}
 use Rattle.edge.specs.Uses.{edgeNumber}
 use Rattle.file_remove.proofs.RemoveFile.{edge-stored}
-use Rattle.file_edge.proofs.Spliced.{file-lent}
+use Rattle.edited_file.proofs.Spliced.{file-lent}
 use Rattle.pattern.specs.Contents.{content, stored}
 use Rattle.pattern_file.specs.File.{fileContent}
 use Rattle.remove_vertex.proofs.Removals.{of-edges}

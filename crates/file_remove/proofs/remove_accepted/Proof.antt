@@ -7,7 +7,7 @@ use borrow.Author.Needs.{needs}
 use Rattle.answers.specs.Values.{refused}
 use Rattle.edited_file.proofs.Counted.{edges-counted, table-right}
 use Rattle.file_remove.proofs.RemoveFile.{removal-refused, removed-answer, removed-bytes, removed-few, removed-long, removed-room, removed-span}
-use Rattle.file_edge.proofs.Spliced.{edges-are, file-lent}
+use Rattle.edited_file.proofs.Spliced.{edges-are, file-lent}
 use Rattle.pattern.specs.Contents.{stored}
 use Rattle.pattern_file.specs.File.{fileContent}
 use Rattle.file_table.proofs.Laws.{table-long}

@@ -12,11 +12,11 @@ use Rattle.job_edits.proofs.shell_job.Tie as tie
 shared-slice-read-file-cut : tie.Need-shared-slice-read-file-cut
 shared-slice-read-file-cut c = omega (arith, ap length (kinds-cut (c .before .before .before .before .before .args .j) (c .before .if1 .taken)))
 
-shared-slice-read-small : tie.Need-shared-slice-read-small
-shared-slice-read-small c = omega (arith, ap length (kinds-cut (c .before .before .before .before .before .before .args .j) (c .before .before .if1 .taken)))
+shared-slice-read-saturated : tie.Need-shared-slice-read-saturated
+shared-slice-read-saturated c = omega (arith, ap length (kinds-cut (c .before .before .before .before .before .before .args .j) (c .before .before .if1 .taken)))
 
-shared-slice-read-small-2 : tie.Need-shared-slice-read-small-2
-shared-slice-read-small-2 c = omega (arith, ap length (kinds-cut (c .before .before .before .before .before .before .before .before .args .j) (c .before .before .before .before .if1 .taken)))
+shared-slice-read-saturated-2 : tie.Need-shared-slice-read-saturated-2
+shared-slice-read-saturated-2 c = omega (arith, ap length (kinds-cut (c .before .before .before .before .before .before .before .before .args .j) (c .before .before .before .before .if1 .taken)))
 
 shared-slice-read-file-cut-2 : tie.Need-shared-slice-read-file-cut-2
 shared-slice-read-file-cut-2 c = omega (arith, ap length (kinds-cut (c .before .before .before .before .before .before .before .before .before .before .args .j) (c .before .before .before .before .before .before .if1 .taken)))
@@ -24,35 +24,35 @@ shared-slice-read-file-cut-2 c = omega (arith, ap length (kinds-cut (c .before .
 returns : tie.Need-returns
 returns c =
     let a = c .before .before .before .before .before .before .before .before .before .before .before .before .before .before .args in
-    let e = cut-is (a .j) (a .v .now) (a .file .now) (a .out .now) _ _ (c .before .before .before .before .before .before .before .before .before .before .if1 .taken) (c .before .before .before .before .before .before .before .small .ensures) (c .before .before .before .before .before .small2 .ensures) in
+    let e = cut-is (a .j) (a .v .now) (a .file .now) (a .out .now) _ _ (c .before .before .before .before .before .before .before .before .before .before .if1 .taken) (c .before .before .before .before .before .before .before .saturated .ensures) (c .before .before .before .before .before .saturated2 .ensures) in
     shell-made e _ _ (c .before .before .file-cut .ensures)
 
 shared-slice-read-file-remove : tie.Need-shared-slice-read-file-remove
 shared-slice-read-file-remove c = omega (arith, ap length (kinds-remove (c .before .before .before .before .before .before .args .j) (c .before .if2 .taken)))
 
-shared-slice-read-small-3 : tie.Need-shared-slice-read-small-3
-shared-slice-read-small-3 c = omega (arith, ap length (kinds-remove (c .before .before .before .before .before .before .before .args .j) (c .before .before .if2 .taken)))
+shared-slice-read-saturated-3 : tie.Need-shared-slice-read-saturated-3
+shared-slice-read-saturated-3 c = omega (arith, ap length (kinds-remove (c .before .before .before .before .before .before .before .args .j) (c .before .before .if2 .taken)))
 
 returns-2 : tie.Need-returns-2
 returns-2 c =
     let a = c .before .before .before .before .before .before .before .before .before .before .before .before .args in
-    let e = remove-is (a .j) (a .v .now) (a .file .now) (a .out .now) _ (c .before .before .before .before .before .before .before .before .if1 .left) (c .before .before .before .before .before .before .before .if2 .taken) (c .before .before .before .before .small3 .ensures) in
+    let e = remove-is (a .j) (a .v .now) (a .file .now) (a .out .now) _ (c .before .before .before .before .before .before .before .before .if1 .left) (c .before .before .before .before .before .before .before .if2 .taken) (c .before .before .before .before .saturated3 .ensures) in
     shell-made e _ _ (c .before .before .file-remove .ensures)
 
-shared-slice-read-small-4 : tie.Need-shared-slice-read-small-4
-shared-slice-read-small-4 c = omega (arith, ap length (kinds-two (c .before .before .before .before .before .before .args .j) (inl (omega arith))))
+shared-slice-read-saturated-4 : tie.Need-shared-slice-read-saturated-4
+shared-slice-read-saturated-4 c = omega (arith, ap length (kinds-two (c .before .before .before .before .before .before .args .j) (inl (omega arith))))
 
-shared-slice-read-small-5 : tie.Need-shared-slice-read-small-5
-shared-slice-read-small-5 c = omega (arith, ap length (kinds-two (c .before .before .before .before .before .before .before .before .args .j) (inl (omega arith))))
+shared-slice-read-saturated-5 : tie.Need-shared-slice-read-saturated-5
+shared-slice-read-saturated-5 c = omega (arith, ap length (kinds-two (c .before .before .before .before .before .before .before .before .args .j) (inl (omega arith))))
 
 returns-3 : tie.Need-returns-3
 returns-3 c =
     let a = c .before .before .before .before .before .before .before .before .before .before .before .before .before .args in
-    let e = concat-is (a .j) (a .v .now) (a .file .now) (a .out .now) _ _ (c .before .before .before .before .before .before .before .before .before .if1 .left) (c .before .before .before .before .before .before .before .before .if2 .left) (c .before .before .before .before .before .before .small4 .ensures) (c .before .before .before .before .small5 .ensures) in
+    let e = concat-is (a .j) (a .v .now) (a .file .now) (a .out .now) _ _ (c .before .before .before .before .before .before .before .before .before .if1 .left) (c .before .before .before .before .before .before .before .before .if2 .left) (c .before .before .before .before .before .before .saturated4 .ensures) (c .before .before .before .before .saturated5 .ensures) in
     shell-made e _ _ (c .before .before .file-concat .ensures)
 
 pub shell-job-spec : {M : Type 1} → statement M
-shell-job-spec = tie.close (tie.spec shared-slice-read-file-cut shared-slice-read-small (λ c κs. search needs) shared-slice-read-small-2
+shell-job-spec = tie.close (tie.spec shared-slice-read-file-cut shared-slice-read-saturated (λ c κs. search needs) shared-slice-read-saturated-2
     (λ c κs. search needs) shared-slice-read-file-cut-2 (λ c κs. search needs) (λ c. search needs) returns shared-slice-read-file-remove
-    shared-slice-read-small-3 (λ c κs. search needs) (λ c κs. search needs) (λ c. search needs) returns-2 shared-slice-read-small-4
-    (λ c κs. search needs) shared-slice-read-small-5 (λ c κs. search needs) (λ c κs. search needs) (λ c. search needs) returns-3)
+    shared-slice-read-saturated-3 (λ c κs. search needs) (λ c κs. search needs) (λ c. search needs) returns-2 shared-slice-read-saturated-4
+    (λ c κs. search needs) shared-slice-read-saturated-5 (λ c κs. search needs) (λ c κs. search needs) (λ c. search needs) returns-3)

@@ -5,8 +5,7 @@ use mathlib.Core.Path.{_∙_, refl}
 use lib.ListN.{getD}
 use borrow.Author.Needs.{needs}
 use Rattle.lists.proofs.Sets.{sets-then}
-use Rattle.words.specs.Words.{bytes16, bytes64}
-use Rattle.line_parts.specs.Parts.{short}
+use Rattle.words.specs.Words.{bytes16, bytes64, short}
 use Rattle.line_parts.proofs.add_edge.Statement.{statement}
 use Rattle.line_parts.proofs.add_edge.Tie as tie
 
@@ -23,8 +22,8 @@ returns c =
     sets-then l at (front ++ back ++ t0) t1 (at + 12) refl
     (sets-then l at (front ++ back) t0 (at + 4) refl
     (sets-then l at front back (at + 2) refl
-    (c .before .before .before .before .before .before .before .before .before .before .before .before .before .before .before .before .before .before .put-u16 .ensures ∙ rw (c .before .before .before .before .before .before .before .before .before .before .before .before .before .before .before .before .before .before .before .small .ensures))
-    (c .before .before .before .before .before .before .before .before .before .before .before .before .put-u162 .ensures ∙ rw (c .before .before .before .before .before .before .before .before .before .before .before .before .before .small2 .ensures)))
+    (c .before .before .before .before .before .before .before .before .before .before .before .before .before .before .before .before .before .before .put-u16 .ensures ∙ rw (c .before .before .before .before .before .before .before .before .before .before .before .before .before .before .before .before .before .before .before .saturated .ensures))
+    (c .before .before .before .before .before .before .before .before .before .before .before .before .put-u162 .ensures ∙ rw (c .before .before .before .before .before .before .before .before .before .before .before .before .before .saturated2 .ensures)))
     (c .before .before .before .before .before .before .before .put-u64 .ensures))
     (c .before .before .put-u642 .ensures)
 

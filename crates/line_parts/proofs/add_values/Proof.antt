@@ -66,21 +66,21 @@ sub-add-shell c = let m = shell-words (adding (c .before .before .before .before
 add-shell-requires : tie.Need-add-shell-requires
 add-shell-requires c κs = let m = shell-room (adding (c .before .before .before .before .before .before)) (c .before .if4 .taken) in search needs
 
-sub-add-small : tie.Need-sub-add-small
-sub-add-small c = let m = shell-words (adding (c .before .before .before .before .before .before .before)) (c .before .before .if4 .taken) in search needs
+sub-put-saturated : tie.Need-sub-put-saturated
+sub-put-saturated c = let m = shell-words (adding (c .before .before .before .before .before .before .before)) (c .before .before .if4 .taken) in search needs
 
-part-add-small-start : tie.Need-part-add-small-start
-part-add-small-start c = let m = shell-words (adding (c .before .before .before .before .before .before .before)) (c .before .before .if4 .taken) in search needs
+part-put-saturated-start : tie.Need-part-put-saturated-start
+part-put-saturated-start c = let m = shell-words (adding (c .before .before .before .before .before .before .before)) (c .before .before .if4 .taken) in search needs
 
-add-small-requires : tie.Need-add-small-requires
-add-small-requires c κs =
+put-saturated-requires : tie.Need-put-saturated-requires
+put-saturated-requires c κs =
     let m = shell-room (adding (c .before .before .before .before .before .before .before .before .before)) (c .before .before .before .before .if4 .taken) in
     rw (rest-whole (c .before .before .before .before .before .before .before .before .before .args .v .now) 2) (search needs)
 
 returns-4 : tie.Need-returns-4
 returns-4 c =
     let w = rest-whole (c .before .before .before .before .before .before .before .before .before .before .args .v .now) 2 in
-    shell-joined (adding (c .before .before .before .before .before .before .before .before .before .before)) (columns (c .before .before .before .before .before .before .before .before .before .before)) _ _ (c .before .before .before .before .before .if4 .taken) (search needs) (search needs) (c .before .before .before .add-shell .ensures) (rw w at (c .add-small .ensures))
+    shell-joined (adding (c .before .before .before .before .before .before .before .before .before .before)) (columns (c .before .before .before .before .before .before .before .before .before .before)) _ _ (c .before .before .before .before .before .if4 .taken) (search needs) (search needs) (c .before .before .before .add-shell .ensures) (rw w at (c .put-saturated .ensures))
 
 returns-5 : tie.Need-returns-5
 returns-5 c = none-joined (adding (c .before .before .before .before .before)) (columns (c .before .before .before .before .before)) (c .before .before .before .if1 .left) (c .before .before .if2 .left) (c .before .if3 .left) (c .if4 .left)
@@ -89,4 +89,4 @@ pub add-values-spec : {M : Type 1} → statement M
 add-values-spec = tie.close (tie.spec shared-slice-read-add-point (λ c. search needs) add-point-requires returns (λ c. search needs)
     add-edge-requires returns-2 sub-add-wires part-add-wires-start (λ c. search needs) (λ c. search needs) (λ c. search needs)
     add-wires-requires shared-slice-read-add-face (λ c. search needs) add-face-requires returns-3 sub-add-shell (λ c. search needs)
-    add-shell-requires sub-add-small part-add-small-start (λ c. search needs) (λ c. search needs) add-small-requires returns-4 returns-5)
+    add-shell-requires sub-put-saturated part-put-saturated-start (λ c. search needs) (λ c. search needs) put-saturated-requires returns-4 returns-5)

@@ -4,8 +4,8 @@ use mathlib.Core.Path.{_∙_, ap, refl, sym}
 use native.Mathlib.Omega.{arith}
 use borrow.Author.Needs.{needs}
 use Rattle.corners.specs.declared.Corner.{Corner}
-use Rattle.endings.specs.Endings.{endingOf}
-use Rattle.endings.specs.declared.Ending.{Ending}
+use Rattle.corners.specs.Endings.{endingOf}
+use Rattle.corners.specs.declared.Ending.{Ending}
 use Rattle.pattern.specs.Contents.{content}
 use Rattle.pattern.specs.declared.Pattern.{Pattern}
 use Rattle.remove_vertex.proofs.Removals.{is-shared, many-wires, near-are, no-point, no-shell, no-wire, positive}

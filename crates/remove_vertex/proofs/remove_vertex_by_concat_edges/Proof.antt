@@ -13,7 +13,7 @@ use Rattle.pattern.specs.Checks.{contentFaults, countFaults, patternFaults}
 use Rattle.pattern.specs.Contents.{content}
 use Rattle.remove_vertex.proofs.Removals.{joins-whole, not-joint}
 use Rattle.remove_vertex.proofs.Stored.{removal-room}
-use Rattle.endings.specs.Endings.{endingOf}
+use Rattle.corners.specs.Endings.{endingOf}
 use Rattle.remove_vertex.specs.Removals.{pairEdge, pairStored}
 use Rattle.shell_edits.proofs.RemoveTheorem.{remove-pattern-accepted}
 use Rattle.shell_edits.specs.Answers.{afterRemove, nextEdge, storedIn}

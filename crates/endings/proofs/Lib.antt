@@ -1,2 +1,0 @@
-pub mod Endings
-pub mod Flagging
