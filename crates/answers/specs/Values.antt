@@ -1,17 +1,10 @@
 -- The answers as numbers: how a call ended (0 done, 1 refused by the reading checks, 2 refused by the call), document 01's number of the refusal, the values.
 use Prim.Native.Nat.{ℕ}
-use Rattle.lists.specs.Lists.{pick}
+use lib.ListN.{getD}
 use Rattle.answers.specs.declared.Answer.{Answer}
-use Rattle.shell_calls.specs.declared.Conditioned.{Conditioned}
-use Rattle.shell_calls.specs.declared.Conditioned.the-variants.{Is as Conditioned·Is, NoShell as Conditioned·NoShell, Refused as Conditioned·Refused}
-use Rattle.group_calls.specs.declared.Connected.{Connected}
-use Rattle.group_calls.specs.declared.Connected.the-variants.{Is as Connected·Is, NoShell as Connected·NoShell, Refused as Connected·Refused}
-use Rattle.group_calls.specs.declared.Grouped.{Grouped}
-use Rattle.group_calls.specs.declared.Grouped.the-variants.{Found as Grouped·Found, NoShell as Grouped·NoShell, Refused as Grouped·Refused}
-use Rattle.shell_calls.specs.declared.Opened.{Opened}
-use Rattle.shell_calls.specs.declared.Opened.the-variants.{Found as Opened·Found, NoShell as Opened·NoShell, Refused as Opened·Refused}
-use Rattle.group_calls.specs.declared.Points.{Points}
-use Rattle.group_calls.specs.declared.Points.the-variants.{Found as Points·Found, NoShell as Points·NoShell, Refused as Points·Refused}
+use Rattle.calls.specs.Calls.{numberAndValues}
+use Rattle.calls.specs.declared.FigureAnswer.{FigureAnswer}
+use Rattle.calls.specs.declared.FigureAnswer.the-variants.{Found, NoShell, Refused as Figure·Refused}
 use Rattle.edit_answers.specs.Answers.{editNumber, faceEditNumber}
 use Rattle.edit_answers.specs.declared.CutAnswer.{CutAnswer}
 use Rattle.edit_answers.specs.declared.CutAnswer.the-variants.{Cut, Not as Cut·Not, Refused as Cut·Refused}
@@ -60,30 +53,17 @@ writtenValues NoSpace = refused 17 0
 
 -- ---- reports
 
-abbrev pub conditionValues : Conditioned → Answer
-conditionValues (Conditioned·Is w) = done (w .0) 0 0
-conditionValues (Conditioned·Refused f) = unread f
-conditionValues Conditioned·NoShell = refused 3 0
+-- how a call on a shell ended
+abbrev pub figureOutcome : FigureAnswer → ℕ
+figureOutcome (Found g) = 0
+figureOutcome (Figure·Refused f) = 1
+figureOutcome NoShell = 2
 
-abbrev pub openingsValues : Opened → Answer
-openingsValues (Opened·Found k m l) = done k m l
-openingsValues (Opened·Refused f) = unread f
-openingsValues Opened·NoShell = refused 3 0
-
-abbrev pub connectedValues : Connected → Answer
-connectedValues (Connected·Is b) = pick b (done 1 0 0) (done 0 0 0)
-connectedValues (Connected·Refused f) = unread f
-connectedValues Connected·NoShell = refused 3 0
-
-abbrev pub componentsValues : Grouped → Answer
-componentsValues (Grouped·Found k m) = done k m 0
-componentsValues (Grouped·Refused f) = unread f
-componentsValues Grouped·NoShell = refused 3 0
-
-abbrev pub singularValues : Points → Answer
-singularValues (Points·Found k) = done k 0 0
-singularValues (Points·Refused f) = unread f
-singularValues Points·NoShell = refused 3 0
+-- then its number, its values and 0 where it has no more
+abbrev pub figureValues : FigureAnswer → Answer
+figureValues a =
+    let values = numberAndValues a .1 in
+    record { outcome = figureOutcome a; number = numberAndValues a .0; first = getD values 0 0; second = getD values 1 0; third = getD values 2 0; fourth = 0 }
 
 abbrev pub solidValues : SolidAnswer → Answer
 solidValues Solid·Accepted = done 0 0 0

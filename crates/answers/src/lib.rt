@@ -1,7 +1,9 @@
 // Answers as numbers, for callers outside the library: how a call ended, document 01's number of the
 // refusal, and the values.
 ghost use mathlib.Core.Path.{_≡_};
-ghost use Rattle.answers.specs.Values.{checkValues, componentsValues, conditionValues, connectedValues, cutValues, done, faceValues, joinValues, openingsValues, placeValues, refused as refusedAnswer, singularValues, solidValues, unread as unreadAnswer, writtenValues};
+ghost use Rattle.answers.specs.Values.{checkValues, cutValues, done, faceValues, figureValues, joinValues, placeValues, refused as refusedAnswer, solidValues, unread as unreadAnswer, writtenValues};
+use calls::FigureAnswer;
+use calls::ShellFigure;
 use edit_answers::CutAnswer;
 use edit_answers::FaceAnswer;
 use edit_answers::JoinAnswer;
@@ -12,12 +14,7 @@ use errors::Refusal;
 use errors::body_of;
 use errors::number_of;
 use errors::record_of;
-use group_calls::Connected;
-use group_calls::Grouped;
-use group_calls::Points;
 use pattern::WirePlace;
-use shell_calls::Conditioned;
-use shell_calls::Opened;
 use solid::reason_number;
 use solid_calls::SolidAnswer;
 use words::index;
@@ -109,63 +106,26 @@ pub fn written_values(a: Written) -> Answer
     }
 }
 
-pub fn condition_values(a: Conditioned) -> Answer
-    ensures { λ r. ⌜ r ≡ conditionValues a ⌝ }
+// The figure of a shell that a call asks for.
+pub fn figure_values(a: FigureAnswer) -> Answer
+    ensures { λ r. ⌜ r ≡ figureValues a ⌝ }
 {
     match a {
-        Conditioned::Is(w) => done_with(w.0 as usize, 0, 0),
-        Conditioned::Refused(f) => unread(f),
-        Conditioned::NoShell => refused(3, 0),
-    }
-}
-
-// How many openings, their uses in all, the lookups.
-pub fn openings_values(a: Opened) -> Answer
-    ensures { λ r. ⌜ r ≡ openingsValues a ⌝ }
-{
-    match a {
-        Opened::Found(k, m, l) => done_with(k, m, l),
-        Opened::Refused(f) => unread(f),
-        Opened::NoShell => refused(3, 0),
-    }
-}
-
-// 1 if connected, else 0.
-pub fn connected_values(a: Connected) -> Answer
-    ensures { λ r. ⌜ r ≡ connectedValues a ⌝ }
-{
-    match a {
-        Connected::Is(b) => {
-            if b {
-                done_with(1, 0, 0)
-            } else {
-                done_with(0, 0, 0)
+        FigureAnswer::Found(g) => match g {
+            ShellFigure::Condition(w) => done_with(w.0 as usize, 0, 0),
+            ShellFigure::Openings(k, m, l) => done_with(k, m, l),
+            ShellFigure::Connected(b) => {
+                if b {
+                    done_with(1, 0, 0)
+                } else {
+                    done_with(0, 0, 0)
+                }
             }
-        }
-        Connected::Refused(f) => unread(f),
-        Connected::NoShell => refused(3, 0),
-    }
-}
-
-// How many components, their pairs in all.
-pub fn components_values(a: Grouped) -> Answer
-    ensures { λ r. ⌜ r ≡ componentsValues a ⌝ }
-{
-    match a {
-        Grouped::Found(k, m) => done_with(k, m, 0),
-        Grouped::Refused(f) => unread(f),
-        Grouped::NoShell => refused(3, 0),
-    }
-}
-
-// How many singular points.
-pub fn singular_values(a: Points) -> Answer
-    ensures { λ r. ⌜ r ≡ singularValues a ⌝ }
-{
-    match a {
-        Points::Found(k) => done_with(k, 0, 0),
-        Points::Refused(f) => unread(f),
-        Points::NoShell => refused(3, 0),
+            ShellFigure::Components(k, m) => done_with(k, m, 0),
+            ShellFigure::Singular(k) => done_with(k, 0, 0),
+        },
+        FigureAnswer::Refused(f) => unread(f),
+        FigureAnswer::NoShell => refused(3, 0),
     }
 }
 

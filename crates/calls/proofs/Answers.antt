@@ -1,26 +1,28 @@
--- Whether there is a shell; the arrays of a shell's figures, and what a call leaves in the lent lists.
+-- Whether there is a shell; the arrays of a shell's figures.
 use Prim.Native.Nat.{_-_, _<_, _≤_, ℕ}
 use mathlib.Core.Bool.{Bool, false, true}
 use mathlib.Core.List.{List, [], _∷_, map}
-use mathlib.Core.Path.{_∙_, _≡_, ap, refl}
+use mathlib.Core.Path.{_≡_, ap, refl}
 use native.Mathlib.Omega.{arith}
 use lib.Dec.{ltb}
-use lib.ListN.{getD, length, length-append, replicate, take}
-use lib.Seq.{sets, take-append-seam}
+use lib.ListN.{getD, length, length-append, length-map, replicate}
+use lib.Seq.{take-append-seam}
 use borrow.Author.Tests.{le-ltb, lt-ltb, ltb-true}
-use Rattle.calls.specs.Calls.{ifThere, presence, presenceOf}
+use Rattle.calls.specs.Calls.{presence, presenceOf}
 use Rattle.calls.specs.Figures.{Held}
 use Rattle.calls.specs.declared.Presence.the-variants.{NoShell, Refused, There}
-use Rattle.calls.specs.declared.Presence.{Presence}
+use Rattle.columns.specs.Columns.{columnsIn}
 use Rattle.columns.specs.Sound.{Sound}
+use Rattle.columns.specs.declared.Columns.{Columns}
 use Rattle.errors.specs.Faults.{first}
 use Rattle.errors.specs.declared.Check.the-variants.{Refused as Check·Refused}
 use Rattle.errors.specs.declared.Refusal.{Refusal}
-use Rattle.lists.specs.Lists.{flat, padded, pick}
+use Rattle.lists.specs.Lists.{padded, pick}
 use Rattle.pattern.proofs.Counts.{shells-counted}
 use Rattle.pattern.specs.Checks.{patternFaults}
 use Rattle.pattern.specs.Contents.{Content, content}
 use Rattle.pattern.specs.declared.Pattern.{Pattern}
+use Rattle.reports.specs.Figures.{Columned}
 
 -- ---- whether there is a shell
 pub presence-refused : (fs : List Refusal) (c : Content) (n : ℕ) (f : Refusal) → first fs ≡ Check·Refused f → Refused f ≡ presenceOf fs c n
@@ -50,28 +52,21 @@ module _ (p : Pattern) (n : ℕ) (h : presence p n ≡ There) where
   module _ (s : Sound p) where
     pub there-here : n < getD (p .counts) 5 0
     there-here =
-        let b = ltb n (length (content p .shells)) in
-        omega (arith, ltb-true n (length (content p .shells)) (there-picked b (rw there-fine at h)), shells-counted p (s .limits) (s .full))
+        let shells = length (content p .shells) in
+        omega (arith, ltb-true n shells (there-picked (ltb n shells) (rw there-fine at h)), shells-counted p (s .limits) (s .full))
 
--- ---- the arrays
-module _ (m : ℕ) (xs : List ℕ) (few : length xs ≤ m) where
-  pub held : (array : List ℕ) (n : ℕ) → array ≡ padded m 0 xs → n ≡ length xs → Held xs m array n
-  held array n a e = record {
-    long = e;
-    first = rw (a, e) (take-append-seam xs (replicate (m - length xs) 0));
-    inside = omega (arith, e, ap length a, length-append xs (replicate (m - length xs) 0));
-    few = omega arith;
+    pub there-columned : {k : Columns} → k ≡ columnsIn p → Columned k n
+    there-columned e = record { pattern = p; sound = s; columns = e; here = there-here }
+
+-- ---- the arrays: a list, and the lengths of the lists of one
+module _ (m : ℕ) where
+  pub held : (xs : List ℕ) → length xs ≤ m → Held xs m (padded m 0 xs) (length xs)
+  held xs few = record {
+    long = refl;
+    first = take-append-seam xs (replicate (m - length xs) 0);
+    inside = simp length-append (omega arith);
+    few = few;
   }
 
--- ---- what stands in the lent lists after a call
-module _ (q : Presence) (xss : List (List ℕ)) where
-  abbrev Written : List ℕ → List ℕ → List ℕ → List ℕ → Type 0
-  Written out lens out′ lens′ = (out′ ≡ sets out 0 (flat (ifThere q xss))) × (lens′ ≡ sets lens 0 (map length (ifThere q xss)))
-
-  pub none-written : {s : Presence} → s ≡ q → ifThere s xss ≡ [] → (out lens : List ℕ) → Written out lens out lens
-  unfolding flat
-  none-written e h out lens = rw (← e, h) (refl, refl)
-
-  pub all-written : There ≡ q → (out lens : List ℕ) {m i j : ℕ} {us ls out′ lens′ : List ℕ} → Held (flat xss) m us i → Held (map length xss) m ls j
-      → out′ ≡ sets out 0 (take i us) → lens′ ≡ sets lens 0 (take j ls) → Written out lens out′ lens′
-  all-written e out lens h k a b = rw (← e) (a ∙ ap (sets out 0) (h .first), b ∙ ap (sets lens 0) (k .first))
+  pub lens-held : (xss : List (List ℕ)) → length xss ≤ m → Held (map length xss) m (padded m 0 (map length xss)) (length xss)
+  lens-held xss few = let e = length-map xss length in rw (← e) (held (map length xss) (omega (arith, e)))

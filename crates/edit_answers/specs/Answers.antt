@@ -7,12 +7,8 @@ use Rattle.edit_answers.specs.declared.CutAnswer.{CutAnswer}
 use Rattle.edit_answers.specs.declared.CutAnswer.the-variants.{Cut, Not, Refused}
 use Rattle.edit_answers.specs.declared.EditError.{EditError}
 use Rattle.edit_answers.specs.declared.EditError.the-variants.{CurveRefuses, Disconnected, EdgeNotInShell, NoSpace, NotOneOrTwoWires, SameEnds, SharedFace, SpanRefused, Unmatched, Unnamed, VertexInShell}
-use Rattle.edit_answers.specs.declared.FaceAnswer.{FaceAnswer}
-use Rattle.edit_answers.specs.declared.FaceAnswer.the-variants.{Written, Not as Face·Not, Refused as Face·Refused}
 use Rattle.edit_answers.specs.declared.FaceEditError.{FaceEditError}
 use Rattle.edit_answers.specs.declared.FaceEditError.the-variants.{EmptyWire, EndsNotOnWire, FaceRule, FacesDiffer, NoSpace as Face·NoSpace, NotClosedWire, NotDisjointWires, NothingRemains, NotOneWire, NotSimpleWire, OppositeEdges, Unnamed as Face·Unnamed}
-use Rattle.edit_answers.specs.declared.JoinAnswer.{JoinAnswer}
-use Rattle.edit_answers.specs.declared.JoinAnswer.the-variants.{Joined, Not as Join·Not, Refused as Join·Refused}
 
 -- an edit's own refusal, a number alone
 abbrev pub editNumber : EditError → ℕ
@@ -42,21 +38,11 @@ faceEditNumber OppositeEdges = 21
 faceEditNumber NothingRemains = 22
 faceEditNumber FaceRule = 28
 
--- the number of an answer: that of the refusal; else 0
+-- the number of a cut: that of the refusal; else 0
 abbrev pub cutNumber : CutAnswer → ℕ
 cutNumber (Cut a b) = 0
 cutNumber (Refused f) = number f
 cutNumber (Not e) = editNumber e
-
-abbrev pub joinNumber : JoinAnswer → ℕ
-joinNumber (Joined a) = 0
-joinNumber (Join·Refused f) = number f
-joinNumber (Join·Not e) = editNumber e
-
-abbrev pub writtenNumber : FaceAnswer → ℕ
-writtenNumber (Written uses wires) = 0
-writtenNumber (Face·Refused f) = number f
-writtenNumber (Face·Not e) = faceEditNumber e
 
 -- the reading checks come first, then the edit's own refusals
 abbrev pub judged {ℓ} : {A : Type ℓ} {E : Type 0} → List Refusal → List E → (Refusal → A) → (E → A) → A → A

@@ -1,9 +1,8 @@
 // The answers of the edits. They hold no array: the pattern stands beside them.
 ghost use mathlib.Core.Path.{_≡_};
-ghost use Rattle.edit_answers.specs.Answers.{cutNumber, editNumber, faceEditNumber, joinNumber, writtenNumber};
+ghost use Rattle.edit_answers.specs.Answers.{editNumber, faceEditNumber};
 use edge::EdgeID;
 use errors::Refusal;
-use errors::number_of;
 
 // The refusal of an edit of a shell, its own.
 pub enum EditError {
@@ -97,27 +96,6 @@ pub fn edit_number(e: EditError) -> usize
     }
 }
 
-// Document 01's number of an answer: that of the refusal, or 0.
-pub fn cut_number(a: CutAnswer) -> usize
-    ensures { λ r. ⌜ r ≡ cutNumber a ⌝ }
-{
-    match a {
-        CutAnswer::Cut(_, _) => 0,
-        CutAnswer::Refused(f) => number_of(f),
-        CutAnswer::Not(e) => edit_number(e),
-    }
-}
-
-pub fn join_number(a: JoinAnswer) -> usize
-    ensures { λ r. ⌜ r ≡ joinNumber a ⌝ }
-{
-    match a {
-        JoinAnswer::Joined(_) => 0,
-        JoinAnswer::Refused(f) => number_of(f),
-        JoinAnswer::Not(e) => edit_number(e),
-    }
-}
-
 // Document 01's number of a face edit's own refusal.
 pub fn face_edit_number(e: FaceEditError) -> usize
     ensures { λ r. ⌜ r ≡ faceEditNumber e ⌝ }
@@ -135,15 +113,5 @@ pub fn face_edit_number(e: FaceEditError) -> usize
         FaceEditError::OppositeEdges => 21,
         FaceEditError::NothingRemains => 22,
         FaceEditError::FaceRule => 28,
-    }
-}
-
-pub fn written_number(a: FaceAnswer) -> usize
-    ensures { λ r. ⌜ r ≡ writtenNumber a ⌝ }
-{
-    match a {
-        FaceAnswer::Written(_, _) => 0,
-        FaceAnswer::Refused(f) => number_of(f),
-        FaceAnswer::Not(e) => face_edit_number(e),
     }
 }

@@ -1,7 +1,7 @@
 -- Reading, writing and each report on a pattern file, given by its bytes: what is answered, what is written.
 use Prim.Native.Nat.{ℕ}
 use mathlib.Core.List.{List}
-use Rattle.answers.specs.Values.{checkValues, componentsValues, conditionValues, connectedValues, openingsValues, placeValues, singularValues, solidValues, writtenValues}
+use Rattle.answers.specs.Values.{checkValues, figureValues, placeValues, solidValues, writtenValues}
 use Rattle.answers.specs.declared.Answer.{Answer}
 use Rattle.group_calls.specs.GroupCalls.{componentsAnswer, componentsOut, connectedAnswer, singularAnswer, singularOut}
 use Rattle.shell_calls.specs.ShellCalls.{conditionAnswer, openingsAnswer, openingsOut}
@@ -25,25 +25,25 @@ abbrev pub fileWrittenBytes : List ℕ → List ℕ → List ℕ
 fileWrittenBytes s out = afterRead (reading s .answer) out (writtenBytes (reading s .pattern) out)
 
 abbrev pub fileCondition : List ℕ → ℕ → Answer
-fileCondition s n = whenRead (reading s .answer) (conditionValues (conditionAnswer (reading s .pattern) n))
+fileCondition s n = whenRead (reading s .answer) (figureValues (conditionAnswer (reading s .pattern) n))
 
 abbrev pub fileOpenings : List ℕ → ℕ → Answer
-fileOpenings s n = whenRead (reading s .answer) (openingsValues (openingsAnswer (reading s .pattern) n))
+fileOpenings s n = whenRead (reading s .answer) (figureValues (openingsAnswer (reading s .pattern) n))
 
 abbrev pub fileOpeningsOut : List ℕ → ℕ → List (List ℕ)
 fileOpeningsOut s n = ifRead (reading s .answer) (openingsOut (reading s .pattern) n)
 
 abbrev pub fileConnected : List ℕ → ℕ → Answer
-fileConnected s n = whenRead (reading s .answer) (connectedValues (connectedAnswer (reading s .pattern) n))
+fileConnected s n = whenRead (reading s .answer) (figureValues (connectedAnswer (reading s .pattern) n))
 
 abbrev pub fileComponents : List ℕ → ℕ → Answer
-fileComponents s n = whenRead (reading s .answer) (componentsValues (componentsAnswer (reading s .pattern) n))
+fileComponents s n = whenRead (reading s .answer) (figureValues (componentsAnswer (reading s .pattern) n))
 
 abbrev pub fileComponentsOut : List ℕ → ℕ → List (List ℕ)
 fileComponentsOut s n = ifRead (reading s .answer) (componentsOut (reading s .pattern) n)
 
 abbrev pub fileSingular : List ℕ → ℕ → Answer
-fileSingular s n = whenRead (reading s .answer) (singularValues (singularAnswer (reading s .pattern) n))
+fileSingular s n = whenRead (reading s .answer) (figureValues (singularAnswer (reading s .pattern) n))
 
 abbrev pub fileSingularOut : List ℕ → ℕ → List ℕ
 fileSingularOut s n = ifRead (reading s .answer) (singularOut (reading s .pattern) n)

@@ -7,12 +7,8 @@ ghost use Rattle.lists.specs.Lists.{flat};
 ghost use Rattle.file_reports.specs.FileReports.{fileCheck, fileComponents, fileComponentsOut, fileCondition, fileConnected, fileOpenings, fileOpeningsOut, fileOutline, fileSingular, fileSingularOut, fileSolid, fileWritten, fileWrittenBytes};
 use answers::Answer;
 use answers::check_values;
-use answers::components_values;
-use answers::condition_values;
-use answers::connected_values;
-use answers::openings_values;
+use answers::figure_values;
 use answers::place_values;
-use answers::singular_values;
 use answers::solid_values;
 use answers::unread;
 use answers::written_values;
@@ -77,7 +73,7 @@ pub fn file_condition(file: &[u8], n: usize) -> Answer
         Check::Refused(f) => unread(f),
         Check::Accepted => {
             let p = reading.pattern;
-            condition_values(shell_condition(p, n))
+            figure_values(shell_condition(p, n))
         }
     }
 }
@@ -94,7 +90,7 @@ pub fn file_openings(file: &[u8], n: usize, out: &mut [u16; 2048], lens: &mut [u
         Check::Refused(f) => unread(f),
         Check::Accepted => {
             let p = reading.pattern;
-            openings_values(extract_boundaries(p, n, out, lens))
+            figure_values(extract_boundaries(p, n, out, lens))
         }
     }
 }
@@ -109,7 +105,7 @@ pub fn file_connected(file: &[u8], n: usize) -> Answer
         Check::Refused(f) => unread(f),
         Check::Accepted => {
             let p = reading.pattern;
-            connected_values(is_connected(p, n))
+            figure_values(is_connected(p, n))
         }
     }
 }
@@ -126,7 +122,7 @@ pub fn file_components(file: &[u8], n: usize, out: &mut [u16; 512], lens: &mut [
         Check::Refused(f) => unread(f),
         Check::Accepted => {
             let p = reading.pattern;
-            components_values(connected_components(p, n, out, lens))
+            figure_values(connected_components(p, n, out, lens))
         }
     }
 }
@@ -142,7 +138,7 @@ pub fn file_singular(file: &[u8], n: usize, out: &mut [u16; 2048]) -> Answer
         Check::Refused(f) => unread(f),
         Check::Accepted => {
             let p = reading.pattern;
-            singular_values(singular_vertices(p, n, out))
+            figure_values(singular_vertices(p, n, out))
         }
     }
 }

@@ -3,7 +3,6 @@
 // so no member is more than 11 steps below its root where there are 2,048.
 ghost use mathlib.Core.Path.{_≡_};
 ghost use Prim.Native.Nat.{ℕ, _+_, _<_, _≤_};
-ghost use lib.Dec.{eqb};
 ghost use lib.ListN.{length, getD};
 ghost use Rattle.groups.specs.Forest.{Climbs, Forest, Ready, joined, joinedAll, rootOf, started, trees, under};
 ghost use Rattle.groups.specs.Groups.{links};
@@ -35,15 +34,6 @@ pub fn find(parents: &[u16], i: usize) -> usize
         }
         at = up;
     }
-}
-
-// Whether members i and j are in one group.
-pub fn same(parents: &[u16], i: usize, j: usize) -> bool
-    requires { ⌜ Climbs (now parents) i ⌝ }
-    requires { ⌜ Climbs (now parents) j ⌝ }
-    ensures { λ r. ⌜ r ≡ eqb (rootOf (now (parents .entry)) i) (rootOf (now (parents .entry)) j) ⌝ }
-{
-    find(parents, i) == find(parents, j)
 }
 
 // Puts root b under root a.

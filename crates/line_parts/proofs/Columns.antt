@@ -4,10 +4,8 @@ use mathlib.Core.List.{List, [], _++_, _∷_, append-nil, map}
 use mathlib.Core.Path.{_∙_, _≡_, ap, refl, sym}
 use native.Mathlib.Nat.{add-zero}
 use native.Mathlib.Omega.{arith}
-use lib.ListN.{List·getD-map, drop, getD, length, length-append, length-drop, length-map, set, take}
+use lib.ListN.{drop, getD, length, length-append, length-drop, length-map, set, take}
 use lib.Seq.{length-take-le, sets, sets-eq, take-at}
-use Rattle.lists.proofs.Laws.{map-take}
-use Rattle.lists.proofs.Sets.{sets-next}
 use Rattle.lists.specs.Lists.{flat}
 use Rattle.pattern.proofs.Counts.{Limited, limited}
 use Rattle.pattern.specs.Checks.{countFaults}

@@ -3,7 +3,6 @@ use Prim.Native.Nat.{ℕ}
 use mathlib.Core.List.{List, [], _∷_}
 use lib.Dec.{ltb}
 use lib.ListN.{getD, length, take}
-use Rattle.errors.specs.Numbers.{number}
 use Rattle.errors.specs.declared.Refusal.{Refusal}
 use Rattle.lists.specs.Lists.{pick, sum}
 use Rattle.pattern.specs.Checks.{patternFaults}
@@ -11,12 +10,6 @@ use Rattle.pattern.specs.Contents.{Content, content}
 use Rattle.pattern.specs.declared.Pattern.{Pattern}
 use Rattle.pattern.specs.declared.WirePlace.{WirePlace}
 use Rattle.pattern.specs.declared.WirePlace.the-variants.{At, NoWire, Refused}
-
--- the number of a refusal: 3 alone for a wire that does not exist; 0 where there is a place
-abbrev pub placeNumber : WirePlace → ℕ
-placeNumber (At start n) = 0
-placeNumber (Refused f) = number f
-placeNumber NoWire = 3
 
 -- the reading checks first, then 3; a wire's uses begin where those of the wires before it end
 abbrev pub placeOf : List Refusal → Content → ℕ → WirePlace

@@ -9,11 +9,10 @@ ghost use Rattle.wire.specs.Wires.{Named};
 ghost use Rattle.face.specs.Faces.{faceRule};
 ghost use Rattle.pattern.specs.Contents.{layout, content};
 ghost use Rattle.pattern.specs.Checks.{Checkable, countFaults, edgeFaults, nameFaults, sumFaults, listFaults, columnFaults, contentFaults, patternFaults};
-ghost use Rattle.pattern.specs.Outlines.{placeNumber, wirePlace};
+ghost use Rattle.pattern.specs.Outlines.{wirePlace};
 use edge::Edge;
 use errors::Check;
 use errors::Refusal;
-use errors::number_of;
 use face::Face;
 use face::check_faces;
 use face::wire_counts;
@@ -273,17 +272,6 @@ pub enum WirePlace {
     At(usize, usize),
     Refused(Refusal),
     NoWire,
-}
-
-// Document 01's number of an answer: that of the refusal, or 0.
-pub fn place_number(a: WirePlace) -> usize
-    ensures { λ r. ⌜ r ≡ placeNumber a ⌝ }
-{
-    match a {
-        WirePlace::At(_, _) => 0,
-        WirePlace::Refused(f) => number_of(f),
-        WirePlace::NoWire => 3,
-    }
 }
 
 // The place of an outline: `wire::outline` hands back that part of the use list.

@@ -1,6 +1,6 @@
 // The solid (solid.rs, Solid::try_new): what is wrong with a shell of it, and with which.
 ghost use mathlib.Core.Path.{_≡_};
-ghost use Rattle.solid.specs.Solid.{andThen, errorsOf, firstError, inSolid, reasonNumber, solidNumber, solidShell};
+ghost use Rattle.solid.specs.Solid.{andThen, errorsOf, firstError, inSolid, reasonNumber};
 
 // A shell's own reason.
 pub enum ShellError {
@@ -35,29 +35,6 @@ pub fn reason_number(e: ShellError) -> usize
         ShellError::NotConnected => 11,
         ShellError::NotClosedShell => 12,
         ShellError::NotManifold => 13,
-    }
-}
-
-// Document 01's number of an answer, or 0.
-pub fn solid_number(a: SolidCheck) -> usize
-    ensures { λ r. ⌜ r ≡ solidNumber a ⌝ }
-{
-    match a {
-        SolidCheck::Accepted => 0,
-        SolidCheck::Refused(e) => {
-            let reason = e.reason;
-            reason_number(reason)
-        }
-    }
-}
-
-// The shell that a refusal names, or 0.
-pub fn solid_shell(a: SolidCheck) -> usize
-    ensures { λ r. ⌜ r ≡ solidShell a ⌝ }
-{
-    match a {
-        SolidCheck::Accepted => 0,
-        SolidCheck::Refused(e) => e.shell,
     }
 }
 

@@ -1,12 +1,10 @@
 -- The solid of a pattern in storage: the reading checks first, then each shell in turn.
-use Prim.Native.Nat.{ℕ}
 use mathlib.Core.List.{List, [], _∷_}
-use Rattle.errors.specs.Numbers.{number}
 use Rattle.errors.specs.declared.Refusal.{Refusal}
 use Rattle.pattern.specs.Checks.{patternFaults}
 use Rattle.pattern.specs.Contents.{Content, content}
 use Rattle.pattern.specs.declared.Pattern.{Pattern}
-use Rattle.solid.specs.Solid.{reasonNumber, solidOf}
+use Rattle.solid.specs.Solid.{solidOf}
 use Rattle.solid.specs.declared.SolidCheck.{SolidCheck}
 use Rattle.solid.specs.declared.SolidCheck.the-variants.{Accepted as Check·Accepted, Refused as Check·Refused}
 use Rattle.solid_calls.specs.declared.SolidAnswer.{SolidAnswer}
@@ -22,9 +20,3 @@ solidAnswerOf [] c = answered (solidOf c)
 
 abbrev pub solidAnswer : Pattern → SolidAnswer
 solidAnswer p = solidAnswerOf (patternFaults p) (content p)
-
--- the number of an answer; 0 where it is accepted
-abbrev pub answerNumber : SolidAnswer → ℕ
-answerNumber Accepted = 0
-answerNumber (Refused e) = reasonNumber (e .reason)
-answerNumber (Unread f) = number f

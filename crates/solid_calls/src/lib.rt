@@ -3,12 +3,11 @@ ghost use mathlib.Core.Path.{_≡_};
 ghost use Rattle.pattern.specs.Contents.{content};
 ghost use Rattle.reports.specs.Figures.{Columned, Of, OfAll, Patterned};
 ghost use Rattle.solid.specs.Solid.{firstError, shellErrors, solidOf};
-ghost use Rattle.solid_calls.specs.Solids.{answerNumber, solidAnswer};
+ghost use Rattle.solid_calls.specs.Solids.{solidAnswer};
 use columns::Columns;
 use columns::columns_of;
 use errors::Check;
 use errors::Refusal;
-use errors::number_of;
 use pattern::Pattern;
 use pattern::check;
 use reports::shell_groups;
@@ -17,27 +16,12 @@ use solid::ShellCheck;
 use solid::SolidCheck;
 use solid::SolidError;
 use solid::check_shell;
-use solid::reason_number;
 
 // A solid is accepted, or refused for one of its shells; or the reading checks refuse the pattern.
 pub enum SolidAnswer {
     Accepted,
     Refused(SolidError),
     Unread(Refusal),
-}
-
-// Document 01's number of an answer, or 0.
-pub fn answer_number(a: SolidAnswer) -> usize
-    ensures { λ r. ⌜ r ≡ answerNumber a ⌝ }
-{
-    match a {
-        SolidAnswer::Accepted => 0,
-        SolidAnswer::Refused(e) => {
-            let reason = e.reason;
-            reason_number(reason)
-        }
-        SolidAnswer::Unread(f) => number_of(f),
-    }
 }
 
 // What is wrong with shell n.

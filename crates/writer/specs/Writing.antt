@@ -3,7 +3,6 @@ use Prim.Native.Nat.{ℕ}
 use mathlib.Core.List.{List, [], _++_, _∷_}
 use lib.Dec.{leb}
 use lib.ListN.{drop, length}
-use Rattle.errors.specs.Numbers.{number}
 use Rattle.errors.specs.declared.Refusal.{Refusal}
 use Rattle.lists.specs.Lists.{pick}
 use Rattle.pattern.specs.Checks.{patternFaults}
@@ -12,12 +11,6 @@ use Rattle.pattern.specs.declared.Pattern.{Pattern}
 use Rattle.pattern_file.specs.File.{fileBytes}
 use Rattle.writer.specs.declared.Written.{Written}
 use Rattle.writer.specs.declared.Written.the-variants.{Length, NoSpace, Refused}
-
--- the number of a refusal to write: 17 alone where the slice is shorter than the file; 0 where it is written
-abbrev pub writtenNumber : Written → ℕ
-writtenNumber (Length n) = 0
-writtenNumber (Refused f) = number f
-writtenNumber NoSpace = 17
 
 -- the reading checks first, then 17
 abbrev pub writeAnswer : List Refusal → List ℕ → List ℕ → Written

@@ -11,11 +11,10 @@ ghost use Rattle.edge.specs.Edges.{isSpan};
 ghost use Rattle.pattern.specs.Checks.{contentFaults, countFaults};
 ghost use Rattle.pattern.specs.Contents.{content, zeroEdge};
 ghost use Rattle.pattern_file.specs.File.{startOf, edgeBytes, faceBytes, fileBytes, tableBytes};
-ghost use Rattle.writer.specs.Writing.{written, writtenBytes, writtenNumber};
+ghost use Rattle.writer.specs.Writing.{written, writtenBytes};
 use edge::Edge;
 use errors::Check;
 use errors::Refusal;
-use errors::number_of;
 use face::Face;
 use pattern::Pattern;
 use pattern::check;
@@ -29,17 +28,6 @@ pub enum Written {
     Length(usize),
     Refused(Refusal),
     NoSpace,
-}
-
-// Document 01's number of an answer: that of the refusal, or 0.
-pub fn written_number(w: Written) -> usize
-    ensures { λ r. ⌜ r ≡ writtenNumber w ⌝ }
-{
-    match w {
-        Written::Length(_) => 0,
-        Written::Refused(f) => number_of(f),
-        Written::NoSpace => 17,
-    }
 }
 
 // Writes the first n numbers, of two bytes each, from `at` on.

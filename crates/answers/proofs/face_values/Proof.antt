@@ -12,5 +12,5 @@ returns-3 : tie.Need-returns-3
 returns-3 c = rw (c .before .before .before .a3 .given .1, ← c .before .face-edit-number .ensures) (c .refused .ensures)
 
 pub face-values-spec : {M : Type 1} → statement M
-face-values-spec = tie.close (tie.spec (λ c. search needs) (λ c κs. search needs) (λ c. search needs) (λ c κs. search needs)
-    (λ c. search needs) (λ c κs. search needs) (λ c κs. search needs) returns returns-2 returns-3)
+face-values-spec = tie.close (tie.spec (search needs) (search needs) (search needs) (search needs) (search needs) (search needs)
+    (search needs) returns returns-2 returns-3)

@@ -12,5 +12,5 @@ returns-3 : tie.Need-returns-3
 returns-3 c = rw (c .before .enum-told .given .1) (c .refused .ensures)
 
 pub place-values-spec : {M : Type 1} → statement M
-place-values-spec = tie.close (tie.spec (λ c. search needs) (λ c κs. search needs) (λ c. search needs) (λ c κs. search needs)
-    (λ c. search needs) (λ c κs. search needs) returns returns-2 returns-3)
+place-values-spec = tie.close (tie.spec (search needs) (search needs) (search needs) (search needs) (search needs) (search needs) returns
+    returns-2 returns-3)

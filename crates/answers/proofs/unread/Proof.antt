@@ -7,4 +7,4 @@ returns : tie.Need-returns
 returns c = rw (c .before .before .number-of .ensures, c .before .body-of .ensures, c .record-of .ensures) refl
 
 pub unread-spec : {M : Type 1} → statement M
-unread-spec = tie.close (tie.spec (λ c κs. search needs) (λ c κs. search needs) (λ c κs. search needs) returns)
+unread-spec = tie.close (tie.spec (search needs) (search needs) (search needs) returns)

@@ -14,7 +14,7 @@ use Rattle.pattern.specs.Contents.{content}
 use Rattle.calls.proofs.find_shell.Tie as tie
 
 passed : (c : tie.After-enum-told) → patternFaults (c .before .before .before .args .t1) ≡ []
-passed c = accepted-none (patternFaults (c .before .before .before .args .t1)) (sym (c .before .before .check .ensures) ∙ c .enum-told .given .1)
+passed c = accepted-none _ (sym (c .before .before .check .ensures) ∙ c .enum-told .given .1)
 
 counts-long : (s : tie.Start) → length (s .args .t1 .counts) ≡ 7
 counts-long s = search needs
@@ -24,25 +24,22 @@ shells-long s = search needs
 
 shells : (c : tie.After-enum-told) → length (content (c .before .before .before .args .t1) .shells) ≡ getD (c .before .before .before .args .t1 .counts) 5 0
 shells c =
-    let p = c .before .before .before .args .t1 in
-    let few = count-kept (p .counts) 5 (none-left (countFaults (p .counts)) (contentFaults (content p)) (passed c)) (omega (arith, counts-long (c .before .before .before))) in
-    length-take-le (getD (p .counts) 5 0) (p .shells) (omega (arith, few, shells-long (c .before .before .before)))
+    let start = c .before .before .before in
+    let p = start .args .t1 in
+    let few = count-kept (p .counts) 5 (none-left (countFaults (p .counts)) (contentFaults (content p)) (passed c)) (omega (arith, counts-long start)) in
+    length-take-le (getD (p .counts) 5 0) (p .shells) (omega (arith, few, shells-long start))
 
 returns : tie.Need-returns
 returns c =
-    let a = c .before .before .before .before .args in
-    presence-refused (patternFaults (a .t1)) (content (a .t1)) (a .n) _ (sym (c .before .before .before .check .ensures) ∙ c .before .answer .given .1)
+    let checked = c .before .before .before in
+    let p = checked .before .args .t1 in
+    presence-refused (patternFaults p) (content p) (checked .before .args .n) _ (sym (checked .check .ensures) ∙ c .before .answer .given .1)
 
 returns-2 : tie.Need-returns-2
-returns-2 c =
-    let a = c .before .before .before .before .before .args in
-    presence-none (patternFaults (a .t1)) (passed (c .before .before)) (content (a .t1)) (a .n) (omega (arith, c .if1 .taken, shells (c .before .before)))
+returns-2 c = let passing = c .before .before in presence-none _ (passed passing) _ _ (omega (arith, c .if1 .taken, shells passing))
 
 returns-3 : tie.Need-returns-3
-returns-3 c =
-    let a = c .before .before .before .before .before .args in
-    presence-there (patternFaults (a .t1)) (passed (c .before .before)) (content (a .t1)) (a .n) (omega (arith, c .if1 .left, shells (c .before .before)))
+returns-3 c = let passing = c .before .before in presence-there _ (passed passing) _ _ (omega (arith, c .if1 .left, shells passing))
 
 pub find-shell-spec : {M : Type 1} → statement M
-find-shell-spec = tie.close (tie.spec (λ c κs. search needs) (λ c. search needs) returns (λ c. search needs) (λ c. search needs) returns-2
-    returns-3)
+find-shell-spec = tie.close (tie.spec (search needs) (search needs) returns (search needs) (search needs) returns-2 returns-3)

@@ -12,16 +12,5 @@ abbrev μ-loop : tie.MeasureT-loop
 μ-loop scratch₀ turn₀ scratch turn = 18446744073709551615 - turn
 
 pub drain-spec : {M : Type 1} → statement M
-drain-spec =
-    tie.close
-    (tie.spec
-    Inv-loop
-    μ-loop
-    (λ c. search needs)
-    (λ c. search needs)
-    (λ c κs. search needs)
-    (λ c. search needs)
-    (λ c. search needs)
-    (λ c. search needs)
-    (λ c. search needs)
-    (λ c. search needs))
+drain-spec = tie.close (tie.spec Inv-loop μ-loop (λ c. search needs) (λ c. search needs) (λ c κs. search needs) (λ c. search needs)
+    (λ c. search needs) (λ c. search needs) (λ c. search needs) (λ c. search needs))

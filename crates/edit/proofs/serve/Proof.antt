@@ -1,7 +1,6 @@
 -- The buffer keeps its length, and has room.
 use Prim.Native.Nat.{_<_}
 use mathlib.Core.Path.{_≡_}
-use native.Mathlib.Omega.{arith}
 use lib.ListN.{length}
 use borrow.Author.Needs.{needs}
 use Rattle.edit.proofs.serve.Statement.{statement}
@@ -14,16 +13,5 @@ abbrev μ-loop : tie.MeasureT-loop
 μ-loop path buffer₀ held₀ passing₀ turns₀ buffer held passing turns = turns
 
 pub serve-spec : {M : Type 1} → statement M
-serve-spec =
-    tie.close
-    (tie.spec
-    Inv-loop
-    μ-loop
-    (λ c. search needs)
-    (λ c. search needs)
-    (λ c. search needs)
-    (λ c κs. search needs)
-    (λ c. search needs)
-    (λ c. search needs)
-    (λ c. search needs)
-    (λ c. search needs))
+serve-spec = tie.close (tie.spec Inv-loop μ-loop (λ c. search needs) (λ c. search needs) (λ c. search needs) (λ c κs. search needs)
+    (λ c. search needs) (λ c. search needs) (λ c. search needs) (λ c. search needs))

@@ -6,4 +6,4 @@ returns : tie.Need-returns
 returns c = rw (← c .before .read .ensures) (c .check-values .ensures)
 
 pub check-file-spec : {M : Type 1} → statement M
-check-file-spec = tie.close (tie.spec (λ c κs. search needs) (λ c κs. search needs) returns)
+check-file-spec = tie.close (tie.spec (search needs) (search needs) returns)

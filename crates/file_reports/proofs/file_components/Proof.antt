@@ -9,8 +9,8 @@ unfolding flat
 returns c = rw (← c .before .before .before .before .read .ensures, c .before .before .checked .given .1) (c .unread .ensures, (refl, refl))
 
 returns-2 : tie.Need-returns-2
-returns-2 c = rw (← c .before .before .before .before .before .before .before .read .ensures, c .before .before .before .before .before .enum-told .given .1, ← c .before .connected-components .ensures .0) (c .components-values .ensures, c .before .connected-components .ensures .1)
+returns-2 c = rw (← c .before .before .before .before .before .before .before .read .ensures, c .before .before .before .before .before .enum-told .given .1, ← c .before .connected-components .ensures .0) (c .figure-values .ensures, c .before .connected-components .ensures .1)
 
 pub file-components-spec : {M : Type 1} → statement M
-file-components-spec = tie.close (tie.spec (λ c κs. search needs) (λ c. search needs) (λ c κs. search needs) (λ c. search needs)
-    (λ c κs. search needs) (λ c κs. search needs) returns returns-2)
+file-components-spec = tie.close (tie.spec (search needs) (search needs) (search needs) (search needs) (search needs) (search needs)
+    returns returns-2)

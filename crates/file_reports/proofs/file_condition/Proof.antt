@@ -6,8 +6,8 @@ returns : tie.Need-returns
 returns c = rw (← c .before .before .before .before .read .ensures, c .before .before .checked .given .1) (c .unread .ensures)
 
 returns-2 : tie.Need-returns-2
-returns-2 c = rw (← c .before .before .before .before .before .read .ensures, c .before .before .before .enum-told .given .1, ← c .before .shell-condition .ensures) (c .condition-values .ensures)
+returns-2 c = rw (← c .before .before .before .before .before .read .ensures, c .before .before .before .enum-told .given .1, ← c .before .shell-condition .ensures) (c .figure-values .ensures)
 
 pub file-condition-spec : {M : Type 1} → statement M
-file-condition-spec = tie.close (tie.spec (λ c κs. search needs) (λ c. search needs) (λ c κs. search needs) (λ c. search needs)
-    (λ c κs. search needs) (λ c κs. search needs) returns returns-2)
+file-condition-spec = tie.close (tie.spec (search needs) (search needs) (search needs) (search needs) (search needs) (search needs) returns
+    returns-2)

@@ -9,8 +9,8 @@ unfolding flat
 returns c = rw (← c .before .before .before .before .read .ensures, c .before .before .checked .given .1) (c .unread .ensures, (refl, refl))
 
 returns-2 : tie.Need-returns-2
-returns-2 c = rw (← c .before .before .before .before .before .before .before .read .ensures, c .before .before .before .before .before .enum-told .given .1, ← c .before .extract-boundaries .ensures .0) (c .openings-values .ensures, c .before .extract-boundaries .ensures .1)
+returns-2 c = rw (← c .before .before .before .before .before .before .before .read .ensures, c .before .before .before .before .before .enum-told .given .1, ← c .before .extract-boundaries .ensures .0) (c .figure-values .ensures, c .before .extract-boundaries .ensures .1)
 
 pub file-openings-spec : {M : Type 1} → statement M
-file-openings-spec = tie.close (tie.spec (λ c κs. search needs) (λ c. search needs) (λ c κs. search needs) (λ c. search needs)
-    (λ c κs. search needs) (λ c κs. search needs) returns returns-2)
+file-openings-spec = tie.close (tie.spec (search needs) (search needs) (search needs) (search needs) (search needs) (search needs) returns
+    returns-2)

@@ -7,8 +7,8 @@ returns : tie.Need-returns
 returns c = rw (← c .before .before .before .before .read .ensures, c .before .before .checked .given .1) (c .unread .ensures, refl)
 
 returns-2 : tie.Need-returns-2
-returns-2 c = rw (← c .before .before .before .before .before .before .read .ensures, c .before .before .before .before .enum-told .given .1, ← c .before .singular-vertices .ensures .0) (c .singular-values .ensures, c .before .singular-vertices .ensures .1)
+returns-2 c = rw (← c .before .before .before .before .before .before .read .ensures, c .before .before .before .before .enum-told .given .1, ← c .before .singular-vertices .ensures .0) (c .figure-values .ensures, c .before .singular-vertices .ensures .1)
 
 pub file-singular-spec : {M : Type 1} → statement M
-file-singular-spec = tie.close (tie.spec (λ c κs. search needs) (λ c. search needs) (λ c κs. search needs) (λ c. search needs)
-    (λ c κs. search needs) (λ c κs. search needs) returns returns-2)
+file-singular-spec = tie.close (tie.spec (search needs) (search needs) (search needs) (search needs) (search needs) (search needs) returns
+    returns-2)

@@ -21,5 +21,5 @@ returns-2 c =
     )
 
 pub rewrite-file-spec : {M : Type 1} → statement M
-rewrite-file-spec = tie.close (tie.spec (λ c κs. search needs) (λ c. search needs) (λ c κs. search needs) (λ c. search needs)
-    (λ c κs. search needs) (λ c κs. search needs) returns (λ c. search needs) returns-2)
+rewrite-file-spec = tie.close (tie.spec (search needs) (search needs) (search needs) (search needs) (search needs) (search needs) returns
+    (search needs) returns-2)

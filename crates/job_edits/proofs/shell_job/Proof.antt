@@ -52,7 +52,8 @@ returns-3 c =
     shell-made e _ _ (c .before .before .file-concat .ensures)
 
 pub shell-job-spec : {M : Type 1} → statement M
-shell-job-spec = tie.close (tie.spec shared-slice-read-file-cut shared-slice-read-saturated (λ c κs. search needs) shared-slice-read-saturated-2
-    (λ c κs. search needs) shared-slice-read-file-cut-2 (λ c κs. search needs) (λ c. search needs) returns shared-slice-read-file-remove
-    shared-slice-read-saturated-3 (λ c κs. search needs) (λ c κs. search needs) (λ c. search needs) returns-2 shared-slice-read-saturated-4
-    (λ c κs. search needs) shared-slice-read-saturated-5 (λ c κs. search needs) (λ c κs. search needs) (λ c. search needs) returns-3)
+shell-job-spec = tie.close (tie.spec shared-slice-read-file-cut shared-slice-read-saturated (λ c κs. search needs)
+    shared-slice-read-saturated-2 (λ c κs. search needs) shared-slice-read-file-cut-2 (λ c κs. search needs) (λ c. search needs) returns
+    shared-slice-read-file-remove shared-slice-read-saturated-3 (λ c κs. search needs) (λ c κs. search needs) (λ c. search needs) returns-2
+    shared-slice-read-saturated-4 (λ c κs. search needs) shared-slice-read-saturated-5 (λ c κs. search needs) (λ c κs. search needs)
+    (λ c. search needs) returns-3)

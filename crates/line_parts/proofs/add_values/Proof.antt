@@ -89,4 +89,5 @@ pub add-values-spec : {M : Type 1} → statement M
 add-values-spec = tie.close (tie.spec shared-slice-read-add-point (λ c. search needs) add-point-requires returns (λ c. search needs)
     add-edge-requires returns-2 sub-add-wires part-add-wires-start (λ c. search needs) (λ c. search needs) (λ c. search needs)
     add-wires-requires shared-slice-read-add-face (λ c. search needs) add-face-requires returns-3 sub-add-shell (λ c. search needs)
-    add-shell-requires sub-put-saturated part-put-saturated-start (λ c. search needs) (λ c. search needs) put-saturated-requires returns-4 returns-5)
+    add-shell-requires sub-put-saturated part-put-saturated-start (λ c. search needs) (λ c. search needs) put-saturated-requires returns-4
+    returns-5)

@@ -13,12 +13,5 @@ put-done-requires c κs =
     (search needs, sym (rw (take-all (length lens) lens (omega arith)) at (c .before .before .sum-of .ensures)) ∙ c .before .if3 .left, search needs, search needs)
 
 pub put-wires-spec : {M : Type 1} → statement M
-put-wires-spec =
-    tie.close
-    (tie.spec
-    (λ c. search needs)
-    (λ c. search needs)
-    (λ c κs. search needs)
-    (λ c. search needs)
-    put-done-requires
+put-wires-spec = tie.close (tie.spec (λ c. search needs) (λ c. search needs) (λ c κs. search needs) (λ c. search needs) put-done-requires
     (λ c. search needs))

@@ -19,5 +19,5 @@ returns c p s e h =
     errors-found (a .t1) (a .n) p s e h (o .result) (g .result) _ (o .ensures .0 p s e h) (g .ensures p s e h) (c .check-shell .ensures)
 
 pub shell-check-spec : {M : Type 1} → statement M
-shell-check-spec = tie.close (tie.spec (λ c. search needs) (λ c. search needs) (λ c. search needs) (λ c. search needs) (λ c. search needs)
-    sub-listings (λ c κs. search needs) (λ c κs. search needs) (λ c κs. search needs) returns)
+shell-check-spec = tie.close (tie.spec (search needs) (search needs) (search needs) (search needs) (search needs) sub-listings
+    (λ c κs. search needs) (λ c κs. search needs) (search needs) returns)

@@ -25,5 +25,5 @@ returns : tie.Need-returns Inv-loop μ-loop
 returns c = checking-all _ _ _ _ (c .before .loop .inv) (omega arith)
 
 pub solid-of-spec : {M : Type 1} → statement M
-solid-of-spec = tie.close (tie.spec Inv-loop μ-loop loop-holds shell-check-requires (λ c κs. search needs) (λ c. search needs)
-    (λ c. search needs) loop-again returns)
+solid-of-spec = tie.close (tie.spec Inv-loop μ-loop loop-holds shell-check-requires (search needs) (search needs) (search needs) loop-again
+    returns)

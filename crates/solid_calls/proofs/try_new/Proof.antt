@@ -40,5 +40,5 @@ returns-3 c =
     solid-answered (patternFaults p) (passed (c .before .before .before .before .before .before)) (content p) (sym (c .before .solid .given .1) ∙ solid (c .before .before .before))
 
 pub try-new-spec : {M : Type 1} → statement M
-try-new-spec = tie.close (tie.spec (λ c κs. search needs) (λ c. search needs) returns (λ c. search needs) columns-of-requires
-    (λ c. search needs) solid-of-requires (λ c. search needs) (λ c. search needs) returns-2 returns-3)
+try-new-spec = tie.close (tie.spec (search needs) (search needs) returns (search needs) columns-of-requires (search needs)
+    solid-of-requires (search needs) (search needs) returns-2 returns-3)
