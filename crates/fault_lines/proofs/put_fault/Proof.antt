@@ -20,9 +20,9 @@ short c = decimal-20 (c .before .before .f .given .0 .1 .0) (omega arith)
 
 returns : tie.Need-returns
 returns c =
-    let a = c .before .before .before .before .before .before .before .before .before .before .args in
-    let f = c .before .before .before .before .before .before .before .f .given in
-    put-short (a .out .now) (a .at) 160 _ _ (ap faultText (f .1 ∙ ap (λ k. Word k (f .0 .1 .0)) (c .before .before .before .before .before .if1 .taken))) (c .before .before .put-text .ensures) (omega arith)
+    let args = c .before .before .before .before .before .before .before .before .before .before .args in
+    let f = c .before .before .before .before .before .before .before .f in
+    put-short (args .out .now) (args .at) 160 _ _ (ap faultText (f .given .1 ∙ ap (λ k. Word k (f .given .0 .1 .0)) (c .before .before .before .before .before .if1 .taken))) (c .before .before .put-text .ensures) (omega arith)
 
 put-field-requires : tie.Need-put-field-requires
 put-field-requires c κs = omega (arith, short (c .before .before))
@@ -42,26 +42,26 @@ put-meaning-requires c κs = omega (arith, decimal-20 (c .before .before .before
 returns-2 : tie.Need-returns-2
 unfolding field
 returns-2 c =
-    let a = c .before .before .before .before .before .before .before .before .before .before .before .before .before .before .before .before .before .before .before .args in
-    let f = c .before .before .before .before .before .before .before .before .before .before .before .before .before .before .before .before .f .given in
-    let x = ascii ": word " ++ decimal (f .0 .1 .0) in
-    let p = put-then (a .out .now) (a .at) x (ascii " of ") _ _ _ _ (c .before .before .before .before .before .before .before .before .before .before .before .put-field .ensures) (c .before .before .before .before .before .before .put-text2 .ensures) in
-    let e = c .before .before .put-form .ensures in
-    let q = put-then (a .out .now) (a .at) (x ++ ascii " of ") (lineForm (f .0 .0)) _ _ _ _ p (e .0, e .1) in
-    put-short (a .out .now) (a .at) 160 _ _ (word-is (f .0 .0) (f .0 .1 .0) (f .1) (c .before .before .before .before .before .before .before .before .before .before .before .before .before .before .if1 .left)) q (omega (arith, q .1, short (c .before .before .before .before .before .before .before .before .before .before .before .before .before .before), e .2))
+    let args = c .before .before .before .before .before .before .before .before .before .before .before .before .before .before .before .before .before .before .before .args in
+    let f = c .before .before .before .before .before .before .before .before .before .before .before .before .before .before .before .before .f in
+    let place = c .before .before .before .before .before .before .before .before .before .before .before .before .before .before in
+    let put-form = c .before .before .put-form in
+    let x = ascii ": word " ++ decimal (f .given .0 .1 .0) in
+    let p = put-then (args .out .now) (args .at) x (ascii " of ") _ _ _ _ (c .before .before .before .before .before .before .before .before .before .before .before .put-field .ensures) (c .before .before .before .before .before .before .put-text2 .ensures) in
+    let q = put-then (args .out .now) (args .at) (x ++ ascii " of ") (lineForm (f .given .0 .0)) _ _ _ _ p (put-form .ensures .0, put-form .ensures .1) in
+    put-short (args .out .now) (args .at) 160 _ _ (word-is (f .given .0 .0) (f .given .0 .1 .0) (f .given .1) (place .if1 .left)) q (omega (arith, q .1, short place, put-form .ensures .2))
 
 returns-3 : tie.Need-returns-3
 unfolding field
 returns-3 c =
-    let a = c .before .before .before .before .before .before .before .before .before .before .before .before .before .before .args in
-    let f = c .before .before .before .before .before .before .before .before .before .before .before .f2 .given in
-    let n = c .before .before .before .before .before .before .before .before .before .number-of in
-    let e = c .before .before .put-meaning .ensures in
-    let q = put-then (a .out .now) (a .at) (ascii ": refused " ++ decimal (n .result)) (meaning (n .result)) _ _ _ _ (c .before .before .before .before .before .before .put-field2 .ensures) (e .0, e .1) in
-    put-short (a .out .now) (a .at) 160 _ _ (refused-is (f .0 .0) (n .result) (f .1) (n .ensures)) q (omega (arith, q .1, decimal-20 (n .result) (omega arith), e .2))
+    let args = c .before .before .before .before .before .before .before .before .before .before .before .before .before .before .args in
+    let f2 = c .before .before .before .before .before .before .before .before .before .before .before .f2 in
+    let number-of = c .before .before .before .before .before .before .before .before .before .number-of in
+    let put-meaning = c .before .before .put-meaning in
+    let q = put-then (args .out .now) (args .at) (ascii ": refused " ++ decimal (number-of .result)) (meaning (number-of .result)) _ _ _ _ (c .before .before .before .before .before .before .put-field2 .ensures) (put-meaning .ensures .0, put-meaning .ensures .1) in
+    put-short (args .out .now) (args .at) 160 _ _ (refused-is (f2 .given .0 .0) (number-of .result) (f2 .given .1) (number-of .ensures)) q (omega (arith, q .1, decimal-20 (number-of .result) (omega arith), put-meaning .ensures .2))
 
 pub put-fault-spec : {M : Type 1} → statement M
-put-fault-spec = tie.close (tie.spec (λ c. search needs) (λ c. search needs) (λ c κs. search needs) (λ c. search needs) returns
-    (λ c. search needs) put-field-requires (λ c. search needs) put-text-requires-2 put-form-requires (λ c. search needs)
-    (λ c κs. search needs) (λ c. search needs) put-field-requires-2 put-meaning-requires (λ c. search needs) returns-2 (λ c. search needs)
-    returns-3)
+put-fault-spec = tie.close (tie.spec (search needs) (search needs) (search needs) (search needs) returns (search needs) put-field-requires
+    (search needs) put-text-requires-2 put-form-requires (search needs) (search needs) (search needs) put-field-requires-2
+    put-meaning-requires (search needs) returns-2 (search needs) returns-3)

@@ -9,21 +9,20 @@ use Rattle.fault_lines.proofs.put_form.Tie as tie
 
 returns : tie.Need-returns
 unfolding lineForm
-returns c = put-short (c .before .before .before .before .before .before .before .args .out .now) (c .before .before .before .before .before .before .before .args .at) 80 _ _ (ap lineForm (c .before .before .before .before .before .if1 .taken)) (c .before .before .put-text .ensures) (omega arith)
+returns c = put-short _ _ 80 _ _ (ap lineForm (c .before .before .before .before .before .if1 .taken)) (c .before .before .put-text .ensures) (omega arith)
 
 returns-2 : tie.Need-returns-2
 unfolding lineForm
-returns-2 c = put-short (c .before .before .before .before .before .before .before .before .args .out .now) (c .before .before .before .before .before .before .before .before .args .at) 80 _ _ (ap lineForm (c .before .before .before .before .before .if2 .taken)) (c .before .before .put-text2 .ensures) (omega arith)
+returns-2 c = put-short _ _ 80 _ _ (ap lineForm (c .before .before .before .before .before .if2 .taken)) (c .before .before .put-text2 .ensures) (omega arith)
 
 returns-3 : tie.Need-returns-3
 unfolding lineForm
-returns-3 c = put-short (c .before .before .before .before .before .before .before .before .before .args .out .now) (c .before .before .before .before .before .before .before .before .before .args .at) 80 _ _ (ap lineForm (c .before .before .before .before .before .if3 .taken)) (c .before .before .put-text3 .ensures) (omega arith)
+returns-3 c = put-short _ _ 80 _ _ (ap lineForm (c .before .before .before .before .before .if3 .taken)) (c .before .before .put-text3 .ensures) (omega arith)
 
 returns-4 : tie.Need-returns-4
 unfolding lineForm
-returns-4 c = put-short (c .before .before .before .before .before .before .before .before .before .args .out .now) (c .before .before .before .before .before .before .before .before .before .args .at) 80 _ _ (form-last (c .before .before .before .before .before .before .before .before .before .args .k) (c .before .before .before .before .before .before .before .if1 .left) (c .before .before .before .before .before .before .if2 .left) (c .before .before .before .before .before .if3 .left)) (c .before .before .put-text4 .ensures) (omega arith)
+returns-4 c = put-short _ _ 80 _ _ (form-last _ (c .before .before .before .before .before .before .before .if1 .left) (c .before .before .before .before .before .before .if2 .left) (c .before .before .before .before .before .if3 .left)) (c .before .before .put-text4 .ensures) (omega arith)
 
 pub put-form-spec : {M : Type 1} → statement M
-put-form-spec = tie.close (tie.spec (λ c. search needs) (λ c κs. search needs) (λ c. search needs) returns (λ c. search needs)
-    (λ c κs. search needs) (λ c. search needs) returns-2 (λ c. search needs) (λ c κs. search needs) (λ c. search needs) returns-3
-    (λ c. search needs) (λ c κs. search needs) (λ c. search needs) returns-4)
+put-form-spec = tie.close (tie.spec (search needs) (search needs) (search needs) returns (search needs) (search needs) (search needs)
+    returns-2 (search needs) (search needs) (search needs) returns-3 (search needs) (search needs) (search needs) returns-4)

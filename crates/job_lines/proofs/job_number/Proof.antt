@@ -5,25 +5,25 @@ use Rattle.job_lines.proofs.job_number.Statement.{statement}
 use Rattle.job_lines.proofs.job_number.Tie as tie
 
 returns : tie.Need-returns
-returns c = (named-cut (c .before .args .name) (c .if1 .taken), omega arith)
+returns c = (named-cut _ (c .if1 .taken), omega arith)
 
 returns-2 : tie.Need-returns-2
-returns-2 c = (named-remove (c .before .before .args .name) (c .if2 .taken), omega arith)
+returns-2 c = (named-remove _ (c .if2 .taken), omega arith)
 
 returns-3 : tie.Need-returns-3
-returns-3 c = (named-concat (c .before .before .before .args .name) (c .if3 .taken), omega arith)
+returns-3 c = (named-concat _ (c .if3 .taken), omega arith)
 
 returns-4 : tie.Need-returns-4
-returns-4 c = (named-add (c .before .before .before .before .args .name) (c .if4 .taken), omega arith)
+returns-4 c = (named-add _ (c .if4 .taken), omega arith)
 
 returns-5 : tie.Need-returns-5
-returns-5 c = (named-cutface (c .before .before .before .before .before .args .name) (c .if5 .taken), omega arith)
+returns-5 c = (named-cutface _ (c .if5 .taken), omega arith)
 
 returns-6 : tie.Need-returns-6
-returns-6 c = (named-glue (c .before .before .before .before .before .before .args .name) (c .if6 .taken), omega arith)
+returns-6 c = (named-glue _ (c .if6 .taken), omega arith)
 
 returns-7 : tie.Need-returns-7
-returns-7 c = (named-none (c .before .before .before .before .before .before .args .name) (c .before .before .before .before .before .if1 .left) (c .before .before .before .before .if2 .left) (c .before .before .before .if3 .left) (c .before .before .if4 .left) (c .before .if5 .left) (c .if6 .left), omega arith)
+returns-7 c = (named-none _ (c .before .before .before .before .before .if1 .left) (c .before .before .before .before .if2 .left) (c .before .before .before .if3 .left) (c .before .before .if4 .left) (c .before .if5 .left) (c .if6 .left), omega arith)
 
 pub job-number-spec : {M : Type 1} → statement M
 job-number-spec = tie.close (tie.spec returns returns-2 returns-3 returns-4 returns-5 returns-6 returns-7)

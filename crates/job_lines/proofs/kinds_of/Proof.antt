@@ -4,13 +4,13 @@ use Rattle.job_lines.proofs.kinds_of.Statement.{statement}
 use Rattle.job_lines.proofs.kinds_of.Tie as tie
 
 returns : tie.Need-returns
-returns c = rw (kinds-cut (c .before .args .j) (c .if1 .taken))
+returns c = rw (kinds-cut _ (c .if1 .taken))
 
 returns-2 : tie.Need-returns-2
-returns-2 c = rw (kinds-remove (c .before .before .args .j) (c .if2 .taken))
+returns-2 c = rw (kinds-remove _ (c .if2 .taken))
 
 returns-3 : tie.Need-returns-3
-returns-3 c = kinds-signed (c .before .before .args .j) (c .before .if1 .left) (c .if2 .left)
+returns-3 c = kinds-signed _ (c .before .if1 .left) (c .if2 .left)
 
 pub kinds-of-spec : {M : Type 1} → statement M
 kinds-of-spec = tie.close (tie.spec returns returns-2 returns-3)

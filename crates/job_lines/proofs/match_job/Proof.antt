@@ -9,5 +9,5 @@ returns c =
     rw (← kinds-part _ _ _ (c .before .before .before .before .before .before .before .needed .ensures .0) (c .before .before .before .before .before .before .before .before .kinds-of .ensures), ← c .before .before .before .before .rest-of .ensures) (c .before .before .put-values .ensures)
 
 pub match-job-spec : {M : Type 1} → statement M
-match-job-spec = tie.close (tie.spec (λ c κs. search needs) (λ c κs. search needs) (λ c. search needs) (λ c. search needs)
-    (λ c. search needs) (λ c κs. search needs) (λ c κs. search needs) (λ c. search needs) returns)
+match-job-spec = tie.close (tie.spec (search needs) (search needs) (search needs) (search needs) (search needs) (search needs)
+    (search needs) (search needs) returns)

@@ -5,13 +5,13 @@ use Rattle.job_lines.proofs.rest_of.Statement.{statement}
 use Rattle.job_lines.proofs.rest_of.Tie as tie
 
 returns : tie.Need-returns
-returns c = rest-more (c .before .args .j) (inl (c .if1 .taken))
+returns c = rest-more _ (inl (c .if1 .taken))
 
 returns-2 : tie.Need-returns-2
-returns-2 c = rest-more (c .before .before .args .j) (inr (c .if2 .taken))
+returns-2 c = rest-more _ (inr (c .if2 .taken))
 
 returns-3 : tie.Need-returns-3
-returns-3 c = rest-none (c .before .before .args .j) (c .before .if1 .left) (c .if2 .left)
+returns-3 c = rest-none _ (c .before .if1 .left) (c .if2 .left)
 
 pub rest-of-spec : {M : Type 1} → statement M
 rest-of-spec = tie.close (tie.spec returns returns-2 returns-3)

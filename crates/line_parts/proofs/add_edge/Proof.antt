@@ -11,23 +11,21 @@ use Rattle.line_parts.proofs.add_edge.Tie as tie
 
 returns : tie.Need-returns
 returns c =
-    let a = c .before .before .before .before .before .before .before .before .before .before .before .before .before .before .before .before .before .before .before .before .before .before .before .before .args in
-    let v = a .v .now in
-    let at = 20 * a .n in
-    let l = a .edges .now in
-    let front = bytes16 (short (getD v 2 0)) in
-    let back = bytes16 (short (getD v 4 0)) in
-    let t0 = bytes64 (getD v 6 0) in
-    let t1 = bytes64 (getD v 7 0) in
-    sets-then l at (front ++ back ++ t0) t1 (at + 12) refl
-    (sets-then l at (front ++ back) t0 (at + 4) refl
-    (sets-then l at front back (at + 2) refl
+    let args = c .before .before .before .before .before .before .before .before .before .before .before .before .before .before .before .before .before .before .before .before .before .before .before .before .args in
+    let at = 20 * args .n in
+    let front = bytes16 (short (getD (args .v .now) 2 0)) in
+    let back = bytes16 (short (getD (args .v .now) 4 0)) in
+    let t0 = bytes64 (getD (args .v .now) 6 0) in
+    let t1 = bytes64 (getD (args .v .now) 7 0) in
+    sets-then (args .edges .now) at (front ++ back ++ t0) t1 (at + 12) refl
+    (sets-then (args .edges .now) at (front ++ back) t0 (at + 4) refl
+    (sets-then (args .edges .now) at front back (at + 2) refl
     (c .before .before .before .before .before .before .before .before .before .before .before .before .before .before .before .before .before .before .put-u16 .ensures ∙ rw (c .before .before .before .before .before .before .before .before .before .before .before .before .before .before .before .before .before .before .before .saturated .ensures))
     (c .before .before .before .before .before .before .before .before .before .before .before .before .put-u162 .ensures ∙ rw (c .before .before .before .before .before .before .before .before .before .before .before .before .before .saturated2 .ensures)))
     (c .before .before .before .before .before .before .before .put-u64 .ensures))
     (c .before .before .put-u642 .ensures)
 
 pub add-edge-spec : {M : Type 1} → statement M
-add-edge-spec = tie.close (tie.spec (λ c. search needs) (λ c. search needs) (λ c κs. search needs) (λ c κs. search needs)
-    (λ c. search needs) (λ c. search needs) (λ c κs. search needs) (λ c κs. search needs) (λ c. search needs) (λ c. search needs)
-    (λ c κs. search needs) (λ c. search needs) (λ c. search needs) (λ c κs. search needs) (λ c. search needs) returns)
+add-edge-spec = tie.close (tie.spec (search needs) (search needs) (search needs) (search needs) (search needs) (search needs)
+    (search needs) (search needs) (search needs) (search needs) (search needs) (search needs) (search needs) (search needs) (search needs)
+    returns)

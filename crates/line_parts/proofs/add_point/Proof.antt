@@ -7,4 +7,4 @@ returns : tie.Need-returns
 returns c = rw (c .label-of .ensures)
 
 pub add-point-spec : {M : Type 1} → statement M
-add-point-spec = tie.close (tie.spec (λ c κs. search needs) (λ c. search needs) (λ c. search needs) (λ c. search needs) returns)
+add-point-spec = tie.close (tie.spec (search needs) (search needs) (search needs) (search needs) returns)

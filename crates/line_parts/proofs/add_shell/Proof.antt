@@ -7,4 +7,4 @@ returns : tie.Need-returns
 returns c = rw (c .small-length .ensures)
 
 pub add-shell-spec : {M : Type 1} → statement M
-add-shell-spec = tie.close (tie.spec (λ c κs. search needs) (λ c. search needs) (λ c. search needs) (λ c. search needs) returns)
+add-shell-spec = tie.close (tie.spec (search needs) (search needs) (search needs) (search needs) returns)

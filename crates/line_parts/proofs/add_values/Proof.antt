@@ -26,15 +26,18 @@ add-point-requires : tie.Need-add-point-requires
 add-point-requires c κs = let m = point-room (adding (c .before .before .before .before)) (c .before .before .if1 .taken) in search needs
 
 returns : tie.Need-returns
-returns c = point-joined (adding (c .before .before .before .before .before)) (columns (c .before .before .before .before .before)) _ (c .before .before .before .if1 .taken) (search needs) (c .add-point .ensures)
+returns c = let place = c .before .before .before .before .before in
+    point-joined (adding place) (columns place) _ (c .before .before .before .if1 .taken) (search needs) (c .add-point .ensures)
 
 add-edge-requires : tie.Need-add-edge-requires
 add-edge-requires c κs =
-    let m = edge-room (adding (c .before .before .before .before)) (c .before .if2 .taken) in
-    (edge-words (adding (c .before .before .before .before)) (c .before .if2 .taken), search needs)
+    let place = c .before .before .before .before in
+    let m = edge-room (adding place) (c .before .if2 .taken) in
+    (edge-words (adding place) (c .before .if2 .taken), search needs)
 
 returns-2 : tie.Need-returns-2
-returns-2 c = edge-joined (adding (c .before .before .before .before .before)) (columns (c .before .before .before .before .before)) _ (c .before .before .if2 .taken) (search needs) (c .add-edge .ensures)
+returns-2 c = let place = c .before .before .before .before .before in
+    edge-joined (adding place) (columns place) _ (c .before .before .if2 .taken) (search needs) (c .add-edge .ensures)
 
 sub-add-wires : tie.Need-sub-add-wires
 sub-add-wires c = let m = face-words (adding (c .before .before .before .before)) (c .if3 .taken) in search needs
@@ -44,8 +47,9 @@ part-add-wires-start c = let m = face-words (adding (c .before .before .before .
 
 add-wires-requires : tie.Need-add-wires-requires
 add-wires-requires c κs =
-    let m = face-room (adding (c .before .before .before .before .before .before .before)) (c .before .before .before .if3 .taken) in
-    rw (rest-whole (c .before .before .before .before .before .before .before .args .v .now) 3) (search needs)
+    let start = c .before .before .before .before .before .before .before in
+    let m = face-room (adding start) (c .before .before .before .if3 .taken) in
+    rw (rest-whole (start .args .v .now) 3) (search needs)
 
 shared-slice-read-add-face : tie.Need-shared-slice-read-add-face
 shared-slice-read-add-face c = let m = face-words (adding (c .before .before .before .before .before .before .before .before .before)) (c .before .before .before .before .before .if3 .taken) in search needs
@@ -55,10 +59,11 @@ add-face-requires c κs = let m = face-room (adding (c .before .before .before .
 
 returns-3 : tie.Need-returns-3
 returns-3 c =
-    let e = c .before .before .before .add-wires .ensures in
-    let w = rest-whole (c .before .before .before .before .before .before .before .before .before .before .before .args .v .now) 3 in
-    face-joined (adding (c .before .before .before .before .before .before .before .before .before .before .before)) (columns (c .before .before .before .before .before .before .before .before .before .before .before)) _ _ _ _ (c .before .before .before .before .before .before .before .if3 .taken) (search needs) (search needs) (search needs)
-    (rw w at (e .0)) (rw w at (e .1)) (rw w at (e .2)) (c .add-face .ensures)
+    let start = c .before .before .before .before .before .before .before .before .before .before .before in
+    let add-wires = c .before .before .before .add-wires in
+    let w = rest-whole (start .args .v .now) 3 in
+    face-joined (adding start) (columns start) _ _ _ _ (c .before .before .before .before .before .before .before .if3 .taken) (search needs) (search needs) (search needs)
+    (rw w at (add-wires .ensures .0)) (rw w at (add-wires .ensures .1)) (rw w at (add-wires .ensures .2)) (c .add-face .ensures)
 
 sub-add-shell : tie.Need-sub-add-shell
 sub-add-shell c = let m = shell-words (adding (c .before .before .before .before .before)) (c .if4 .taken) in search needs
@@ -74,20 +79,22 @@ part-put-saturated-start c = let m = shell-words (adding (c .before .before .bef
 
 put-saturated-requires : tie.Need-put-saturated-requires
 put-saturated-requires c κs =
-    let m = shell-room (adding (c .before .before .before .before .before .before .before .before .before)) (c .before .before .before .before .if4 .taken) in
-    rw (rest-whole (c .before .before .before .before .before .before .before .before .before .args .v .now) 2) (search needs)
+    let start = c .before .before .before .before .before .before .before .before .before in
+    let m = shell-room (adding start) (c .before .before .before .before .if4 .taken) in
+    rw (rest-whole (start .args .v .now) 2) (search needs)
 
 returns-4 : tie.Need-returns-4
 returns-4 c =
-    let w = rest-whole (c .before .before .before .before .before .before .before .before .before .before .args .v .now) 2 in
-    shell-joined (adding (c .before .before .before .before .before .before .before .before .before .before)) (columns (c .before .before .before .before .before .before .before .before .before .before)) _ _ (c .before .before .before .before .before .if4 .taken) (search needs) (search needs) (c .before .before .before .add-shell .ensures) (rw w at (c .put-saturated .ensures))
+    let start = c .before .before .before .before .before .before .before .before .before .before in
+    let w = rest-whole (start .args .v .now) 2 in
+    shell-joined (adding start) (columns start) _ _ (c .before .before .before .before .before .if4 .taken) (search needs) (search needs) (c .before .before .before .add-shell .ensures) (rw w at (c .put-saturated .ensures))
 
 returns-5 : tie.Need-returns-5
-returns-5 c = none-joined (adding (c .before .before .before .before .before)) (columns (c .before .before .before .before .before)) (c .before .before .before .if1 .left) (c .before .before .if2 .left) (c .before .if3 .left) (c .if4 .left)
+returns-5 c = let place = c .before .before .before .before .before in
+    none-joined (adding place) (columns place) (c .before .before .before .if1 .left) (c .before .before .if2 .left) (c .before .if3 .left) (c .if4 .left)
 
 pub add-values-spec : {M : Type 1} → statement M
-add-values-spec = tie.close (tie.spec shared-slice-read-add-point (λ c. search needs) add-point-requires returns (λ c. search needs)
-    add-edge-requires returns-2 sub-add-wires part-add-wires-start (λ c. search needs) (λ c. search needs) (λ c. search needs)
-    add-wires-requires shared-slice-read-add-face (λ c. search needs) add-face-requires returns-3 sub-add-shell (λ c. search needs)
-    add-shell-requires sub-put-saturated part-put-saturated-start (λ c. search needs) (λ c. search needs) put-saturated-requires returns-4
-    returns-5)
+add-values-spec = tie.close (tie.spec shared-slice-read-add-point (search needs) add-point-requires returns (search needs)
+    add-edge-requires returns-2 sub-add-wires part-add-wires-start (search needs) (search needs) (search needs) add-wires-requires
+    shared-slice-read-add-face (search needs) add-face-requires returns-3 sub-add-shell (search needs) add-shell-requires sub-put-saturated
+    part-put-saturated-start (search needs) (search needs) put-saturated-requires returns-4 returns-5)

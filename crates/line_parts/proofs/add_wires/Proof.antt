@@ -16,13 +16,16 @@ abbrev μ-loop : tie.MeasureT-loop
 
 -- there is room for a wire more, and for a use more
 for-wire : (c : tie.Then1 Inv-loop μ-loop) → (c .before .before .before .loop .w < length (c .before .before .before .loop .wires)) × (length (c .before .before .before .loop .wires) ≡ length (c .before .before .before .before .before .before .before .args .wires .now))
-for-wire c = (wire-room (c .before .before .before .loop .inv) (c .before .before .loop-test .taken) (c .if1 .taken) (c .before .before .before .before .before .before .before .pre .1), laying-wires (c .before .before .before .loop .inv))
+for-wire c = let loop = c .before .before .before .loop in
+    (wire-room (loop .inv) (c .before .before .loop-test .taken) (c .if1 .taken) (c .before .before .before .before .before .before .before .pre .1), laying-wires (loop .inv))
 
 for-use : (c : tie.Then2 Inv-loop μ-loop) → (c .before .before .before .before .loop .u < length (c .before .before .before .before .loop .uses)) × (length (c .before .before .before .before .loop .uses) ≡ length (c .before .before .before .before .before .before .before .before .args .uses .now))
-for-use c = (use-room (c .before .before .before .before .loop .inv) (c .before .before .before .loop-test .taken) (c .before .if1 .left) (c .if2 .taken) (c .before .before .before .before .before .before .before .before .pre .0), laying-uses (c .before .before .before .before .loop .inv))
+for-use c = let loop = c .before .before .before .before .loop in
+    (use-room (loop .inv) (c .before .before .before .loop-test .taken) (c .before .if1 .left) (c .if2 .taken) (c .before .before .before .before .before .before .before .before .pre .0), laying-uses (loop .inv))
 
 for-last : (c : tie.Then2 Inv-loop μ-loop) → (c .before .before .before .before .loop .w - 1 < length (c .before .before .before .before .loop .wires)) × (length (c .before .before .before .before .loop .wires) ≡ length (c .before .before .before .before .before .before .before .before .args .wires .now))
-for-last c = (last-room (c .before .before .before .before .loop .inv) (c .before .before .before .loop-test .taken) (c .before .if1 .left) (c .if2 .taken) (c .before .before .before .before .before .before .before .before .pre .1), laying-wires (c .before .before .before .before .loop .inv))
+for-last c = let loop = c .before .before .before .before .loop in
+    (last-room (loop .inv) (c .before .before .before .loop-test .taken) (c .before .if1 .left) (c .if2 .taken) (c .before .before .before .before .before .before .before .before .pre .1), laying-wires (loop .inv))
 
 loop-holds : tie.Need-loop-holds Inv-loop μ-loop
 loop-holds c = laying-start _ _ _ _ _
@@ -53,13 +56,12 @@ slice-write-wires-2 c = for-last (c .before .before .before) .0
 
 loop-again : tie.Need-loop-again Inv-loop μ-loop
 loop-again c =
-    let v = c .before .before .before .loop .inv in
-    let l = c .before .before .loop-test .taken in
+    let loop = c .before .before .before .loop in let loop-test = c .before .before .loop-test in
     ⊎-elim
-    (λ w. rw (w .1, w .2, w .3, w .4, w .5) (laying-mark v l (w .0 .taken)))
+    (λ w. rw (w .1, w .2, w .3, w .4, w .5) (laying-mark (loop .inv) (loop-test .taken) (w .0 .taken)))
     (⊎-elim
-    (λ w. rw (w .5, w .6, w .7, w .8, w .9) (laying-use v l (w .0 .left) (w .1 .taken) _ _ (w .3 .ensures) (w .4 .ensures)))
-    (λ w. rw (w .2, w .3, w .4, w .5, w .6) (laying-before v l (w .0 .left) (w .1 .left))))
+    (λ w. rw (w .5, w .6, w .7, w .8, w .9) (laying-use (loop .inv) (loop-test .taken) (w .0 .left) (w .1 .taken) _ _ (w .3 .ensures) (w .4 .ensures)))
+    (λ w. rw (w .2, w .3, w .4, w .5, w .6) (laying-before (loop .inv) (loop-test .taken) (w .0 .left) (w .1 .left))))
     (c .if1 .came)
 
 same-length : tie.Need-same-length Inv-loop μ-loop
@@ -72,7 +74,6 @@ returns : tie.Need-returns Inv-loop μ-loop
 returns c = laying-all (c .before .loop .inv) (c .loop-test .left)
 
 pub add-wires-spec : {M : Type 1} → statement M
-add-wires-spec = tie.close (tie.spec Inv-loop μ-loop loop-holds (λ c. search needs) (λ c. search needs) mul-wires slice-write-wires add-w
-    (λ c. search needs) (λ c. search needs) (λ c κs. search needs) mul-uses slice-write-uses add-u (λ c. search needs)
-    (λ c κs. search needs) (λ c. search needs) mul-wires-2 slice-write-wires-2 (λ c. search needs) (λ c. search needs) loop-again
-    (λ c. search needs) same-length same-length-2 returns)
+add-wires-spec = tie.close (tie.spec Inv-loop μ-loop loop-holds (search needs) (search needs) mul-wires slice-write-wires add-w
+    (search needs) (search needs) (search needs) mul-uses slice-write-uses add-u (search needs) (search needs) (search needs) mul-wires-2
+    slice-write-wires-2 (search needs) (search needs) loop-again (search needs) same-length same-length-2 returns)

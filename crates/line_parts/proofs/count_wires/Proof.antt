@@ -18,18 +18,17 @@ loop-holds c = counting-start _
 
 loop-again : tie.Need-loop-again Inv-loop μ-loop
 loop-again c =
-    let v = c .before .before .before .loop .inv in
-    let l = c .before .before .loop-test .taken in
+    let loop = c .before .before .before .loop in let loop-test = c .before .before .loop-test in
     ⊎-elim
-    (λ w. rw (w .1, w .2) (counting-mark v l (w .0 .taken)))
+    (λ w. rw (w .1, w .2) (counting-mark (loop .inv) (loop-test .taken) (w .0 .taken)))
     (⊎-elim
-    (λ w. rw (w .2, w .3) (counting-use v l (w .0 .left) (w .1 .taken)))
-    (λ w. rw (w .2, w .3) (counting-before v l (w .0 .left) (w .1 .left))))
+    (λ w. rw (w .2, w .3) (counting-use (loop .inv) (loop-test .taken) (w .0 .left) (w .1 .taken)))
+    (λ w. rw (w .2, w .3) (counting-before (loop .inv) (loop-test .taken) (w .0 .left) (w .1 .left))))
     (c .if1 .came)
 
 returns : tie.Need-returns Inv-loop μ-loop
 returns c = counting-all (c .before .loop .inv) (c .loop-test .left)
 
 pub count-wires-spec : {M : Type 1} → statement M
-count-wires-spec = tie.close (tie.spec Inv-loop μ-loop loop-holds (λ c. search needs) (λ c. search needs) (λ c. search needs)
-    (λ c. search needs) (λ c. search needs) (λ c. search needs) loop-again returns)
+count-wires-spec = tie.close (tie.spec Inv-loop μ-loop loop-holds (search needs) (search needs) (search needs) (search needs)
+    (search needs) (search needs) loop-again returns)

@@ -22,24 +22,25 @@ read c = c .before .before .before .before .before .read-line .ensures .1 (c .be
 counted : (c : tie.After-counts-after)
     → Counted (c .before .before .before .before .before .before .before .before .before .before .before .before .args .counts) (parts (c .before .before .before .before .before .before .before .before .before .before .before .before)) (words (c .before .before .before .before .before .before .before .before .before .before .before .before .args .line .now)) (c .before .before .before .before .before .before .before .before .read-line .result .kind)
     (take (c .before .before .before .before .before .before .before .before .read-line .result .words - 0) (drop 0 (c .before .before .before .before .before .before .before .before .read-line .last .1 .1 .0))) (c .counts-after .result)
-counted c = record {
-  held = c .before .before .before .before .before .before .before .before .before .before .before .before .pre .1;
-  right = sym (c .before .before .before .before .enum-told .given .1) ∙ c .before .before .before .before .before .before .before .before .read-line .ensures .0 .1;
-  kind = c .before .before .before .before .before .before .before .before .read-line .ensures .0 .0;
-  other = c .before .before .before .if1 .left;
-  are = sliced (c .before .before .before .before .before .before .before .before .read-line .result .words) (c .before .before .before .before .before .before .before .before .read-line .last .1 .1 .0) _ (read (c .before .before .before) .are);
-  counts-are = c .counts-after .ensures;
-}
+counted c =
+    let read-line = c .before .before .before .before .before .before .before .before .read-line in let place = c .before .before .before in
+    record {
+      held = c .before .before .before .before .before .before .before .before .before .before .before .before .pre .1;
+      right = sym (c .before .before .before .before .enum-told .given .1) ∙ read-line .ensures .0 .1;
+      kind = read-line .ensures .0 .0;
+      other = place .if1 .left;
+      are = sliced (read-line .result .words) (read-line .last .1 .1 .0) _ (read place .are);
+      counts-are = c .counts-after .ensures;
+    }
 
 returns : tie.Need-returns
 returns c =
-    let s = c .before .before .before .before .before .before .before .before .before in
-    line-wrong (s .pre .1) (words (s .args .line .now)) _ _ _ (sym (c .before .check .given .1) ∙ c .before .before .before .before .before .read-line .ensures .0 .1)
+    line-wrong (c .before .before .before .before .before .before .before .before .before .pre .1) (words _) _ _ _ (sym (c .before .check .given .1) ∙ c .before .before .before .before .before .read-line .ensures .0 .1)
 
 returns-2 : tie.Need-returns-2
 returns-2 c =
-    let s = c .before .before .before .before .before .before .before .before .before in
-    line-comment (s .pre .1) (words (s .args .line .now)) _ (sym (c .before .enum-told .given .1) ∙ c .before .before .before .before .before .read-line .ensures .0 .1) (c .before .before .before .before .before .read-line .ensures .0 .0) (c .if1 .taken)
+    let read-line = c .before .before .before .before .before .read-line in
+    line-comment (c .before .before .before .before .before .before .before .before .before .pre .1) (words _) _ (sym (c .before .enum-told .given .1) ∙ read-line .ensures .0 .1) (read-line .ensures .0 .0) (c .if1 .taken)
 
 part-counts-after-end : tie.Need-part-counts-after-end
 part-counts-after-end c = read (c .before) .few
@@ -48,19 +49,18 @@ part-add-values-end : tie.Need-part-add-values-end
 part-add-values-end c = read (c .before .before .before .before .before .before .before) .few
 
 add-values-requires : tie.Need-add-values-requires
-add-values-requires c κs = (enough (counted (c .before .before .before .before .before .before .before .before .before .before .before .before)) (read (c .before .before .before .before .before .before .before .before .before .before .before .before .before .before .before) .needed), few-after (counted (c .before .before .before .before .before .before .before .before .before .before .before .before)) (sym (c .before .before .before .before .before .before .before .before .before .enum-told2 .given .1) ∙ c .before .before .before .before .before .before .before .before .before .before .before .check-counts .ensures))
+add-values-requires c κs = let place = c .before .before .before .before .before .before .before .before .before .before .before .before in
+    (enough (counted place) (read (c .before .before .before .before .before .before .before .before .before .before .before .before .before .before .before) .needed), few-after (counted place) (sym (c .before .before .before .before .before .before .before .before .before .enum-told2 .given .1) ∙ c .before .before .before .before .before .before .before .before .before .before .before .check-counts .ensures))
 
 returns-3 : tie.Need-returns-3
 returns-3 c = line-limit (counted (c .before .before .before .before)) _ _ _ (sym (c .before .limits .given .1) ∙ c .before .before .before .check-counts .ensures)
 
 returns-4 : tie.Need-returns-4
 returns-4 c =
-    let l = c .add-values .last in
-    line-right (counted (c .before .before .before .before .before .before .before .before .before .before .before .before .before)) (λ (ns : List ℕ). partsIn ns (l .1 .1 .1 .0) (l .1 .1 .1 .1 .0) (l .1 .1 .1 .1 .1 .0) (l .1 .1 .1 .1 .1 .1 .0) (l .1 .1 .1 .1 .1 .1 .1 .0) (l .1 .1 .1 .1 .1 .1 .1 .1 .0) (l .1 .1 .1 .1 .1 .1 .1 .1 .1 .0))
+    line-right (counted (c .before .before .before .before .before .before .before .before .before .before .before .before .before)) (λ (ns : List ℕ). partsIn ns (c .add-values .last .1 .1 .1 .0) (c .add-values .last .1 .1 .1 .1 .0) (c .add-values .last .1 .1 .1 .1 .1 .0) (c .add-values .last .1 .1 .1 .1 .1 .1 .0) (c .add-values .last .1 .1 .1 .1 .1 .1 .1 .0) (c .add-values .last .1 .1 .1 .1 .1 .1 .1 .1 .0) (c .add-values .last .1 .1 .1 .1 .1 .1 .1 .1 .1 .0))
     (sym (c .before .before .before .before .before .before .before .before .before .before .enum-told2 .given .1) ∙ c .before .before .before .before .before .before .before .before .before .before .before .before .check-counts .ensures) (c .add-values .ensures)
 
 pub add-line-spec : {M : Type 1} → statement M
-add-line-spec = tie.close (tie.spec (λ c κs. search needs) (λ c. search needs) (λ c. search needs) returns (λ c. search needs)
-    (λ c. search needs) returns-2 (λ c. search needs) (λ c. search needs) part-counts-after-end (λ c κs. search needs)
-    (λ c κs. search needs) (λ c. search needs) (λ c. search needs) (λ c. search needs) (λ c. search needs) part-add-values-end
-    add-values-requires (λ c. search needs) returns-3 (λ c. search needs) returns-4)
+add-line-spec = tie.close (tie.spec (search needs) (search needs) (search needs) returns (search needs) (search needs) returns-2
+    (search needs) (search needs) part-counts-after-end (λ c κs. search needs) (search needs) (search needs) (search needs) (search needs)
+    (search needs) part-add-values-end add-values-requires (search needs) returns-3 (search needs) returns-4)

@@ -17,16 +17,18 @@ abbrev μ-loop : tie.MeasureT-loop
 
 -- the line that begins here
 here : (c : tie.After-trimmed-length Inv-loop μ-loop) → Here (c .before .before .before .before .before .before .before .args .text .now) (c .before .before .before .before .loop .at) (c .before .before .line-end .result) (c .trimmed-length .result)
-here c = record {
-  begins = c .before .before .before .loop-test .taken;
-  ends = c .before .before .line-end .ensures .0;
-  within = c .before .before .line-end .ensures .1;
-  short = c .trimmed-length .ensures .0;
-  cut = c .trimmed-length .ensures .1;
-}
+here c =
+    let line-end = c .before .before .line-end in
+    record {
+      begins = c .before .before .before .loop-test .taken;
+      ends = line-end .ensures .0;
+      within = line-end .ensures .1;
+      short = c .trimmed-length .ensures .0;
+      cut = c .trimmed-length .ensures .1;
+    }
 
 loop-holds : tie.Need-loop-holds Inv-loop μ-loop
-loop-holds c = (refl, gathering-start (c .before .before .args .text .now))
+loop-holds c = (refl, gathering-start _)
 
 add-last : tie.Need-add-last Inv-loop μ-loop
 add-last c = let s = line-short (here (c)) in search needs
@@ -47,7 +49,7 @@ returns : tie.Need-returns Inv-loop μ-loop
 returns c = (gathering-wrong (c .before .before .before .before .before .before .before .before .before .before .before .before .before .before .before .before .before .before .before .loop .inv .1) (here (c .before .before .before .before .before .before .before .before .before .before .before .before .before .before .before)) _ (sym (c .before .check .given .1) ∙ c .before .before .before .before .before .add-line .ensures .0), wrong-right _)
 
 add-line : tie.Need-add-line Inv-loop μ-loop
-add-line c = let g = c .before .before .before .before .before .before .before .before .before .before .before .before .before .before .before .before .before .before .before .loop .inv .1 .going in search needs
+add-line c = search needs
 
 loop-less : tie.Need-loop-less Inv-loop μ-loop
 loop-less c = let s = here (c .before .before .before .before .before .before .before .before .before .before .before .before .before .before .before) in search needs
@@ -61,7 +63,6 @@ returns-2 : tie.Need-returns-2 Inv-loop μ-loop
 returns-2 c = gathering-all (c .before .loop .inv .1) (c .loop-test .left)
 
 pub gather-spec : {M : Type 1} → statement M
-gather-spec = tie.close (tie.spec Inv-loop μ-loop loop-holds (λ c κs. search needs) (λ c. search needs) (λ c. search needs)
-    (λ c. search needs) (λ c κs. search needs) add-last sub-add-line part-add-line-start part-add-line-end add-line-requires
-    (λ c. search needs) (λ c. search needs) returns (λ c. search needs) add-line (λ c. search needs) loop-less loop-again
-    (λ c. search needs) returns-2)
+gather-spec = tie.close (tie.spec Inv-loop μ-loop loop-holds (search needs) (search needs) (search needs) (search needs) (search needs)
+    add-last sub-add-line part-add-line-start part-add-line-end add-line-requires (search needs) (search needs) returns (search needs)
+    add-line (search needs) loop-less loop-again (search needs) returns-2)

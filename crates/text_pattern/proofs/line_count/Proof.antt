@@ -16,9 +16,8 @@ use Rattle.text_pattern.proofs.line_count.Tie as tie
 matched : (c : tie.After-match-line)
     → Matching (words (c .before .before .before .before .before .args .line .now)) (c .before .before .kind-of .result .kind) (c .match-line .result .words) (c .match-line .result .all) (c .match-line .last .1 .1 .1 .0)
 matched c =
-    let s = c .before .before .before .before .before in
-    let k = c .before .before .kind-of in
-    matching (s .args .line .now) (s .args .values .now) _ (k .result .kind) _ _ _ (k .ensures .0) (k .ensures .1) (k .ensures .2) (s .pre) (search needs) (c .match-line .ensures)
+    let kind-of = c .before .before .kind-of in
+    matching _ _ _ _ _ _ _ (kind-of .ensures .0) (kind-of .ensures .1) (kind-of .ensures .2) (c .before .before .before .before .before .pre) (search needs) (c .match-line .ensures)
 
 part-counts-after-end : tie.Need-part-counts-after-end
 part-counts-after-end c = matched (c .before .before .before) .few
@@ -32,10 +31,8 @@ returns c = ap (λ (ns : List ℕ). getD ns (c .before .before .before .before .
 
 returns-2 : tie.Need-returns-2
 returns-2 c =
-    let s = c .before .before .before .before .before .before .before .before .before .before .before in
-    seven-default (lineParts (words (s .args .line .now))) (s .args .b) (c .if1 .left)
+    seven-default (lineParts (words _)) _ (c .if1 .left)
 
 pub line-count-spec : {M : Type 1} → statement M
-line-count-spec = tie.close (tie.spec (λ c κs. search needs) (λ c κs. search needs) (λ c. search needs) (λ c. search needs)
-    part-counts-after-end counts-after-requires (λ c. search needs) (λ c. search needs) (λ c. search needs) returns (λ c. search needs)
-    returns-2)
+line-count-spec = tie.close (tie.spec (search needs) (search needs) (search needs) (search needs) part-counts-after-end
+    counts-after-requires (search needs) (search needs) (search needs) returns (search needs) returns-2)

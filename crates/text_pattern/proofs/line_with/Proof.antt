@@ -15,18 +15,19 @@ abbrev μ-loop : tie.MeasureT-loop
 
 -- the line that begins here
 here : (c : tie.After-trimmed-length Inv-loop μ-loop) → Here (c .before .before .before .before .before .before .before .args .text .now) (c .before .before .before .before .loop .at) (c .before .before .line-end .result) (c .trimmed-length .result)
-here c = record {
-  begins = c .before .before .before .loop-test .taken;
-  ends = c .before .before .line-end .ensures .0;
-  within = c .before .before .line-end .ensures .1;
-  short = c .trimmed-length .ensures .0;
-  cut = c .trimmed-length .ensures .1;
-}
+here c =
+    let line-end = c .before .before .line-end in
+    record {
+      begins = c .before .before .before .loop-test .taken;
+      ends = line-end .ensures .0;
+      within = line-end .ensures .1;
+      short = c .trimmed-length .ensures .0;
+      cut = c .trimmed-length .ensures .1;
+    }
 
 loop-holds : tie.Need-loop-holds Inv-loop μ-loop
 loop-holds c =
-    let s = c .before .before in
-    (refl, finding-start (s .args .text .now) (s .args .b) (s .args .r))
+    (refl, finding-start _ _ _)
 
 add-last : tie.Need-add-last Inv-loop μ-loop
 add-last c = let s = line-short (here (c)) in search needs
@@ -47,7 +48,7 @@ returns : tie.Need-returns Inv-loop μ-loop
 returns c = finding-here (c .before .before .before .before .before .before .before .before .before .before .loop .inv .1) (here (c .before .before .before .before .before .before)) _ (c .before .before .before .line-count .ensures) (c .if1 .taken)
 
 add-number : tie.Need-add-number Inv-loop μ-loop
-add-number c = let g = c .before .before .before .before .before .before .before .before .before .before .loop .inv .1 .going in search needs
+add-number c = search needs
 
 loop-less : tie.Need-loop-less Inv-loop μ-loop
 loop-less c = let s = here (c .before .before .before .before .before .before) in search needs
@@ -59,6 +60,6 @@ returns-2 : tie.Need-returns-2 Inv-loop μ-loop
 returns-2 c = finding-all (c .before .loop .inv .1) (c .loop-test .left)
 
 pub line-with-spec : {M : Type 1} → statement M
-line-with-spec = tie.close (tie.spec Inv-loop μ-loop loop-holds (λ c κs. search needs) (λ c. search needs) (λ c. search needs)
-    (λ c. search needs) (λ c κs. search needs) add-last sub-line-count part-line-count-start part-line-count-end line-count-requires
-    (λ c. search needs) returns add-number (λ c. search needs) loop-less loop-again (λ c. search needs) returns-2)
+line-with-spec = tie.close (tie.spec Inv-loop μ-loop loop-holds (search needs) (search needs) (search needs) (search needs) (search needs)
+    add-last sub-line-count part-line-count-start part-line-count-end line-count-requires (search needs) returns add-number (search needs)
+    loop-less loop-again (search needs) returns-2)

@@ -11,19 +11,19 @@ written c =
     let s = c .before .before .before .before .before .before .before .before .before .before .before .before .before .before .before .before .before .before .before .before .before .before .before .before in
     let g = c .before .before .before .before .before .before .before .before .before .before .before .before .before .gather in
     let right = c .before .before .before .before .before .before .before .before .before .before .enum-told .given .1 in
-    filed (s .args .text .now)
-    (made-right (s .args .text .now) (s .args .out .now) (c .before .before .before .before .before .before .before .before .before .before .before .before .before .before .before .before .before .before .before .before .before .before .if1 .left) (g .result .line) (g .result .check) (g .ensures .0) right)
-    _ (g .ensures .1 right .1) (c .put-file .result) _ _ (c .put-file .ensures) (search needs)
+    filed _
+    (made-right _ (s .args .out .now) (c .before .before .before .before .before .before .before .before .before .before .before .before .before .before .before .before .before .before .before .before .before .before .if1 .left) _ _ (g .ensures .0) right)
+    _ (g .ensures .1 right .1) _ _ _ (c .put-file .ensures) (search needs)
 
 returns : tie.Need-returns
 returns c =
     let s = c .before .before in
-    making-long (s .args .text .now) (s .args .out .now) (c .if1 .taken)
+    making-long _ _ (c .if1 .taken)
 
 returns-2 : tie.Need-returns-2
 returns-2 c =
     let s = c .before .before .before .before .before .before .before .before .before .before .before .before .before .before .before in
-    making-wrong (s .args .text .now) (s .args .out .now) (c .before .before .before .before .before .before .before .before .before .before .before .before .before .if1 .left) (c .before .before .before .before .gather .result .line) (c .before .before .before .before .gather .result .check) (c .before .before .before .before .gather .ensures .0) _ (c .before .check .given .1)
+    making-wrong _ _ (c .before .before .before .before .before .before .before .before .before .before .before .before .before .if1 .left) _ _ (c .before .before .before .before .gather .ensures .0) _ (c .before .check .given .1)
 
 put-file-requires : tie.Need-put-file-requires
 put-file-requires c κs = (c .before .before .before .before .before .before .before .before .before .before .before .before .gather .ensures .1 (c .before .before .before .before .before .before .before .before .before .enum-told .given .1) .0, search needs)
@@ -32,10 +32,10 @@ line-with-requires : tie.Need-line-with-requires
 line-with-requires c κs = let k = c .before .before .before .before .before .before .before .before .before .before .before .before .before .before .before .before .before .before .before .before .before .before .before .gather .kept .1 .1 .1 .1 .1 .1 .1 .1 .0 in let l = c .before .before .before .before .before .before .before .before .before .before .before .before .before .before .before .before .before .before .before .before .before .before .before .before .before .before .before .before .before .before .before .before .if1 .left in search needs
 
 returns-3 : tie.Need-returns-3
-returns-3 c = making-good (written (c .before .before .before .before .before .before .before .before .before .before)) (c .before .before .before .before .before .before .before .before .before .before .before .before .before .before .before .before .before .before .before .before .before .before .before .before .before .before .before .before .before .before .before .before .before .before .args .out .now) _ (search needs) (sym (c .before .before .before .before .enum-told2 .given .1) ∙ c .before .before .before .before .before .before .check-made .ensures) (c .put-text .ensures .0)
+returns-3 c = making-good (written (c .before .before .before .before .before .before .before .before .before .before)) _ _ (search needs) (sym (c .before .before .before .before .enum-told2 .given .1) ∙ c .before .before .before .before .before .before .check-made .ensures) (c .put-text .ensures .0)
 
 returns-4 : tie.Need-returns-4
-returns-4 c = making-bad (written (c .before .before .before .before .before .before .before .before .before .before .before .before)) (c .before .before .before .before .before .before .before .before .before .before .before .before .before .before .before .before .before .before .before .before .before .before .before .before .before .before .before .before .before .before .before .before .before .before .before .before .args .out .now) _ _ _ _ (sym (c .before .before .before .before .before .before .judged .given .1) ∙ c .before .before .before .before .before .before .before .before .check-made .ensures) (c .before .before .before .before .body-of .ensures) (c .before .before .before .record-of .ensures) (c .before .line-with .ensures)
+returns-4 c = making-bad (written (c .before .before .before .before .before .before .before .before .before .before .before .before)) _ _ _ _ _ (sym (c .before .before .before .before .before .before .judged .given .1) ∙ c .before .before .before .before .before .before .before .before .check-made .ensures) (c .before .before .before .before .body-of .ensures) (c .before .before .before .record-of .ensures) (c .before .line-with .ensures)
 
 pub make-spec : {M : Type 1} → statement M
 make-spec = tie.close (tie.spec returns (λ c. search needs) (λ c κs. search needs) (λ c. search needs) returns-2 (λ c. search needs)

@@ -6,9 +6,7 @@ use Rattle.text_pattern.proofs.put_bytes.Tie as tie
 
 returns : tie.Need-returns
 returns c =
-    let s = c .before .before .before .before .before .before .before in
-    rw (first-part (s .args .n) (s .args .bytes .now)) at (c .before .before .put-text .ensures .0)
+    rw (first-part _ _) at (c .before .before .put-text .ensures .0)
 
 pub put-bytes-spec : {M : Type 1} → statement M
-put-bytes-spec = tie.close (tie.spec (λ c. search needs) (λ c. search needs) (λ c. search needs) (λ c κs. search needs) (λ c. search needs)
-    returns)
+put-bytes-spec = tie.close (tie.spec (search needs) (search needs) (search needs) (search needs) (search needs) returns)

@@ -12,16 +12,16 @@ use Rattle.text_pattern.proofs.put_file.Tie as tie
 -- what is known of the parameters
 abbrev parts : tie.After-starts-of → Parts
 parts c =
-    let s = c .before .before in
-    partsIn (s .args .t1) (s .args .points .now) (s .args .edges .now) (s .args .uses .now) (s .args .wires .now) (s .args .faces .now) (s .args .shells .now) (s .args .listings .now)
+    let args = c .before .before .args in
+    partsIn (args .t1) (args .points .now) (args .edges .now) (args .uses .now) (args .wires .now) (args .faces .now) (args .shells .now) (args .listings .now)
 
 abbrev Up : tie.After-starts-of → ℕ → List ℕ → Type 0
-Up c b out = Stage (c .before .before .args .t1) (parts c) (c .starts-of .result) (c .before .before .args .out .now) b out
+Up c b out = let args = c .before .before .args in Stage (args .t1) (parts c) (c .starts-of .result) (args .out .now) b out
 
 ready : (c : tie.After-starts-of) → Ready (c .before .before .args .t1) (parts c) (c .starts-of .result) (c .before .before .args .out .now)
 ready c =
-    let s = c .before .before in
-    record { held = s .pre .0; places = c .starts-of .ensures; room = s .pre .1 }
+    let pre = c .before .before .pre in
+    record { held = pre .0; places = c .starts-of .ensures; room = pre .1 }
 
 abbrev s0 : tie.After-put-table → tie.After-starts-of
 s0 c = c .before .before
@@ -105,8 +105,7 @@ returns : tie.Need-returns
 returns c = stage-all (stage7 (c .before .before))
 
 pub put-file-spec : {M : Type 1} → statement M
-put-file-spec = tie.close (tie.spec (λ c κs. search needs) (λ c κs. search needs) (λ c. search needs) (λ c. search needs)
-    put-points-requires (λ c. search needs) (λ c. search needs) mul-put-bytes put-bytes-requires (λ c. search needs) (λ c. search needs)
-    put-u16s-requires (λ c. search needs) (λ c. search needs) put-u16s-requires-2 (λ c. search needs) (λ c. search needs) mul-put-bytes-2
-    put-bytes-requires-2 (λ c. search needs) (λ c. search needs) put-u16s-requires-3 (λ c. search needs) (λ c. search needs)
-    put-u16s-requires-4 (λ c. search needs) same-length returns)
+put-file-spec = tie.close (tie.spec (λ c κs. search needs) (λ c κs. search needs) (search needs) (search needs) put-points-requires
+    (search needs) (search needs) mul-put-bytes put-bytes-requires (search needs) (search needs) put-u16s-requires (search needs)
+    (search needs) put-u16s-requires-2 (search needs) (search needs) mul-put-bytes-2 put-bytes-requires-2 (search needs) (search needs)
+    put-u16s-requires-3 (search needs) (search needs) put-u16s-requires-4 (search needs) same-length returns)

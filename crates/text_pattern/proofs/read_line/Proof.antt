@@ -15,55 +15,53 @@ use Rattle.text_pattern.proofs.read_line.Tie as tie
 matched : (c : tie.After-match-line)
     → Matching (words (c .before .before .before .before .before .before .before .args .line .now)) (c .before .before .before .before .kind-of .result .kind) (c .match-line .result .words) (c .match-line .result .all) (c .match-line .last .1 .1 .1 .0)
 matched c =
-    let s = c .before .before .before .before .before .before .before in
-    let k = c .before .before .before .before .kind-of in
-    matching (s .args .line .now) (s .args .values .now) _ (k .result .kind) _ _ _ (k .ensures .0) (k .ensures .1) (k .ensures .2) (s .pre) (search needs) (c .match-line .ensures)
+    let kind-of = c .before .before .before .before .kind-of in
+    matching _ _ _ _ _ _ _ (kind-of .ensures .0) (kind-of .ensures .1) (kind-of .ensures .2) (c .before .before .before .before .before .before .before .pre) (search needs) (c .match-line .ensures)
 
 -- the number is the next, or there is none
 next : (c : tie.Joined3) → Next (matched (c .before .before .before)) (c .before .before .before .before .before .before .before .before .before .before .args .t2) (c .before .before .before .before .before .before .if1 .left) (c .before .before .before .before .before .if2 .left)
 next c =
-    let s = c .before .before .before .before .before .before .before .before .before .before in
+    let args = c .before .before .before .before .before .before .before .before .before .before .args in
+    let if1 = c .before .before .before .before .before .before .if1 in let if2 = c .before .before .before .before .before .if2 in
     let m = matched (c .before .before .before) in
     ⊎-elim
-    (λ w. next-same m (s .args .t2) (c .before .before .before .before .before .before .if1 .left) (c .before .before .before .before .before .if2 .left) (w .0 .taken) (w .3 .left ∙ ap (λ (b : ℕ). getD (s .args .t2) b 0) (w .2 .ensures .0)))
-    (λ w. next-none m (s .args .t2) (c .before .before .before .before .before .before .if1 .left) (c .before .before .before .before .before .if2 .left) (w .left))
+    (λ w. next-same m (args .t2) (if1 .left) (if2 .left) (w .0 .taken) (w .3 .left ∙ ap (λ (b : ℕ). getD (args .t2) b 0) (w .2 .ensures .0)))
+    (λ w. next-none m (args .t2) (if1 .left) (if2 .left) (w .left))
     (c .if3 .came)
 
 returns : tie.Need-returns
 returns c =
-    let s = c .before .before .before .before in
-    read-comment (s .args .t2) (words (s .args .line .now)) _ _ (c .before .kind-of .ensures .0) (c .if1 .taken)
+    read-comment _ (words _) _ _ (c .before .kind-of .ensures .0) (c .if1 .taken)
 
 returns-2 : tie.Need-returns-2
 returns-2 c =
-    let s = c .before .before .before .before .before in
-    read-unknown (s .args .t2) (words (s .args .line .now)) _ _ (c .before .before .kind-of .ensures .0) (c .if2 .taken)
+    read-unknown _ (words _) _ _ (c .before .before .kind-of .ensures .0) (c .if2 .taken)
 
 slice-read-if4 : tie.Need-slice-read-if4
-slice-read-if4 c = let l : 0 < length (c .before .before .before .before .match-line .last .1 .1 .1 .0) = omega (arith, matched (c .before .before .before .before) .few) in l
+slice-read-if4 c = let place = c .before .before .before .before in
+    let l : 0 < length (place .match-line .last .1 .1 .1 .0) = omega (arith, matched place .few) in l
 
 returns-3 : tie.Need-returns-3
 returns-3 c =
-    let s = c .before .before .before .before .before .before .before .before .before .before .before .before .before in
-    read-number (matched (c .before .before .before .before .before .before)) (s .args .t2) (c .before .before .before .before .before .before .before .before .before .if1 .left) (c .before .before .before .before .before .before .before .before .if2 .left) (c .before .before .before .if3 .taken)
-    (λ e. c .if4 .taken (e ∙ ap (λ (b : ℕ). getD (s .args .t2) b 0) (sym (c .before .body-counted .ensures .0))))
+    read-number (matched (c .before .before .before .before .before .before)) _ (c .before .before .before .before .before .before .before .before .before .if1 .left) (c .before .before .before .before .before .before .before .before .if2 .left) (c .before .before .before .if3 .taken)
+    (λ e. c .if4 .taken (e ∙ ap (λ (b : ℕ). getD (c .before .before .before .before .before .before .before .before .before .before .before .before .before .args .t2) b 0) (sym (c .before .body-counted .ensures .0))))
 
 add-t28 : tie.Need-add-t28
 add-t28 c = let m = matched (c .before .before .before .before) .few in search needs
 
 returns-4 : tie.Need-returns-4
-returns-4 c = read-part (matched (c .before .before .before .before)) (c .before .before .before .before .before .before .before .before .before .before .before .args .t2) (c .before .before .before .before .before .before .before .if1 .left) (c .before .before .before .before .before .before .if2 .left) (next (c .before)) (not-true _ (c .if5 .taken))
+returns-4 c = read-part (matched (c .before .before .before .before)) _ (c .before .before .before .before .before .before .before .if1 .left) (c .before .before .before .before .before .before .if2 .left) (next (c .before)) (not-true _ (c .if5 .taken))
 
 add-t32 : tie.Need-add-t32
 add-t32 c = let m = matched (c .before .before .before .before .before .before) .few in search needs
 
 returns-5 : tie.Need-returns-5
-returns-5 c = read-few (matched (c .before .before .before .before .before .before)) (c .before .before .before .before .before .before .before .before .before .before .before .before .before .args .t2) (c .before .before .before .before .before .before .before .before .before .if1 .left) (c .before .before .before .before .before .before .before .before .if2 .left) (next (c .before .before .before)) (rw (← c .before .needed .ensures) (c .if6 .taken))
+returns-5 c = read-few (matched (c .before .before .before .before .before .before)) _ (c .before .before .before .before .before .before .before .before .before .if1 .left) (c .before .before .before .before .before .before .before .before .if2 .left) (next (c .before .before .before)) (rw (← c .before .needed .ensures) (c .if6 .taken))
 
 returns-6 : tie.Need-returns-6
-returns-6 c = read-right (matched (c .before .before .before .before .before .before)) (c .before .before .before .before .before .before .before .before .before .before .before .before .before .args .t2) (c .before .before .before .before .before .before .before .before .before .if1 .left) (c .before .before .before .before .before .before .before .before .if2 .left) (next (c .before .before .before)) (not-false _ (c .before .before .if5 .left)) (rw (← c .before .needed .ensures) (c .if6 .left))
+returns-6 c = read-right (matched (c .before .before .before .before .before .before)) _ (c .before .before .before .before .before .before .before .before .before .if1 .left) (c .before .before .before .before .before .before .before .before .if2 .left) (next (c .before .before .before)) (not-false _ (c .before .before .if5 .left)) (rw (← c .before .needed .ensures) (c .if6 .left))
 
 pub read-line-spec : {M : Type 1} → statement M
-read-line-spec = tie.close (tie.spec (λ c κs. search needs) returns returns-2 (λ c κs. search needs) slice-read-if4 (λ c κs. search needs)
-    (λ c. search needs) (λ c. search needs) (λ c. search needs) returns-3 add-t28 (λ c. search needs) returns-4 (λ c κs. search needs)
-    add-t32 (λ c. search needs) returns-5 (λ c. search needs) returns-6)
+read-line-spec = tie.close (tie.spec (search needs) returns returns-2 (search needs) slice-read-if4 (search needs) (search needs)
+    (search needs) (search needs) returns-3 add-t28 (search needs) returns-4 (search needs) add-t32 (search needs) returns-5 (search needs)
+    returns-6)
