@@ -60,9 +60,6 @@ uses-all n us h = all-each (Of n) 0 us h
 all-uses : (n : ℕ) (us : List ℕ) → All (Of n) us → EdgesBelow n us
 all-uses n us h = all-place (Of n) 0 us h
 
-pub part-uses : (n : ℕ) (us : List ℕ) → EdgesBelow n us → (i j : ℕ) → EdgesBelow n (take j (drop i us))
-part-uses n us h i j = all-uses n (take j (drop i us)) (all-take (Of n) j (drop i us) (all-drop (Of n) i us (uses-all n us h)))
-
 pub rotated-uses : (n : ℕ) (us : List ℕ) → EdgesBelow n us → (i : ℕ) → EdgesBelow n (drop i us ++ take i us)
 rotated-uses n us h i =
     all-uses n (drop i us ++ take i us) (all-append (Of n) (drop i us) (take i us) (all-drop (Of n) i us (uses-all n us h)) (all-take (Of n) i us (uses-all n us h)))

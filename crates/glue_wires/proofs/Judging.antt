@@ -252,10 +252,6 @@ pub one-sum : (n : ℕ) → sum (take 1 (replicate 1 n)) ≡ n
 unfolding sum
 one-sum n = omega arith
 
--- a list stored whole
-pub put-end : (out₀ out from : List ℕ) (i : ℕ) → length from ≤ i → out ≡ sets out₀ 0 (take i from) → out ≡ sets out₀ 0 from
-put-end out₀ out from i h e = rw (take-all i from h) at e
-
 -- ---- the two faces
 
 -- nothing is kept

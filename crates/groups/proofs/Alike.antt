@@ -7,8 +7,7 @@ use mathlib.Core.Path.{_∙_, _≡_, refl, sym}
 use native.Mathlib.Nat.{le-of-suc-le-suc, not-suc-le-zero}
 use lib.ListN.{getD, length}
 use Rattle.groups.proofs.Meaning.{back, chain, linked-one-group, one-group-linked}
-use Rattle.groups.specs.Forest.{Grouped, rootOf}
-use Rattle.groups.specs.Groups.{Inside, Link, Linked, Means, against, along, here, oneGroup}
+use Rattle.groups.specs.Groups.{Inside, Link, Linked, against, along, here, oneGroup}
 use Rattle.lists.proofs.Laws.{cases}
 use Rattle.lists.specs.Lists.{flat}
 
@@ -31,17 +30,6 @@ covers-linked c (against l m p) = chain (back (c l m)) (covers-linked c p)
 
 pub within-covers : {L L′ : List Link} → Within L L′ → Covers L L′
 within-covers w l m = along l (w l m) here
-
-module _ (n : ℕ) (L L′ : List Link) (inside : Inside n L′) (to : Covers L L′) (from : Covers L′ L) where
-  pub means-alike : (f : ℕ → ℕ) → Means n L f → Means n L′ f
-  means-alike f m = record {
-    inside = inside;
-    linked = λ i j hi hj e. covers-linked to (m .linked i j hi hj e);
-    same = λ i j hi hj p. m .same i j hi hj (covers-linked from p);
-  }
-
-  pub grouped-alike : {ps ss : List ℕ} → Grouped n L ps ss → Grouped n L′ ps ss
-  grouped-alike {ps} g = record { forest = g .forest; means = means-alike (rootOf ps) (g .means) }
 
 one-group-more : (n : ℕ) (L L′ : List Link) (ps ps′ : List ℕ) → Inside n L → Inside n L′ → Covers L L′ → Under n ps → Within ps′ ps
     → oneGroup n L ps ≡ true → oneGroup n L′ ps′ ≡ true

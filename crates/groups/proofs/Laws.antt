@@ -142,10 +142,6 @@ module _ (n : ℕ) (L : List Link) (ps ss : List ℕ) (g : Grouped n L ps ss) (i
       (λ (e : sameGroup n L i j ≡ false). ne-eqb (rootOf ps i) (rootOf ps j) (λ o. true≢false (sym (roots-same o) ∙ e)) ∙ sym e)
       (cases (sameGroup n L i j))
 
-  -- what a join asks
-  pub grouped-ready : Ready ps ss i j
-  grouped-ready = ready n ps ss (g .forest) i j hi hj
-
 pub grouped-all : (n : ℕ) (L M : List Link) (t : Trees) → Grouped n L (t .parents) (t .sizes) → Inside n M
     → Grouped n (L ++ M) (joinedAll t M .parents) (joinedAll t M .sizes)
 unfolding joinedAll
@@ -172,10 +168,6 @@ grouped-climbs n L ps ss g i h = climbs n ps ss (g .forest) i h
 pub grouped-begin : (n : ℕ) (ps ss : List ℕ) {ps′ ss′ : List ℕ} → n < 65536 → (ps′ ≡ started n ps ss .parents) × (ss′ ≡ started n ps ss .sizes)
     → Grouped n [] ps′ ss′
 grouped-begin n ps ss few e = rw (e .0, e .1) (grouped-start n ps ss few)
-
-pub grouped-next : (n : ℕ) {L L′ : List Link} {ps ss ps′ ss′ : List ℕ} (i j : ℕ) → Grouped n L ps ss → i < n → j < n
-    → L′ ≡ L ++ (record { a = i; b = j } ∷ []) → (ps′ ≡ joined ps ss i j .parents) × (ss′ ≡ joined ps ss i j .sizes) → Grouped n L′ ps′ ss′
-grouped-next n {L} {L′} {ps} {ss} i j g hi hj e o = rw (e, o .0, o .1) (grouped-join n L ps ss g i j hi hj)
 
 pub grouped-more : (n : ℕ) {L L′ : List Link} {ps ss ps′ ss′ : List ℕ} (M : List Link) → Grouped n L ps ss → Inside n M → L′ ≡ L ++ M
     → (ps′ ≡ joinedAll (trees ps ss) M .parents) × (ss′ ≡ joinedAll (trees ps ss) M .sizes) → Grouped n L′ ps′ ss′

@@ -141,9 +141,6 @@ module _ (counts wires uses : List ℕ) (e : sum wires ≡ length uses) where
   pub face-uses : (f : ℕ) → flat (getD (split counts (split wires uses)) f []) ≡ facePart counts wires f uses
   face-uses f = rw (map-id (getD (split counts (split wires uses)) f [])) at (face-part false f)
 
-  pub face-turned : (f : ℕ) → flat (map (λ (us : List ℕ). map turned (reverse us)) (getD (split counts (split wires uses)) f [])) ≡ facePart counts wires f (turnedUses wires uses)
-  face-turned f = face-part true f
-
   pub listing-part : (l : ℕ) → flat (shownWires (split counts (split wires uses)) l) ≡ facePart counts wires (faceNumber l) (column wires uses (leb 32768 l))
   listing-part l = face-part (leb 32768 l) (faceNumber l)
 

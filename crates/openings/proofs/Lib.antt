@@ -3,4 +3,3 @@ pub mod Follow
 pub mod Keeping
 pub mod Passes
 pub mod Wide
-pub mod Written

@@ -2,7 +2,7 @@
 use Prim.Native.Nat.{_+_, _-_, _<_, _≤_, suc, ℕ}
 use mathlib.Core.Bool.{Bool}
 use mathlib.Core.List.{List, map}
-use mathlib.Core.Path.{_∙_, _≡_, refl, sym}
+use mathlib.Core.Path.{_∙_, _≡_, sym}
 use native.Mathlib.Numerals.{add-one}
 use native.Mathlib.Omega.{arith}
 use lib.ListN.{getD, length, length-append, length-map, replicate, take}
@@ -41,12 +41,6 @@ module _ (k : Columns) (n : ℕ) (p : Pattern) (s : Sound p) (e : k ≡ columnsI
   places-inside =
       let ps = tabulate (suc (getD (p .counts) 5 0)) (firstListing p) in
       rw e (omega (arith, here, length-append ps (replicate (257 - length ps) 0), length-tabulate (suc (getD (p .counts) 5 0)) (firstListing p)))
-
-  pub in-listings : listingsIn k n ≡ listingsIn (columnsIn p) n
-  in-listings = rw e
-
-  listings-is : listingsIn (columnsIn p) n ≡ between (p .listings) (getD (columnsIn p .places) n 0) (getD (columnsIn p .places) (n + 1) 0)
-  listings-is = refl
 
   pub fronts-are : take (k .edges) (k .fronts) ≡ map frontNumber (content p .edges)
   fronts-are = rw e (sym (map-take frontNumber (getD (p .counts) 1 0) (p .edges)))

@@ -146,8 +146,5 @@ module _ {faces : List (List (List ℕ))} {counts spans lens uses : List ℕ} (h
   pub held-wires : split lens uses ≡ flat faces
   held-wires = rw (h .lens-are, h .uses-are) (split-flat (flat faces))
 
-  pub held-faces : split counts (split lens uses) ≡ faces
-  held-faces = rw (held-wires, h .counts-are) (split-flat faces)
-
   pub held-parts : split spans uses ≡ map flat faces
   held-parts = rw (h .spans-are, h .uses-are, ← flat-uses faces, ← map-map length flat faces) (split-flat (map flat faces))

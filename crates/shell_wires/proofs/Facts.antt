@@ -18,7 +18,7 @@ use Rattle.pattern.proofs.Passed.{content-passed, pattern-passed}
 use Rattle.pattern.specs.Checks.{patternFaults, recordFaults}
 use Rattle.pattern.specs.Contents.{content, countsOf}
 use Rattle.pattern.specs.declared.Pattern.{Pattern}
-use Rattle.shell.specs.Openings.{backIn, frontIn}
+use Rattle.shell.specs.Openings.{frontIn}
 use Rattle.shell.specs.Shells.{faceNumber}
 use Rattle.shell_edits.proofs.Storage.{seven-are, sets-after, sets-own}
 use Rattle.shell_edits.specs.Answers.{storedIn}
@@ -134,9 +134,6 @@ module _ (p : Pattern) (s : Fine p) where
   pub front-in : (u : ℕ) → edgeNumber u < edges → frontIn (content p) u ≡ frontOf fronts backs u
   front-in u h = rw (map-take frontNumber edges (p .edges), map-take backNumber edges (p .edges)) (front-taken fronts backs edges u h)
 
-  pub back-in : (u : ℕ) → edgeNumber u < edges → backIn (content p) u ≡ frontOf backs fronts u
-  back-in u h = rw (map-take frontNumber edges (p .edges), map-take backNumber edges (p .edges)) (front-taken backs fronts edges u h)
-
   pub front-point : (u : ℕ) → edgeNumber u < edges → frontOf fronts backs u < points
   front-point u h =
       omega (arith, front-in u h, point-named (content p) records-fine u (omega (arith, edges-counted p (s .limits) (s .full))), points-counted p (s .limits) (s .full))
@@ -153,9 +150,6 @@ module _ (p : Pattern) (s : Fine p) where
   -- bodies that do not change
   pub points-kept : sets (p .points) 0 (content p .points) ≡ p .points
   points-kept = sets-own (p .points) points (omega (arith, s .limits .points, s .full .points))
-
-  pub edges-kept : sets (p .edges) 0 (content p .edges) ≡ p .edges
-  edges-kept = sets-own (p .edges) edges (omega (arith, s .limits .edges, s .full .edges))
 
   pub uses-kept : sets (p .uses) 0 (content p .uses) ≡ p .uses
   uses-kept = sets-own (p .uses) uses (omega (arith, s .limits .uses, s .full .uses))

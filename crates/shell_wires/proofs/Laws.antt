@@ -63,9 +63,6 @@ pub flagging-start : (ls : List ℕ) → Flagging ls (replicate 256 false) 0
 flagging-start ls = record { low = omega arith; is = flags-none 256 }
 
 module _ (ls : List ℕ) (out : List Bool) (k : ℕ) (s : Flagging ls out k) where
-  pub flagging-long : length out ≡ 256
-  flagging-long = ap length (s .is) ∙ length-tabulate 256 (λ (f : ℕ). has f (map faceNumber (take k ls)))
-
   pub flagging-next : (f : ℕ) → k < length ls → f ≡ faceNumber (getD ls k 0) → f < 256 → Flagging ls (set out f true) (k + 1)
   flagging-next f h e b =
       let names : map faceNumber (take (k + 1) ls) ≡ map faceNumber (take k ls) ++ (f ∷ []) =

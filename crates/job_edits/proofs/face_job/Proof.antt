@@ -14,19 +14,20 @@ use Rattle.job_edits.proofs.face_job.Tie as tie
 -- the wire that is lent
 wire : (c : tie.After-put-saturated) → take (length (c .before .before .before .before .before .before .before .before .before .before .args .v .now) - 1 - 0) (c .put-saturated .last .1 .0) ≡ wireNamed (c .before .before .before .before .before .before .before .before .before .before .args .v .now)
 wire c =
-    wire-is (c .before .before .before .before .before .before .before .before .before .before .args .v .now) (replicate 32768 0) _ (length (c .before .before .before .before .before .before .before .before .before .before .args .v .now) - 1) (omega (arith, kinds-some (c .before .before .before .before .before .before .before .before .before .before .args .j))) (omega (arith, length-replicate {A = ℕ} 32768 0)) refl (c .put-saturated .ensures)
+    let args = c .before .before .before .before .before .before .before .before .before .before .args in
+    wire-is (args .v .now) (replicate 32768 0) _ (length (args .v .now) - 1) (omega (arith, kinds-some (args .j))) (omega (arith, length-replicate {A = ℕ} 32768 0)) refl (c .put-saturated .ensures)
 
 shared-slice-read-saturated : tie.Need-shared-slice-read-saturated
 shared-slice-read-saturated c = omega (arith, kinds-some (c .before .before .before .before .before .args .j))
 
 shared-slice-read-saturated-2 : tie.Need-shared-slice-read-saturated-2
-shared-slice-read-saturated-2 c = omega (arith, ap length (kinds-two (c .before .before .before .before .before .before .before .before .args .j) (inr (c .before .if1 .taken))))
+shared-slice-read-saturated-2 c = omega (arith, ap length (kinds-two _ (inr (c .before .if1 .taken))))
 
 returns : tie.Need-returns
 returns c =
-    let a = c .before .before .before .before .before .before .before .before .before .before .before .before .before .before .before .before .args in
-    let e = glue-is (a .j) (a .v .now) (a .file .now) _ _ _ (c .before .before .before .before .before .before .before .before .before .before .saturated .ensures) (c .before .before .before .before .before .before .before .before .before .before .before .before .before .before .before .before .pre .1 .0) (c .before .before .before .before .before .before .before .before .before .before .before .before .before .before .before .before .pre .1 .1) _ (c .before .before .before .before .before .before .before .before .before .if1 .taken) (c .before .before .before .before .before .before .before .saturated2 .ensures) in
-    face-made e _ (a .uses .now) (a .lens .now) _ _ (c .before .before .before .before .file-glue .ensures)
+    let pre = c .before .before .before .before .before .before .before .before .before .before .before .before .before .before .before .before .pre in
+    let e = glue-is _ _ _ _ _ _ (c .before .before .before .before .before .before .before .before .before .before .saturated .ensures) (pre .1 .0) (pre .1 .1) _ (c .before .before .before .before .before .before .before .before .before .if1 .taken) (c .before .before .before .before .before .before .before .saturated2 .ensures) in
+    face-made e _ _ _ _ _ (c .before .before .before .before .file-glue .ensures)
 
 sub-n : tie.Need-sub-n
 sub-n c = omega (arith, kinds-some (c .before .before .before .before .before .before .before .args .j))
@@ -36,19 +37,18 @@ part-put-saturated-end c = omega (arith, kinds-some (c .before .before .before .
 
 returns-2 : tie.Need-returns-2
 returns-2 c =
-    let a = c .before .before .before .before .before .before .before .before .before .before .before .before .before .before .before .before .before .before .before .before .before .args in
-    let e = add-is (a .j) (a .v .now) (a .file .now) _ _ _ (c .before .before .before .before .before .before .before .before .before .before .before .before .before .before .before .saturated .ensures) (c .before .before .before .before .before .before .before .before .before .before .before .before .before .before .before .before .before .before .before .before .before .pre .1 .0) (c .before .before .before .before .before .before .before .before .before .before .before .before .before .before .before .before .before .before .before .before .before .pre .1 .1) _ (c .before .before .before .before .before .before .before .before .before .if2 .taken) (wire (c .before .before .before .before .before .before .before .before .before .before .before)) in
-    face-made e _ (a .uses .now) (a .lens .now) _ _ (c .before .before .before .before .file-add .ensures)
+    let pre = c .before .before .before .before .before .before .before .before .before .before .before .before .before .before .before .before .before .before .before .before .before .pre in
+    let e = add-is _ _ _ _ _ _ (c .before .before .before .before .before .before .before .before .before .before .before .before .before .before .before .saturated .ensures) (pre .1 .0) (pre .1 .1) _ (c .before .before .before .before .before .before .before .before .before .if2 .taken) (wire (c .before .before .before .before .before .before .before .before .before .before .before)) in
+    face-made e _ _ _ _ _ (c .before .before .before .before .file-add .ensures)
 
 returns-3 : tie.Need-returns-3
 returns-3 c =
-    let a = c .before .before .before .before .before .before .before .before .before .before .before .before .before .before .before .before .before .before .before .before .before .args in
-    let e = cutface-is (a .j) (a .v .now) (a .file .now) _ _ _ (c .before .before .before .before .before .before .before .before .before .before .before .before .before .before .before .saturated .ensures) (c .before .before .before .before .before .before .before .before .before .before .before .before .before .before .before .before .before .before .before .before .before .pre .1 .0) (c .before .before .before .before .before .before .before .before .before .before .before .before .before .before .before .before .before .before .before .before .before .pre .1 .1) _ (c .before .before .before .before .before .before .before .before .before .if2 .left) (c .before .before .before .before .before .before .before .before .before .before .before .before .before .before .if1 .left) (c .before .before .before .before .before .before .before .before .before .before .before .before .before .before .before .before .before .before .before .before .before .pre .0 .0) (c .before .before .before .before .before .before .before .before .before .before .before .before .before .before .before .before .before .before .before .before .before .pre .0 .1) (wire (c .before .before .before .before .before .before .before .before .before .before .before)) in
-    face-made e _ (a .uses .now) (a .lens .now) _ _ (c .before .before .before .before .file-cut-by-wire .ensures)
+    let pre = c .before .before .before .before .before .before .before .before .before .before .before .before .before .before .before .before .before .before .before .before .before .pre in
+    let e = cutface-is _ _ _ _ _ _ (c .before .before .before .before .before .before .before .before .before .before .before .before .before .before .before .saturated .ensures) (pre .1 .0) (pre .1 .1) _ (c .before .before .before .before .before .before .before .before .before .if2 .left) (c .before .before .before .before .before .before .before .before .before .before .before .before .before .before .if1 .left) (pre .0 .0) (pre .0 .1) (wire (c .before .before .before .before .before .before .before .before .before .before .before)) in
+    face-made e _ _ _ _ _ (c .before .before .before .before .file-cut-by-wire .ensures)
 
 pub face-job-spec : {M : Type 1} → statement M
-face-job-spec = tie.close (tie.spec shared-slice-read-saturated (λ c κs. search needs) shared-slice-read-saturated-2 (λ c κs. search needs)
-    (λ c κs. search needs) (λ c. search needs) (λ c. search needs) returns sub-n (λ c. search needs) (λ c. search needs)
-    (λ c. search needs) part-put-saturated-end (λ c. search needs) (λ c κs. search needs) (λ c. search needs) (λ c. search needs)
-    (λ c. search needs) (λ c κs. search needs) (λ c. search needs) (λ c. search needs) returns-2 (λ c. search needs) (λ c. search needs)
-    (λ c. search needs) (λ c κs. search needs) (λ c. search needs) (λ c. search needs) returns-3)
+face-job-spec = tie.close (tie.spec shared-slice-read-saturated (search needs) shared-slice-read-saturated-2 (search needs) (search needs)
+    (search needs) (search needs) returns sub-n (search needs) (search needs) (search needs) part-put-saturated-end (search needs)
+    (search needs) (search needs) (search needs) (search needs) (search needs) (search needs) (search needs) returns-2 (search needs)
+    (search needs) (search needs) (search needs) (search needs) (search needs) returns-3)

@@ -10,33 +10,31 @@ use Rattle.job_edits.proofs.shell_job.Statement.{statement}
 use Rattle.job_edits.proofs.shell_job.Tie as tie
 
 shared-slice-read-file-cut : tie.Need-shared-slice-read-file-cut
-shared-slice-read-file-cut c = omega (arith, ap length (kinds-cut (c .before .before .before .before .before .args .j) (c .before .if1 .taken)))
+shared-slice-read-file-cut c = omega (arith, ap length (kinds-cut _ (c .before .if1 .taken)))
 
 shared-slice-read-saturated : tie.Need-shared-slice-read-saturated
-shared-slice-read-saturated c = omega (arith, ap length (kinds-cut (c .before .before .before .before .before .before .args .j) (c .before .before .if1 .taken)))
+shared-slice-read-saturated c = omega (arith, ap length (kinds-cut _ (c .before .before .if1 .taken)))
 
 shared-slice-read-saturated-2 : tie.Need-shared-slice-read-saturated-2
-shared-slice-read-saturated-2 c = omega (arith, ap length (kinds-cut (c .before .before .before .before .before .before .before .before .args .j) (c .before .before .before .before .if1 .taken)))
+shared-slice-read-saturated-2 c = omega (arith, ap length (kinds-cut _ (c .before .before .before .before .if1 .taken)))
 
 shared-slice-read-file-cut-2 : tie.Need-shared-slice-read-file-cut-2
-shared-slice-read-file-cut-2 c = omega (arith, ap length (kinds-cut (c .before .before .before .before .before .before .before .before .before .before .args .j) (c .before .before .before .before .before .before .if1 .taken)))
+shared-slice-read-file-cut-2 c = omega (arith, ap length (kinds-cut _ (c .before .before .before .before .before .before .if1 .taken)))
 
 returns : tie.Need-returns
 returns c =
-    let a = c .before .before .before .before .before .before .before .before .before .before .before .before .before .before .args in
-    let e = cut-is (a .j) (a .v .now) (a .file .now) (a .out .now) _ _ (c .before .before .before .before .before .before .before .before .before .before .if1 .taken) (c .before .before .before .before .before .before .before .saturated .ensures) (c .before .before .before .before .before .saturated2 .ensures) in
+    let e = cut-is _ _ _ _ _ _ (c .before .before .before .before .before .before .before .before .before .before .if1 .taken) (c .before .before .before .before .before .before .before .saturated .ensures) (c .before .before .before .before .before .saturated2 .ensures) in
     shell-made e _ _ (c .before .before .file-cut .ensures)
 
 shared-slice-read-file-remove : tie.Need-shared-slice-read-file-remove
-shared-slice-read-file-remove c = omega (arith, ap length (kinds-remove (c .before .before .before .before .before .before .args .j) (c .before .if2 .taken)))
+shared-slice-read-file-remove c = omega (arith, ap length (kinds-remove _ (c .before .if2 .taken)))
 
 shared-slice-read-saturated-3 : tie.Need-shared-slice-read-saturated-3
-shared-slice-read-saturated-3 c = omega (arith, ap length (kinds-remove (c .before .before .before .before .before .before .before .args .j) (c .before .before .if2 .taken)))
+shared-slice-read-saturated-3 c = omega (arith, ap length (kinds-remove _ (c .before .before .if2 .taken)))
 
 returns-2 : tie.Need-returns-2
 returns-2 c =
-    let a = c .before .before .before .before .before .before .before .before .before .before .before .before .args in
-    let e = remove-is (a .j) (a .v .now) (a .file .now) (a .out .now) _ (c .before .before .before .before .before .before .before .before .if1 .left) (c .before .before .before .before .before .before .before .if2 .taken) (c .before .before .before .before .saturated3 .ensures) in
+    let e = remove-is _ _ _ _ _ (c .before .before .before .before .before .before .before .before .if1 .left) (c .before .before .before .before .before .before .before .if2 .taken) (c .before .before .before .before .saturated3 .ensures) in
     shell-made e _ _ (c .before .before .file-remove .ensures)
 
 shared-slice-read-saturated-4 : tie.Need-shared-slice-read-saturated-4
@@ -47,13 +45,11 @@ shared-slice-read-saturated-5 c = omega (arith, ap length (kinds-two (c .before 
 
 returns-3 : tie.Need-returns-3
 returns-3 c =
-    let a = c .before .before .before .before .before .before .before .before .before .before .before .before .before .args in
-    let e = concat-is (a .j) (a .v .now) (a .file .now) (a .out .now) _ _ (c .before .before .before .before .before .before .before .before .before .if1 .left) (c .before .before .before .before .before .before .before .before .if2 .left) (c .before .before .before .before .before .before .saturated4 .ensures) (c .before .before .before .before .saturated5 .ensures) in
+    let e = concat-is _ _ _ _ _ _ (c .before .before .before .before .before .before .before .before .before .if1 .left) (c .before .before .before .before .before .before .before .before .if2 .left) (c .before .before .before .before .before .before .saturated4 .ensures) (c .before .before .before .before .saturated5 .ensures) in
     shell-made e _ _ (c .before .before .file-concat .ensures)
 
 pub shell-job-spec : {M : Type 1} → statement M
-shell-job-spec = tie.close (tie.spec shared-slice-read-file-cut shared-slice-read-saturated (λ c κs. search needs)
-    shared-slice-read-saturated-2 (λ c κs. search needs) shared-slice-read-file-cut-2 (λ c κs. search needs) (λ c. search needs) returns
-    shared-slice-read-file-remove shared-slice-read-saturated-3 (λ c κs. search needs) (λ c κs. search needs) (λ c. search needs) returns-2
-    shared-slice-read-saturated-4 (λ c κs. search needs) shared-slice-read-saturated-5 (λ c κs. search needs) (λ c κs. search needs)
-    (λ c. search needs) returns-3)
+shell-job-spec = tie.close (tie.spec shared-slice-read-file-cut shared-slice-read-saturated (search needs) shared-slice-read-saturated-2
+    (search needs) shared-slice-read-file-cut-2 (search needs) (search needs) returns shared-slice-read-file-remove
+    shared-slice-read-saturated-3 (search needs) (search needs) (search needs) returns-2 shared-slice-read-saturated-4 (search needs)
+    shared-slice-read-saturated-5 (search needs) (search needs) (search needs) returns-3)

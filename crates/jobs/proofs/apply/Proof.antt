@@ -8,33 +8,30 @@ use Rattle.jobs.proofs.apply.Statement.{statement}
 use Rattle.jobs.proofs.apply.Tie as tie
 
 begun : (c : tie.After-first-of) → Named (c .before .before .before .before .before .before .before .args .line .now) (take (c .before .before .trimmed-length .result - 0) (c .before .before .before .before .before .before .before .args .line .now)) (c .first-of .result .job) (c .first-of .result .end)
-begun c = record { few = c .before .before .before .if1 .left; trim = trim-is (c .before .before .before .before .before .before .before .args .line .now) (c .before .before .trimmed-length .result) (c .before .before .trimmed-length .ensures .1); job = c .first-of .ensures .0; rest = c .first-of .ensures .3 }
+begun c = let trimmed-length = c .before .before .trimmed-length in
+    record { few = c .before .before .before .if1 .left; trim = trim-is (c .before .before .before .before .before .before .before .args .line .now) (trimmed-length .result) (trimmed-length .ensures .1); job = c .first-of .ensures .0; rest = c .first-of .ensures .3 }
 
 read : (c : tie.After-match-job) → Valued (c .before .before .before .before .before .before .before .before .before .before .args .line .now) (c .before .before .before .first-of .result .job) (c .match-job .result .words) (c .match-job .result .all) (c .match-job .last .1 .1 .1 .0)
 read c = valued (begun (c .before .before .before)) (c .before .before .if2 .left) _ _ _ (c .match-job .ensures .0) (c .match-job .ensures .1 .0) (c .match-job .ensures .1 .1)
 
 returns : tie.Need-returns
 returns c =
-    let a = c .before .before .before .before .before .before .before .args in
-    answered (a .line .now) (a .file .now) (a .out .now) (too-long (a .line .now) (a .file .now) (a .out .now) (c .before .before .before .if1 .taken)) (a .text .now) _ _ (c .put-text .ensures .0, omega (arith, c .put-text .ensures .1))
+    answered _ _ _ (too-long _ _ _ (c .before .before .before .if1 .taken)) _ _ _ (c .put-text .ensures .0, omega (arith, c .put-text .ensures .1))
 
 returns-2 : tie.Need-returns-2
 returns-2 c =
-    let a = c .before .before .before .before .before .before .before .before .before .before .args in
-    answered (a .line .now) (a .file .now) (a .out .now) (no-name-line (begun (c .before .before .before)) (a .file .now) (a .out .now) (c .before .before .if2 .taken)) (a .text .now) _ _ (c .put-no-job .ensures)
+    answered _ _ _ (no-name-line (begun (c .before .before .before)) _ _ (c .before .before .if2 .taken)) _ _ _ (c .put-no-job .ensures)
 
 add-put-no-job : tie.Need-add-put-no-job
 add-put-no-job c = omega (arith, valued-few (read (c .before .before .before .before)))
 
 returns-3 : tie.Need-returns-3
 returns-3 c =
-    let a = c .before .before .before .before .before .before .before .before .before .before .before .before .before .before .before .args in
-    answered (a .line .now) (a .file .now) (a .out .now) (no-word-line (read (c .before .before .before .before .before)) (a .file .now) (a .out .now) (c .before .before .if3 .taken)) (a .text .now) _ _ (c .put-no-job2 .ensures)
+    answered _ _ _ (no-word-line (read (c .before .before .before .before .before)) _ _ (c .before .before .if3 .taken)) _ _ _ (c .put-no-job2 .ensures)
 
 returns-4 : tie.Need-returns-4
 returns-4 c =
-    let a = c .before .before .before .before .before .before .before .before .before .before .before .before .before .before .before .before .before .args in
-    answered (a .line .now) (a .file .now) (a .out .now) (missing-line (read (c .before .before .before .before .before .before .before)) (c .before .before .before .before .if3 .left) (a .file .now) (a .out .now) _ (c .before .before .before .needed .ensures .0) (c .before .before .if4 .taken)) (a .text .now) _ _ (c .put-no-job3 .ensures)
+    answered _ _ _ (missing-line (read (c .before .before .before .before .before .before .before)) (c .before .before .before .before .if3 .left) _ _ _ (c .before .before .before .needed .ensures .0) (c .before .before .if4 .taken)) _ _ _ (c .put-no-job3 .ensures)
 
 part-do-job-end : tie.Need-part-do-job-end
 part-do-job-end c = valued-room (read (c .before .before .before .before .before .before))
@@ -46,17 +43,11 @@ do-job-requires c κs =
 
 returns-5 : tie.Need-returns-5
 returns-5 c =
-    let a = c .before .before .before .before .before .before .before .before .before .before .before .before .before .before .before .before .before .before .before .before .before .before .args in
-    let s = a .file .now in
-    let out = a .out .now in
+    let args = c .before .before .before .before .before .before .before .before .before .before .before .before .before .before .before .before .before .before .before .before .before .before .args in
     let r = read (c .before .before .before .before .before .before .before .before .before .before .before .before) in
-    let whole = c .before .before .before .before .before .before .before .before .before .if3 .left in
-    let n = c .before .before .before .before .before .before .before .before .needed .ensures .0 in
-    let h = c .before .before .before .before .before .before .before .if4 .left in
-    job-whole r whole _ n h s out (a .text .now) _ _ _ _ (c .before .before .do-job .ensures)
+    job-whole r (c .before .before .before .before .before .before .before .before .before .if3 .left) _ (c .before .before .before .before .before .before .before .before .needed .ensures .0) (c .before .before .before .before .before .before .before .if4 .left) (args .file .now) (args .out .now) _ _ _ _ _ (c .before .before .do-job .ensures)
 
 pub apply-spec : {M : Type 1} → statement M
-apply-spec = tie.close (tie.spec (λ c. search needs) (λ c κs. search needs) returns (λ c κs. search needs) (λ c. search needs)
-    (λ c. search needs) (λ c. search needs) (λ c κs. search needs) (λ c κs. search needs) returns-2 (λ c. search needs)
-    (λ c κs. search needs) add-put-no-job (λ c κs. search needs) returns-3 (λ c κs. search needs) (λ c. search needs)
-    (λ c κs. search needs) returns-4 (λ c. search needs) (λ c. search needs) part-do-job-end do-job-requires (λ c. search needs) returns-5)
+apply-spec = tie.close (tie.spec (search needs) (search needs) returns (search needs) (search needs) (search needs) (search needs)
+    (search needs) (search needs) returns-2 (search needs) (search needs) add-put-no-job (search needs) returns-3 (search needs)
+    (search needs) (search needs) returns-4 (search needs) (search needs) part-do-job-end do-job-requires (search needs) returns-5)

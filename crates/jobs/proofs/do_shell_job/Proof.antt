@@ -8,15 +8,15 @@ use Rattle.jobs.proofs.do_shell_job.Tie as tie
 
 returns : tie.Need-returns
 returns c =
-    let e = c .before .before .before .before .before .before .before .before .shell-job .ensures in
-    let p = c .before .before .put-refused .ensures in
-    (text-as (shell-refused (c .before .before .before .before .before .before .before .before .before .before .before .before .before .before .args .j) _ _ (e .0) (c .before .before .before .before .if1 .taken)) (c .before .before .before .before .before .before .before .before .before .before .before .before .before .before .args .text .now) _ _ (p .0, p .1), (e .1, ap (λ (a : Answer). a .third) (e .0)))
+    let shell-job = c .before .before .before .before .before .before .before .before .shell-job in
+    let put-refused = c .before .before .put-refused in
+    (text-as (shell-refused _ _ _ (shell-job .ensures .0) (c .before .before .before .before .if1 .taken)) _ _ _ (put-refused .ensures .0, put-refused .ensures .1), (shell-job .ensures .1, ap (λ (a : Answer). a .third) (shell-job .ensures .0)))
 
 returns-2 : tie.Need-returns-2
 returns-2 c =
-    let e = c .before .before .before .before .before .before .before .before .shell-job .ensures in
-    (text-as (shell-done (c .before .before .before .before .before .before .before .before .before .before .before .before .before .before .args .j) _ _ (e .0) (c .before .before .before .before .if1 .left)) (c .before .before .before .before .before .before .before .before .before .before .before .before .before .before .args .text .now) _ _ (c .before .before .put-edges .ensures), (e .1, ap (λ (a : Answer). a .third) (e .0)))
+    let shell-job = c .before .before .before .before .before .before .before .before .shell-job in
+    (text-as (shell-done _ _ _ (shell-job .ensures .0) (c .before .before .before .before .if1 .left)) _ _ _ (c .before .before .put-edges .ensures), (shell-job .ensures .1, ap (λ (a : Answer). a .third) (shell-job .ensures .0)))
 
 pub do-shell-job-spec : {M : Type 1} → statement M
-do-shell-job-spec = tie.close (tie.spec (λ c κs. search needs) (λ c κs. search needs) (λ c. search needs) (λ c. search needs) returns
-    (λ c κs. search needs) (λ c. search needs) (λ c. search needs) returns-2)
+do-shell-job-spec = tie.close (tie.spec (search needs) (search needs) (search needs) (search needs) returns (search needs) (search needs)
+    (search needs) returns-2)
