@@ -35,32 +35,37 @@ seven s = search needs
 
 -- the reading checks are passed
 good : (c : tie.After-enum-told) → Fine (c .before .before .before .args .t1)
-good c = fine _ (accepted-none (patternFaults _) (sym (c .before .before .check .ensures) ∙ c .enum-told .given .1)) (seven (c .before .before .before)) (full (c .before .before .before))
+good c = let place = c .before .before .before in
+    fine _ (accepted-none (patternFaults _) (sym (c .before .before .check .ensures) ∙ c .enum-told .given .1)) (seven place) (full place)
 
 returns : tie.Need-returns
-returns c = let a = c .before .before .before .before .args in
+returns c =
+    let args = c .before .before .before .before .args in
     let h = sym (c .before .before .before .check .ensures) ∙ c .before .checked .given .1 in
-    let es = cutFaults (content (a .t1)) (a .n) (a .e .0) (a .v .0) (a .at) in (
-      judged-refused Refused Not (Cut (nextEdge (a .t1) 0) (nextEdge (a .t1) 1)) (patternFaults _) es _ h,
+    let es = cutFaults (content (args .t1)) (args .n) (args .e .0) (args .v .0) (args .at) in (
+      judged-refused Refused Not (Cut (nextEdge (args .t1) 0) (nextEdge (args .t1) 1)) (patternFaults _) es _ h,
       (
-        judged-refused (λ (f : Refusal). a .t1) (λ (x : EditError). a .t1) (storedIn (a .t1) (cutContent (content (a .t1)) (a .n) (a .e .0) (a .v .0) (a .at))) (patternFaults _) es _ h,
+        judged-refused (λ (f : Refusal). args .t1) (λ (x : EditError). args .t1) (storedIn (args .t1) (cutContent (content (args .t1)) (args .n) (args .e .0) (args .v .0) (args .at))) (patternFaults _) es _ h,
         λ ok. ok,
       ),
     )
 
 returns-2 : tie.Need-returns-2
-returns-2 c = let a = c .before .before .before .before .before .before .before .before .args in
+returns-2 c =
+    let args = c .before .before .before .before .before .before .before .before .args in let place = c .before .before .before .before .before in
     let no = sym (c .before .all-named .ensures) ∙ not-true _ (c .if1 .taken) in (
-      unnamed (a .t1) (good (c .before .before .before .before .before)) (a .n) (a .e .0) (a .v .0) (a .at) Refused Not (Cut (nextEdge (a .t1) 0) (nextEdge (a .t1) 1)) no,
+      unnamed (args .t1) (good place) (args .n) (args .e .0) (args .v .0) (args .at) Refused Not (Cut (nextEdge (args .t1) 0) (nextEdge (args .t1) 1)) no,
       (
-        unnamed (a .t1) (good (c .before .before .before .before .before)) (a .n) (a .e .0) (a .v .0) (a .at) (λ (f : Refusal). a .t1) (λ (x : EditError). a .t1) (storedIn (a .t1) (cutContent (content (a .t1)) (a .n) (a .e .0) (a .v .0) (a .at))) no,
+        unnamed (args .t1) (good place) (args .n) (args .e .0) (args .v .0) (args .at) (λ (f : Refusal). args .t1) (λ (x : EditError). args .t1) (storedIn (args .t1) (cutContent (content (args .t1)) (args .n) (args .e .0) (args .v .0) (args .at))) no,
         λ ok. ok,
       ),
     )
 
 cut-named-requires : tie.Need-cut-named-requires
-cut-named-requires c κs = let a = c .before .before .before .before .before .before .before .before .args in
-    (good (c .before .before .before .before .before) .ok, names (a .t1) (good (c .before .before .before .before .before)) (a .n) (a .e .0) (a .v .0) (a .at) (sym (c .before .all-named .ensures) ∙ not-false _ (c .if1 .left)))
+cut-named-requires c κs =
+    let args = c .before .before .before .before .before .before .before .before .args in
+    let place = c .before .before .before .before .before in
+    (good place .ok, names (args .t1) (good place) (args .n) (args .e .0) (args .v .0) (args .at) (sym (c .before .all-named .ensures) ∙ not-false _ (c .if1 .left)))
 
 pub cut-edge-spec : {M : Type 1} → statement M
 cut-edge-spec = tie.close (tie.spec (search needs) (search needs) returns (search needs) (search needs) (search needs) (search needs)

@@ -43,44 +43,51 @@ good s = fine (s .args .t1) (s .pre .0) (seven s) (full s)
 
 -- the edge that is read
 edge-is : (c : tie.After-index) → getD (c .before .before .before .before .before .args .t1 .edges) (c .index .result) noEdge ≡ edgeAt (content (c .before .before .before .before .before .args .t1)) (c .before .before .before .before .before .args .e .0)
-edge-is c = rw (c .index .ensures .0) (sym (edge-at (c .before .before .before .before .before .args .t1) (good (c .before .before .before .before .before)) _ (c .before .before .before .before .before .pre .1 .1)))
+edge-is c = let start = c .before .before .before .before .before in
+    rw (c .index .ensures .0) (sym (edge-at (start .args .t1) (good start) _ (start .pre .1 .1)))
 
 curve-is : (c : tie.After-index) → getD (c .before .before .before .before .before .args .t1 .edges) (c .index .result) noEdge .curve ≡ edgeAt (content (c .before .before .before .before .before .args .t1)) (c .before .before .before .before .before .args .e .0) .curve
 curve-is c = ap (λ (d : Edge). d .curve) (edge-is c)
 
 lent : (c : tie.After-backs-of) → Lent (c .before .before .before .before .before .before .before .before .before .before .before .args .t1) (c .before .before .before .before .before .before .before .before .before .before .before .args .t1 .counts) (c .before .fronts-of .result) (c .backs-of .result) (c .before .before .before .before .before .before .before .before .before .before .before .args .t1 .uses) (c .before .before .before .before .before .before .before .before .before .before .before .args .t1 .wires) (c .before .before .before .before .before .before .before .wire-counts .result) (c .before .before .before .before .before .before .before .before .before .before .before .args .t1 .shells) (c .before .before .before .before .before .before .before .before .before .before .before .args .t1 .listings)
-lent c = record {
-  listed = record {
-    ok = c .before .before .before .before .before .before .before .before .before .before .before .pre .0;
-    seven = seven (c .before .before .before .before .before .before .before .before .before .before .before);
-    full = full (c .before .before .before .before .before .before .before .before .before .before .before);
-    counts-are = refl;
-    faces-are = c .before .before .before .before .before .before .before .wire-counts .ensures;
-    shells-are = refl;
-    listings-are = refl;
-  };
-  fronts-are = c .before .fronts-of .ensures;
-  backs-are = c .backs-of .ensures;
-  uses-are = refl;
-  wires-are = refl;
-}
+lent c =
+    let start = c .before .before .before .before .before .before .before .before .before .before .before in
+    record {
+      listed = record {
+        ok = start .pre .0;
+        seven = seven start;
+        full = full start;
+        counts-are = refl;
+        faces-are = c .before .before .before .before .before .before .before .wire-counts .ensures;
+        shells-are = refl;
+        listings-are = refl;
+      };
+      fronts-are = c .before .fronts-of .ensures;
+      backs-are = c .backs-of .ensures;
+      uses-are = refl;
+      wires-are = refl;
+    }
 
 here : (c : tie.After-backs-of) → (ltb (c .before .before .before .before .before .before .before .before .before .before .before .args .n) (getD (c .before .before .before .before .before .before .before .before .before .before .before .args .t1 .counts) 5 0) && ltb (c .before .before .before .before .before .before .before .before .before .before .before .args .e .0) (getD (c .before .before .before .before .before .before .before .before .before .before .before .args .t1 .counts) 1 0) && ltb (c .before .before .before .before .before .before .before .before .before .before .before .args .v .0) (getD (c .before .before .before .before .before .before .before .before .before .before .before .args .t1 .counts) 0 0)) ≡ true
-here c = all-here _ _ _ _ _ _ _ _ _ (lent c) _ _ _ (c .before .before .before .before .before .before .before .before .before .before .before .args .at) (c .before .before .before .before .before .before .before .before .before .before .before .pre .1)
+here c = let start = c .before .before .before .before .before .before .before .before .before .before .before in
+    all-here _ _ _ _ _ _ _ _ _ (lent c) _ _ _ (start .args .at) (start .pre .1)
 
 element-copy-out-d : tie.Need-element-copy-out-d
-element-copy-out-d c = omega (arith, c .index .ensures .0, c .before .before .before .before .before .pre .1 .1, good (c .before .before .before .before .before) .limits .edges)
+element-copy-out-d c = let start = c .before .before .before .before .before in
+    omega (arith, c .index .ensures .0, start .pre .1 .1, good start .limits .edges)
 
 cut-columns-requires : tie.Need-cut-columns-requires
-cut-columns-requires c κs = let s = c .before .before .before .before .before .before .before .before .before .before .before .before .before .before .before .before .before .before .before .before .before .before .before in
-    ((s .args .t1, lent (c .before .before .before .before .before .before .before .before .before .before .before .before), curve-is (c .before .before .before .before .before .before .before .before .before .before .before .before .before .before .before .before .before .before)), (s .pre .1 .0, s .pre .1 .1, s .pre .1 .2, full s .uses, full s .wires))
+cut-columns-requires c κs =
+    let start = c .before .before .before .before .before .before .before .before .before .before .before .before .before .before .before .before .before .before .before .before .before .before .before in
+    ((start .args .t1, lent (c .before .before .before .before .before .before .before .before .before .before .before .before), curve-is (c .before .before .before .before .before .before .before .before .before .before .before .before .before .before .before .before .before .before)), (start .pre .1 .0, start .pre .1 .1, start .pre .1 .2, full start .uses, full start .wires))
 
 store-cut-requires : tie.Need-store-cut-requires
-store-cut-requires c κs = let s = c .before .before .before .before .before .before .before .before .before .before .before .before .before .before .before .before .before .before .before .before .before .before .before .before .before .before .before .before .before in
-    let a = s .args in
-    let done = c .before .before .before .before .before .cut-columns .ensures (a .t1) (lent (c .before .before .before .before .before .before .before .before .before .before .before .before .before .before .before .before .before .before)) (curve-is (c .before .before .before .before .before .before .before .before .before .before .before .before .before .before .before .before .before .before .before .before .before .before .before .before)) in
+store-cut-requires c κs =
+    let start = c .before .before .before .before .before .before .before .before .before .before .before .before .before .before .before .before .before .before .before .before .before .before .before .before .before .before .before .before .before in
+    let place = c .before .before .before .before .before .before .before .before .before .before .before .before .before .before .before .before .before .before in
+    let done = c .before .before .before .before .before .cut-columns .ensures (start .args .t1) (lent place) (curve-is (c .before .before .before .before .before .before .before .before .before .before .before .before .before .before .before .before .before .before .before .before .before .before .before .before)) in
     let parts = parted-are _ _ _ _ _ _ (sym (c .before .done2 .given .1) ∙ done .answer) in
-    rooms (a .t1) (good s) (a .n) (a .e .0) (a .v .0) (a .at) (here (c .before .before .before .before .before .before .before .before .before .before .before .before .before .before .before .before .before .before)) (parts .0) .0
+    rooms (start .args .t1) (good start) (start .args .n) (start .args .e .0) (start .args .v .0) (start .args .at) (here place) (parts .0) .0
 
 cast-a : tie.Need-cast-a
 cast-a c = omega (arith, good (c .before .before .before .before .before .before .before .before .before .before .before .before .before .before .before .before .before .before .before .before .before .before .before .before .before .before .before .before .before .before) .limits .edges)
@@ -89,25 +96,28 @@ add-t57 : tie.Need-add-t57
 add-t57 c = omega (arith, good (c .before .before .before .before .before .before .before .before .before .before .before .before .before .before .before .before .before .before .before .before .before .before .before .before .before .before .before .before .before .before) .limits .edges)
 
 returns : tie.Need-returns
-returns c = let s = c .before .before .before .before .before .before .before .before .before .before .before .before .before .before .before .before .before .before .before .before .before .before .before .before .before .before .before .before .before in
-    let a = s .args in
-    let done = c .before .before .before .before .before .cut-columns .ensures (a .t1) (lent (c .before .before .before .before .before .before .before .before .before .before .before .before .before .before .before .before .before .before)) (curve-is (c .before .before .before .before .before .before .before .before .before .before .before .before .before .before .before .before .before .before .before .before .before .before .before .before)) in
+returns c =
+    let start = c .before .before .before .before .before .before .before .before .before .before .before .before .before .before .before .before .before .before .before .before .before .before .before .before .before .before .before .before .before in
+    let place = c .before .before .before .before .before .before .before .before .before .before .before .before .before .before .before .before .before .before in
+    let done = c .before .before .before .before .before .cut-columns .ensures (start .args .t1) (lent place) (curve-is (c .before .before .before .before .before .before .before .before .before .before .before .before .before .before .before .before .before .before .before .before .before .before .before .before)) in
     let no = sym (c .before .done .given .1) ∙ done .answer in (
-      refused-not (a .t1) (good s) (a .n) (a .e .0) (a .v .0) (a .at) (here (c .before .before .before .before .before .before .before .before .before .before .before .before .before .before .before .before .before .before)) Refused Not (Cut (nextEdge (a .t1) 0) (nextEdge (a .t1) 1)) _ _ no,
+      refused-not (start .args .t1) (good start) (start .args .n) (start .args .e .0) (start .args .v .0) (start .args .at) (here place) Refused Not (Cut (nextEdge (start .args .t1) 0) (nextEdge (start .args .t1) 1)) _ _ no,
       (
-        refused-not (a .t1) (good s) (a .n) (a .e .0) (a .v .0) (a .at) (here (c .before .before .before .before .before .before .before .before .before .before .before .before .before .before .before .before .before .before)) (λ (f : Refusal). a .t1) (λ (x : EditError). a .t1) (storedIn (a .t1) (cutContent (content (a .t1)) (a .n) (a .e .0) (a .v .0) (a .at))) _ _ no,
-        s .pre .0,
+        refused-not (start .args .t1) (good start) (start .args .n) (start .args .e .0) (start .args .v .0) (start .args .at) (here place) (λ (f : Refusal). start .args .t1) (λ (x : EditError). start .args .t1) (storedIn (start .args .t1) (cutContent (content (start .args .t1)) (start .args .n) (start .args .e .0) (start .args .v .0) (start .args .at))) _ _ no,
+        start .pre .0,
       ),
     )
 
 returns-2 : tie.Need-returns-2
-returns-2 c = let s = c .before .before .before .before .before .before .before .before .before .before .before .before .before .before .before .before .before .before .before .before .before .before .before .before .before .before .before .before .before .before in
-    let a = s .args in
-    let done = c .before .before .before .before .before .before .cut-columns .ensures (a .t1) (lent (c .before .before .before .before .before .before .before .before .before .before .before .before .before .before .before .before .before .before .before)) (curve-is (c .before .before .before .before .before .before .before .before .before .before .before .before .before .before .before .before .before .before .before .before .before .before .before .before .before)) in
+returns-2 c =
+    let start = c .before .before .before .before .before .before .before .before .before .before .before .before .before .before .before .before .before .before .before .before .before .before .before .before .before .before .before .before .before .before in
+    let place = c .before .before .before .before .before .before .before .before .before .before .before .before .before .before .before .before .before .before .before .before .before .before .before .before .before in
+    let place-2 = c .before .before .before .before .before .before .before .before .before .before .before .before .before .before .before .before .before .before .before in
+    let done = c .before .before .before .before .before .before .cut-columns .ensures (start .args .t1) (lent place-2) (curve-is place) in
     let parts = parted-are _ _ _ _ _ _ (sym (c .before .before .done2 .given .1) ∙ done .answer) in
-    let after = pattern-cut (a .t1) (good s) (a .n) (a .e .0) (a .v .0) (a .at) (parts .0) _ _ _ _ _ _ _ (parts .1) (parts .2) (done .uses-cut (parts .0)) (done .wires-cut (parts .0)) (edge-is (c .before .before .before .before .before .before .before .before .before .before .before .before .before .before .before .before .before .before .before .before .before .before .before .before .before)) (c .store-cut .ensures) in (
-      answer-cut (a .t1) (good s) (a .n) (a .e .0) (a .v .0) (a .at) (parts .0),
-      (after, ap patternFaults after ∙ after-fine (a .t1) (good s) (a .n) (a .e .0) (a .v .0) (a .at) (here (c .before .before .before .before .before .before .before .before .before .before .before .before .before .before .before .before .before .before .before)) (done .spans)),
+    let after = pattern-cut (start .args .t1) (good start) (start .args .n) (start .args .e .0) (start .args .v .0) (start .args .at) (parts .0) _ _ _ _ _ _ _ (parts .1) (parts .2) (done .uses-cut (parts .0)) (done .wires-cut (parts .0)) (edge-is place) (c .store-cut .ensures) in (
+      answer-cut (start .args .t1) (good start) (start .args .n) (start .args .e .0) (start .args .v .0) (start .args .at) (parts .0),
+      (after, ap patternFaults after ∙ after-fine (start .args .t1) (good start) (start .args .n) (start .args .e .0) (start .args .v .0) (start .args .at) (here place-2) (done .spans)),
     )
 
 pub cut-named-spec : {M : Type 1} → statement M

@@ -18,8 +18,7 @@ abbrev μ-loop : tie.MeasureT-loop
 
 fits : (c : tie.After-index Inv-loop μ-loop) → c .before .before .before .loop .from + c .index .result ≤ length (c .before .before .before .before .before .before .before .before .before .before .before .args .uses .now)
 fits c =
-    let l = c .before .before .before .loop in
-    omega (arith, walk-fits _ _ _ _ (l .inv .walk) (c .before .before .loop-test .taken) (c .index .ensures .0), c .before .before .before .before .before .before .before .before .before .before .before .pre .1 .1 .0 .0)
+    omega (arith, walk-fits _ _ _ _ (c .before .before .before .loop .inv .walk) (c .before .before .loop-test .taken) (c .index .ensures .0), c .before .before .before .before .before .before .before .before .before .before .before .pre .1 .1 .0 .0)
 
 -- there is room for the wire
 room : (c : tie.After-index Inv-loop μ-loop)
@@ -39,9 +38,11 @@ part-put-wire-end : tie.Need-part-put-wire-end Inv-loop μ-loop
 part-put-wire-end c = omega (arith, fits c)
 
 put-wire-requires : tie.Need-put-wire-requires Inv-loop μ-loop
-put-wire-requires c κs = let a = c .before .before .before .before .before .before .before .before .before .before .before .before .before .before .args in
-    let l = c .before .before .before .before .before .before .loop in
-    (named-part _ _ _ (c .before .before .before .before .before .before .before .before .before .before .before .before .before .before .pre .0) (l .from) (l .from + c .before .before .before .index .result - l .from), (c .before .before .before .before .before .before .before .before .before .before .before .before .before .before .pre .1 .0, room (c .before .before .before)))
+put-wire-requires c κs =
+    let pre = c .before .before .before .before .before .before .before .before .before .before .before .before .before .before .pre in
+    let loop = c .before .before .before .before .before .before .loop in
+    let place = c .before .before .before in
+    (named-part _ _ _ (pre .0) (loop .from) (loop .from + place .index .result - loop .from), (pre .1 .0, room place))
 
 cast-sizes : tie.Need-cast-sizes Inv-loop μ-loop
 cast-sizes c = omega (arith, room (c .before .before .before .before .before .before), c .before .before .put-wire .ensures .0, c .before .before .before .before .before .before .before .before .before .loop .inv .out-long, c .before .before .before .before .before .before .before .before .before .before .before .before .before .before .before .before .before .pre .1 .1 .1 .2)
@@ -53,7 +54,8 @@ add-at : tie.Need-add-at Inv-loop μ-loop
 add-at c = omega (arith, room (c .before .before .before .before .before .before), c .before .before .put-wire .ensures .0, c .before .before .before .before .before .before .before .before .before .loop .inv .out-long, c .before .before .before .before .before .before .before .before .before .before .before .before .before .before .before .before .before .pre .1 .1 .1 .2)
 
 loop-again : tie.Need-loop-again Inv-loop μ-loop
-loop-again c = putting-next _ _ _ (c .before .before .before .before .before .before .before .before .before .loop .inv) _ (c .before .before .before .before .before .before .before .before .loop-test .taken) (c .before .before .before .before .before .before .index .ensures .0) _ _ (c .before .before .put-wire .ensures .0) (c .before .before .put-wire .ensures .1)
+loop-again c = let put-wire = c .before .before .put-wire in
+    putting-next _ _ _ (c .before .before .before .before .before .before .before .before .before .loop .inv) _ (c .before .before .before .before .before .before .before .before .loop-test .taken) (c .before .before .before .before .before .before .index .ensures .0) _ _ (put-wire .ensures .0) (put-wire .ensures .1)
 
 returns : tie.Need-returns Inv-loop μ-loop
 returns c = (putting-size _ _ _ (c .before .loop .inv) (c .loop-test .left), (putting-out _ _ _ (c .before .loop .inv) (c .loop-test .left), putting-lens _ _ _ (c .before .loop .inv) (c .loop-test .left)))

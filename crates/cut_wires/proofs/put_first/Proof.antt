@@ -7,15 +7,17 @@ use Rattle.cut_wires.proofs.put_first.Statement.{statement}
 use Rattle.cut_wires.proofs.put_first.Tie as tie
 
 put-cut-requires : tie.Need-put-cut-requires
-put-cut-requires c κs = let a = c .before .before .before .before .before .before .before .before .before .before .before .args in
-    let p = c .before .before .before .before .before .before .before .before .before .before .before .pre in
-    let lu = length-take-le (a .ucount) (a .uses .now) (p .0 .0) in
-    let lw = length-take-le (a .wcount) (a .wires .now) (p .0 .2) in
-    rw (sub-zero (a .wcount), sub-zero (a .ucount))
-    (p .1 .0, (p .1 .1 .0, ((omega (arith, p .1 .1 .1 .0, lu), omega (arith, lw, p .0 .3), omega (arith, lw, p .0 .4)), (p .1 .1 .1 .1, omega (arith, lu, p .0 .1), p .0 .5))))
+put-cut-requires c κs =
+    let start = c .before .before .before .before .before .before .before .before .before .before .before in
+    let lu = length-take-le (start .args .ucount) (start .args .uses .now) (start .pre .0 .0) in
+    let lw = length-take-le (start .args .wcount) (start .args .wires .now) (start .pre .0 .2) in
+    rw (sub-zero (start .args .wcount), sub-zero (start .args .ucount))
+    (start .pre .1 .0, (start .pre .1 .1 .0, ((omega (arith, start .pre .1 .1 .1 .0, lu), omega (arith, lw, start .pre .0 .3), omega (arith, lw, start .pre .0 .4)), (start .pre .1 .1 .1 .1, omega (arith, lu, start .pre .0 .1), start .pre .0 .5))))
 
 returns : tie.Need-returns
-returns c = let a = c .before .before .before .before .before .before .before .before .before .before .before .before .before .before .before .before .args in rw (sub-zero (a .wcount), sub-zero (a .ucount)) at (c .before .before .before .before .put-cut .ensures)
+returns c =
+    let args = c .before .before .before .before .before .before .before .before .before .before .before .before .before .before .before .before .args in
+    rw (sub-zero (args .wcount), sub-zero (args .ucount)) at (c .before .before .before .before .put-cut .ensures)
 
 pub put-first-spec : {M : Type 1} → statement M
 put-first-spec = tie.close (tie.spec (search needs) (search needs) (search needs) (search needs) (search needs) (search needs)

@@ -8,9 +8,9 @@ use Rattle.pattern.proofs.check_columns.Tie as tie
 
 check-tables-requires : tie.Need-check-tables-requires
 check-tables-requires c κs =
-    let s = c .before .before .before .before .before .before .before .before .before .before .pre in
+    let pre = c .before .before .before .before .before .before .before .before .before .before .pre in
     let ok = accepted-none _ (sym (c .before .before .check-lists .ensures) ∙ c .enum-told .given .1) in
-    ((s .uses-long, s .wires-long, s .wires-few, s .faces-long, s .faces-few, s .fronts-long, s .backs-long), (columns-named s ok, (columns-faces s ok, columns-wires s ok)))
+    ((pre .uses-long, pre .wires-long, pre .wires-few, pre .faces-long, pre .faces-few, pre .fronts-long, pre .backs-long), (columns-named pre ok, (columns-faces pre ok, columns-wires pre ok)))
 
 returns : tie.Need-returns
 returns c = columns-refused (c .before .before .before .before .before .before .before .before .before .before .before .pre) _ (sym (c .before .before .before .check-lists .ensures) ∙ c .before .records .given .1)

@@ -36,10 +36,12 @@ limits c =
     (none-left (countFaults _) (contentFaults (content (c .before .before .before .args .t1))) (passed c))
 
 returns : tie.Need-returns
-returns c = place-refused (patternFaults _) (content (c .before .before .before .before .args .t1)) (c .before .before .before .before .args .w) _ (sym (c .before .before .before .check .ensures) ∙ c .before .answer .given .1)
+returns c = let args = c .before .before .before .before .args in
+    place-refused (patternFaults _) (content (args .t1)) (args .w) _ (sym (c .before .before .before .check .ensures) ∙ c .before .answer .given .1)
 
 returns-2 : tie.Need-returns-2
-returns-2 c = no-wire _ (passed (c .before .before)) (limits (c .before .before)) (full (c .before .before .before .before .before)) _ (c .if1 .taken)
+returns-2 c = let place = c .before .before in
+    no-wire _ (passed place) (limits place) (full (c .before .before .before .before .before)) _ (c .if1 .taken)
 
 sum-of-requires : tie.Need-sum-of-requires
 sum-of-requires c κs = omega (arith, limits (c .before .before .before .before .before) .wires, full (c .before .before .before .before .before .before .before .before) .wires)
@@ -52,8 +54,10 @@ element-copy-out-index c = omega (arith, limits (c .before .before .before .befo
 
 returns-3 : tie.Need-returns-3
 returns-3 c =
+    let start = c .before .before .before .before .before .before .before .before .before .before .before in
+    let place = c .before .before .before .before .before .before .before .before in
     rw (c .before .before .sum-of .ensures, c .index .ensures .0)
-    (wire-there (c .before .before .before .before .before .before .before .before .before .before .before .args .t1) (passed (c .before .before .before .before .before .before .before .before)) (limits (c .before .before .before .before .before .before .before .before)) (full (c .before .before .before .before .before .before .before .before .before .before .before)) (c .before .before .before .before .before .before .before .before .before .before .before .args .w) (c .before .before .before .before .before .before .if1 .left))
+    (wire-there (start .args .t1) (passed place) (limits place) (full start) (start .args .w) (c .before .before .before .before .before .before .if1 .left))
 
 pub wire-place-spec : {M : Type 1} → statement M
 wire-place-spec = tie.close (tie.spec (search needs) (search needs) returns (search needs) (search needs) returns-2 sum-of-requires

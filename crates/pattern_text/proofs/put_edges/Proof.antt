@@ -16,10 +16,10 @@ abbrev μ-loop : tie.MeasureT-loop
 
 -- the edges stand within the file
 within : (c : tie.Start Inv-loop μ-loop) → (c .args .start + 20 * c .args .n ≤ length (c .args .file .now)) × (c .args .n ≤ 1024)
-within c = inside (c .args .file .now) (c .pre .0) 1 (c .args .start) (c .args .n) (omega arith) (c .pre .1) (c .pre .2)
+within c = inside (c .args .file .now) (c .pre .0) 1 _ _ (omega arith) (c .pre .1) (c .pre .2)
 
 loop-holds : tie.Need-loop-holds Inv-loop μ-loop
-loop-holds c = (omega arith, omega arith, listing-start (edgeAt (c .before .before .args .file .now)) (c .before .before .args .out .now) (c .before .before .args .at))
+loop-holds c = (omega arith, omega arith, listing-start (edgeAt (c .before .before .args .file .now)) _ _)
 
 mul-i : tie.Need-mul-i Inv-loop μ-loop
 mul-i c = omega (arith, within (c .before .before .before .before))
@@ -59,22 +59,20 @@ loop-less c = omega arith
 
 loop-again : tie.Need-loop-again Inv-loop μ-loop
 loop-again c =
-    let v = c .before .before .before .before .before .before .before .before .before .loop .inv in
-    let a = c .before .before .before .before .before .before .before .before .before .before .before .before .args in
-    let p = c .before .before .put-edge .ensures in
-    let is = edge-is (a .file .now) (c .before .before .before .before .before .before .before .before .before .loop .k) (a .start) _ _ _ _ _ (c .before .before .before .before .before .before .before .before .before .before .before .before .pre .1) refl (c .before .before .before .before .before .before .u16-at .ensures) (c .before .before .before .before .before .u16-at2 .ensures) (c .before .before .before .before .u64-at .ensures) (c .before .before .before .u64-at2 .ensures) in
-    (omega arith, omega (arith, v .1, p .2), listing-next (edgeAt (a .file .now)) (v .2) is _ _ (p .0, p .1))
+    let start = c .before .before .before .before .before .before .before .before .before .before .before .before in
+    let loop = c .before .before .before .before .before .before .before .before .before .loop in let put-edge = c .before .before .put-edge in
+    let is = edge-is (start .args .file .now) _ _ _ _ _ _ _ (start .pre .1) refl (c .before .before .before .before .before .before .u16-at .ensures) (c .before .before .before .before .before .u16-at2 .ensures) (c .before .before .before .before .u64-at .ensures) (c .before .before .before .u64-at2 .ensures) in
+    (omega arith, omega (arith, loop .inv .1, put-edge .ensures .2), listing-next (edgeAt (start .args .file .now)) (loop .inv .2) is _ _ (put-edge .ensures .0, put-edge .ensures .1))
 
 same-length : tie.Need-same-length Inv-loop μ-loop
 same-length c = c .before .loop .inv .2 .long
 
 returns : tie.Need-returns Inv-loop μ-loop
 returns c =
-    let v = c .before .loop .inv in
-    let a = c .before .before .before .before .args in
-    let e : c .before .loop .k ≡ a .n = omega arith in
-    let p = listing-all (edgeAt (a .file .now)) (v .2) _ (e ∙ c .before .before .before .before .pre .2 ∙ count-is (a .file .now) 1 (omega arith)) in
-    (p .0, p .1, omega (arith, v .1))
+    let start = c .before .before .before .before in
+    let e : c .before .loop .k ≡ start .args .n = omega arith in
+    let p = listing-all (edgeAt (start .args .file .now)) (c .before .loop .inv .2) _ (e ∙ start .pre .2 ∙ count-is (start .args .file .now) 1 (omega arith)) in
+    (p .0, p .1, omega (arith, c .before .loop .inv .1))
 
 pub put-edges-spec : {M : Type 1} → statement M
 put-edges-spec = tie.close (tie.spec Inv-loop μ-loop loop-holds mul-i add-i u16-at-requires add-u16-at u16-at-requires-2 add-u64-at

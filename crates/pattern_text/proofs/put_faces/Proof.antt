@@ -18,24 +18,28 @@ abbrev μ-loop : tie.MeasureT-loop
 
 -- the faces stand within the file
 within : (c : tie.Start Inv-loop μ-loop) → (c .args .start + 4 * c .args .n ≤ length (c .args .file .now)) × (c .args .n ≤ 256)
-within c = inside (c .args .file .now) (c .pre .0) 4 (c .args .start) (c .args .n) (omega arith) (c .pre .1) (c .pre .2)
+within c = inside (c .args .file .now) (c .pre .0) 4 _ _ (omega arith) (c .pre .1) (c .pre .2)
 
 there : (c : tie.In-loop Inv-loop μ-loop) → (c .before .loop .k < length (c .before .before .before .before .before .before .before .args .faces .now)) × (c .before .loop .k < 256)
-there c = face-there (c .before .before .before .before .before .before .before .args .file .now) (c .before .before .before .before .before .before .before .pre .0) (c .before .loop .inv) (c .before .before .before .before .before .before .before .pre .3) (c .before .before .before .before .before .before .before .pre .4) (c .before .before .before .before .before .before .before .pre .5) (omega arith)
+there c = let pre = c .before .before .before .before .before .before .before .pre in
+    face-there _ (pre .0) (c .before .loop .inv) (pre .3) (pre .4) (pre .5) (omega arith)
 
 abbrev lens : tie.After-index Inv-loop μ-loop → List ℕ
-lens c = take (c .before .before .before .loop .wire + c .index .result - c .before .before .before .loop .wire) (drop (c .before .before .before .loop .wire) (c .before .before .before .before .before .before .before .before .before .args .wires .now))
+lens c = let loop = c .before .before .before .loop in
+    take (loop .wire + c .index .result - loop .wire) (drop (loop .wire) (c .before .before .before .before .before .before .before .before .before .args .wires .now))
 
 fits : (c : tie.After-index Inv-loop μ-loop) → (c .before .before .before .loop .wire + c .index .result ≤ length (c .before .before .before .before .before .before .before .before .before .args .wires .now)) × (length (lens c) ≡ c .index .result) × (c .before .before .before .loop .wire + c .index .result ≤ 1024)
-fits c = face-wires (c .before .before .before .before .before .before .before .before .before .args .file .now) (c .before .before .before .before .before .before .before .before .before .pre .0) (c .before .before .before .loop .inv) (c .before .before .before .before .before .before .before .before .before .pre .3) (c .before .before .before .before .before .before .before .before .before .pre .4) (c .before .before .before .before .before .before .before .before .before .pre .5) (omega arith) (c .index .ensures .0)
+fits c = let pre = c .before .before .before .before .before .before .before .before .before .pre in
+    face-wires _ (pre .0) (c .before .before .before .loop .inv) (pre .3) (pre .4) (pre .5) (omega arith) (c .index .ensures .0)
 
 fits-uses : (c : tie.After-sum-of Inv-loop μ-loop) → (c .before .before .before .before .before .loop .first + c .sum-of .result ≤ length (c .before .before .before .before .before .before .before .before .before .before .before .args .uses .now)) × (c .before .before .before .before .before .loop .first + c .sum-of .result ≤ 4096)
 fits-uses c =
-    let f = face-uses (c .before .before .before .before .before .before .before .before .before .before .before .args .file .now) (c .before .before .before .before .before .before .before .before .before .before .before .pre .0) (c .before .before .before .before .before .loop .inv) (c .before .before .before .before .before .before .before .before .before .before .before .pre .3) (c .before .before .before .before .before .before .before .before .before .before .before .pre .4) (c .before .before .before .before .before .before .before .before .before .before .before .pre .5) (omega arith) (c .before .before .index .ensures .0) (c .sum-of .ensures) in
+    let pre = c .before .before .before .before .before .before .before .before .before .before .before .pre in
+    let f = face-uses _ (pre .0) (c .before .before .before .before .before .loop .inv) (pre .3) (pre .4) (pre .5) (omega arith) (c .before .before .index .ensures .0) (c .sum-of .ensures) in
     (f .0, f .2)
 
 loop-holds : tie.Need-loop-holds Inv-loop μ-loop
-loop-holds c = facing-start (c .before .before .before .before .before .args .file .now) (c .before .before .before .before .before .args .out .now) (c .before .before .before .before .before .args .at)
+loop-holds c = facing-start _ _ _
 
 mul-index : tie.Need-mul-index Inv-loop μ-loop
 mul-index c = omega (arith, there c)
@@ -84,12 +88,10 @@ part-put-face-end c = fits-uses (c .before .before) .0
 
 put-face-requires : tie.Need-put-face-requires Inv-loop μ-loop
 put-face-requires c κs =
-    let f = c .before .before .before .before .before .before .before .before .before .before .before .before .before .before .args .file .now in
-    let r = c .before .before .before .before .before .before .before .before .before .before .before .before .before .before .pre in
-    let v = c .before .before .before .before .before .before .before .before .loop .inv in
-    let n = c .before .before .before .before .before .index .ensures .0 in
-    let m = c .before .before .before .sum-of .ensures in
-    (face-sum f (r .0) v (r .3) (r .4) (r .5) (omega arith) n m, omega (arith, there (c .before .before .before .before .before .before .before)), face-room f (r .0) v (r .3) (r .4) (r .5) (omega arith) n m (r .6))
+    let start = c .before .before .before .before .before .before .before .before .before .before .before .before .before .before in
+    let loop = c .before .before .before .before .before .before .before .before .loop in
+    let index = c .before .before .before .before .before .index in let sum-of = c .before .before .before .sum-of in
+    (face-sum (start .args .file .now) (start .pre .0) (loop .inv) (start .pre .3) (start .pre .4) (start .pre .5) (omega arith) (index .ensures .0) (sum-of .ensures), omega (arith, there (c .before .before .before .before .before .before .before)), face-room (start .args .file .now) (start .pre .0) (loop .inv) (start .pre .3) (start .pre .4) (start .pre .5) (omega arith) (index .ensures .0) (sum-of .ensures) (start .pre .6))
 
 add-first : tie.Need-add-first Inv-loop μ-loop
 add-first c = omega (arith, fits-uses (c .before .before .before .before .before .before))
@@ -99,20 +101,20 @@ add-k c = omega (arith, there (c .before .before .before .before .before .before
 
 loop-again : tie.Need-loop-again Inv-loop μ-loop
 loop-again c =
-    let r = c .before .before .before .before .before .before .before .before .before .before .before .before .before .before .before .before .before .pre in
-    let p = c .before .before .put-face .ensures in
-    face-next (c .before .before .before .before .before .before .before .before .before .before .before .before .before .before .before .before .before .args .file .now) (r .0) (c .before .before .before .before .before .before .before .before .before .before .before .loop .inv) (r .3) (r .4) (r .5) (omega arith) (c .before .before .before .before .before .before .before .before .index .ensures .0) (c .before .before .before .before .before .before .sum-of .ensures) (r .1) (c .before .before .before .before .u16-at .ensures) _ _ (p .0, p .1) (p .2)
+    let pre = c .before .before .before .before .before .before .before .before .before .before .before .before .before .before .before .before .before .pre in
+    let put-face = c .before .before .put-face in
+    face-next _ (pre .0) (c .before .before .before .before .before .before .before .before .before .before .before .loop .inv) (pre .3) (pre .4) (pre .5) (omega arith) (c .before .before .before .before .before .before .before .before .index .ensures .0) (c .before .before .before .before .before .before .sum-of .ensures) (pre .1) (c .before .before .before .before .u16-at .ensures) _ _ (put-face .ensures .0, put-face .ensures .1) (put-face .ensures .2)
 
 same-length : tie.Need-same-length Inv-loop μ-loop
 same-length c = c .before .loop .inv .listing .long
 
 returns : tie.Need-returns Inv-loop μ-loop
 returns c =
-    let e = facing-all (c .before .before .before .before .before .before .before .args .file .now) (c .before .before .before .before .before .before .before .pre .0) (c .before .loop .inv) (c .before .before .before .before .before .before .before .args .n) (c .before .before .before .before .before .before .before .pre .2) (c .loop-test .left) in
+    let pre = c .before .before .before .before .before .before .before .pre in
+    let e = facing-all _ (pre .0) (c .before .loop .inv) _ (pre .2) (c .loop-test .left) in
     (e .0 .0, e .0 .1, e .1)
 
 pub put-faces-spec : {M : Type 1} → statement M
-put-faces-spec = tie.close (tie.spec Inv-loop μ-loop loop-holds mul-index shared-slice-read-index (λ c κs. search needs) add-last mul-lens
-    sub-lens (λ c. search needs) part-lens-end sub-sum-of sum-of-requires mul-u16-at add-u16-at add-u16-at-2 u16-at-requires add-put-face
-    mul-put-face (λ c. search needs) (λ c. search needs) part-put-face-end put-face-requires add-first add-k (λ c. search needs) loop-again
-    same-length returns)
+put-faces-spec = tie.close (tie.spec Inv-loop μ-loop loop-holds mul-index shared-slice-read-index (search needs) add-last mul-lens sub-lens
+    (search needs) part-lens-end sub-sum-of sum-of-requires mul-u16-at add-u16-at add-u16-at-2 u16-at-requires add-put-face mul-put-face
+    (search needs) (search needs) part-put-face-end put-face-requires add-first add-k (search needs) loop-again same-length returns)

@@ -16,10 +16,10 @@ abbrev μ-loop : tie.MeasureT-loop
 
 -- the points stand within the file
 within : (c : tie.Start Inv-loop μ-loop) → (c .args .start + 4 * c .args .n ≤ length (c .args .file .now)) × (c .args .n ≤ 2048)
-within c = inside (c .args .file .now) (c .pre .0) 0 (c .args .start) (c .args .n) (omega arith) (c .pre .1) (c .pre .2)
+within c = inside (c .args .file .now) (c .pre .0) 0 _ _ (omega arith) (c .pre .1) (c .pre .2)
 
 loop-holds : tie.Need-loop-holds Inv-loop μ-loop
-loop-holds c = (omega arith, omega arith, listing-start (pointAt (c .before .before .args .file .now)) (c .before .before .args .out .now) (c .before .before .args .at))
+loop-holds c = (omega arith, omega arith, listing-start (pointAt (c .before .before .args .file .now)) _ _)
 
 mul-u32-at : tie.Need-mul-u32-at Inv-loop μ-loop
 mul-u32-at c = omega (arith, within (c .before .before .before .before .before))
@@ -41,22 +41,20 @@ loop-less c = omega arith
 
 loop-again : tie.Need-loop-again Inv-loop μ-loop
 loop-again c =
-    let v = c .before .before .before .before .before .before .loop .inv in
-    let a = c .before .before .before .before .before .before .before .before .before .args in
-    let p = c .before .before .put-point .ensures in
-    let is = point-is (a .file .now) (c .before .before .before .before .before .before .loop .k) (a .start) _ (c .before .before .before .before .before .before .before .before .before .pre .1) (c .before .before .before .u32-at .ensures) in
-    (omega arith, omega (arith, v .1, p .2), listing-next (pointAt (a .file .now)) (v .2) is _ _ (p .0, p .1))
+    let start = c .before .before .before .before .before .before .before .before .before in
+    let loop = c .before .before .before .before .before .before .loop in let put-point = c .before .before .put-point in
+    let is = point-is (start .args .file .now) _ _ _ (start .pre .1) (c .before .before .before .u32-at .ensures) in
+    (omega arith, omega (arith, loop .inv .1, put-point .ensures .2), listing-next (pointAt (start .args .file .now)) (loop .inv .2) is _ _ (put-point .ensures .0, put-point .ensures .1))
 
 same-length : tie.Need-same-length Inv-loop μ-loop
 same-length c = c .before .loop .inv .2 .long
 
 returns : tie.Need-returns Inv-loop μ-loop
 returns c =
-    let v = c .before .loop .inv in
-    let a = c .before .before .before .before .args in
-    let e : c .before .loop .k ≡ a .n = omega arith in
-    let p = listing-all (pointAt (a .file .now)) (v .2) _ (e ∙ c .before .before .before .before .pre .2 ∙ count-is (a .file .now) 0 (omega arith)) in
-    (p .0, p .1, omega (arith, v .1))
+    let start = c .before .before .before .before in
+    let e : c .before .loop .k ≡ start .args .n = omega arith in
+    let p = listing-all (pointAt (start .args .file .now)) (c .before .loop .inv .2) _ (e ∙ start .pre .2 ∙ count-is (start .args .file .now) 0 (omega arith)) in
+    (p .0, p .1, omega (arith, c .before .loop .inv .1))
 
 pub put-points-spec : {M : Type 1} → statement M
 put-points-spec = tie.close (tie.spec Inv-loop μ-loop loop-holds mul-u32-at add-u32-at u32-at-requires put-point-requires add-k loop-less

@@ -18,7 +18,8 @@ use Rattle.pattern_text.proofs.put_records.Tie as tie
 -- where body b begins, and how many records it has
 body : (c : tie.After-starts-of) (b : ℕ) → b < 7
     → (getD (c .starts-of .result) b 0 ≡ startOf (fileCounts (c .before .before .before .before .before .before .before .before .before .args .file .now)) b) × (getD (c .before .counts-of .result) b 0 ≡ getD (fileCounts (c .before .before .before .before .before .before .before .before .before .args .file .now)) b 0) × (getD (c .before .counts-of .result) b 0 ≤ getD (layout .limits) b 0)
-body c b h = body-at (c .before .before .before .before .before .before .before .before .before .args .file .now) (c .before .before .before .before .before .before .before .before .before .pre .0) (c .before .counts-of .result) (c .starts-of .result) (c .before .counts-of .ensures) (c .starts-of .ensures) b h
+body c b h = let start = c .before .before .before .before .before .before .before .before .before in
+    body-at (start .args .file .now) (start .pre .0) _ _ (c .before .counts-of .ensures) (c .starts-of .ensures) b h
 
 -- the lines of the points and the edges leave room for the others
 points-end : (c : tie.After-put-points) → (c .put-points .result ≤ 81920) × (228480 ≤ length (c .put-points .last .1 .0))
@@ -28,17 +29,19 @@ edges-end : (c : tie.After-put-edges) → (c .put-edges .result ≤ 180224) × (
 edges-end c = let n = body (c .before .before .before .before .before .before) 1 (omega arith) in let p = points-end (c .before .before .before .before) in (omega (arith, n .2, p .0, c .put-edges .ensures .2), omega (arith, p .1, c .put-edges .kept))
 
 counts-of-requires : tie.Need-counts-of-requires
-counts-of-requires c κs = table-long (c .before .before .before .before .before .before .before .args .file .now) (table-right (c .before .before .before .before .before .before .before .args .file .now) (c .before .before .before .before .before .before .before .pre .0))
+counts-of-requires c κs = let start = c .before .before .before .before .before .before .before in
+    table-long (start .args .file .now) (table-right (start .args .file .now) (start .pre .0))
 
 starts-of-requires : tie.Need-starts-of-requires
 starts-of-requires c κs =
-    let f = c .before .before .before .before .before .before .before .before .args .file .now in
-    ap countFaults (c .counts-of .ensures) ∙ table-counts f (table-right f (c .before .before .before .before .before .before .before .before .pre .0))
+    let start = c .before .before .before .before .before .before .before .before in
+    ap countFaults (c .counts-of .ensures) ∙ table-counts (start .args .file .now) (table-right (start .args .file .now) (start .pre .0))
 
 put-points-requires : tie.Need-put-points-requires
 put-points-requires c κs =
+    let pre = c .before .before .before .before .before .before .before .before .before .before .pre in
     let n = body (c .before) 0 (omega arith) in
-    (c .before .before .before .before .before .before .before .before .before .before .pre .0, n .0, n .1, omega (arith, n .2, c .before .before .before .before .before .before .before .before .before .before .pre .6))
+    (pre .0, n .0, n .1, omega (arith, n .2, pre .6))
 
 put-edges-requires : tie.Need-put-edges-requires
 put-edges-requires c κs =
@@ -48,35 +51,35 @@ put-edges-requires c κs =
 
 put-faces-requires : tie.Need-put-faces-requires
 put-faces-requires c κs =
+    let pre = c .before .before .before .before .before .before .before .before .before .before .before .before .before .before .before .before .before .before .pre in
     let n = body (c .before .before .before .before .before .before .before .before .before) 4 (omega arith) in
-    let r = c .before .before .before .before .before .before .before .before .before .before .before .before .before .before .before .before .before .before .pre in
     let p = edges-end (c .before .before .before) in
-    (r .0, n .0, n .1, r .1, r .2, r .3, omega (arith, p .0, p .1))
+    (pre .0, n .0, n .1, pre .1, pre .2, pre .3, omega (arith, p .0, p .1))
 
 put-shells-requires : tie.Need-put-shells-requires
 put-shells-requires c κs =
+    let pre = c .before .before .before .before .before .before .before .before .before .before .before .before .before .before .before .before .before .before .before .before .before .before .pre in
+    let put-faces = c .before .before .before .put-faces in
     let n = body (c .before .before .before .before .before .before .before .before .before .before .before .before .before) 5 (omega arith) in
-    let r = c .before .before .before .before .before .before .before .before .before .before .before .before .before .before .before .before .before .before .before .before .before .before .pre in
     let p = edges-end (c .before .before .before .before .before .before .before) in
-    (r .0, n .1, r .4, r .5, omega (arith, p .0, p .1, c .before .before .before .put-faces .ensures .2, c .before .before .before .put-faces .kept))
+    (pre .0, n .1, pre .4, pre .5, omega (arith, p .0, p .1, put-faces .ensures .2, put-faces .kept))
 
 returns : tie.Need-returns
 unfolding patternText
 returns c =
-    let a = c .before .before .before .before .before .before .before .before .before .before .before .before .before .before .before .before .before .before .before .before .before .before .before .before .before .args in
-    let f = a .file .now in
-    let points = recordLines pointAt f 0 in
-    let edges = recordLines edgeAt f 1 in
-    let faces = recordLines faceAt f 4 in
-    let p1 = c .before .before .before .before .before .before .before .before .before .before .before .before .before .before .put-points .ensures in
-    let p2 = c .before .before .before .before .before .before .before .before .before .before .put-edges .ensures in
-    let p3 = c .before .before .before .before .before .before .put-faces .ensures in
-    let q2 = put-then (a .out .now) 0 points edges _ _ _ _ (p1 .0, p1 .1) (p2 .0, p2 .1) in
-    let q3 = put-then (a .out .now) 0 (points ++ edges) faces _ _ _ _ q2 (p3 .0, p3 .1) in
-    let q4 = put-then (a .out .now) 0 (points ++ edges ++ faces) (recordLines shellAt f 5) _ _ _ _ q3 (c .before .before .put-shells .ensures) in
+    let args = c .before .before .before .before .before .before .before .before .before .before .before .before .before .before .before .before .before .before .before .before .before .before .before .before .before .args in
+    let put-points = c .before .before .before .before .before .before .before .before .before .before .before .before .before .before .put-points in
+    let put-edges = c .before .before .before .before .before .before .before .before .before .before .put-edges in
+    let put-faces = c .before .before .before .before .before .before .put-faces in
+    let points = recordLines pointAt (args .file .now) 0 in
+    let edges = recordLines edgeAt (args .file .now) 1 in
+    let faces = recordLines faceAt (args .file .now) 4 in
+    let q2 = put-then _ 0 points edges _ _ _ _ (put-points .ensures .0, put-points .ensures .1) (put-edges .ensures .0, put-edges .ensures .1) in
+    let q3 = put-then _ 0 (points ++ edges) faces _ _ _ _ q2 (put-faces .ensures .0, put-faces .ensures .1) in
+    let q4 = put-then _ 0 (points ++ edges ++ faces) (recordLines shellAt (args .file .now) 5) _ _ _ _ q3 (c .before .before .put-shells .ensures) in
     (q4 .0, omega (arith, q4 .1))
 
 pub put-records-spec : {M : Type 1} → statement M
-put-records-spec = tie.close (tie.spec counts-of-requires starts-of-requires (λ c. search needs) (λ c. search needs) put-points-requires
-    (λ c. search needs) (λ c. search needs) put-edges-requires (λ c. search needs) (λ c. search needs) put-faces-requires
-    (λ c. search needs) put-shells-requires (λ c. search needs) returns)
+put-records-spec = tie.close (tie.spec counts-of-requires starts-of-requires (search needs) (search needs) put-points-requires
+    (search needs) (search needs) put-edges-requires (search needs) (search needs) put-faces-requires (search needs) put-shells-requires
+    (search needs) returns)

@@ -14,15 +14,17 @@ abbrev μ-loop : tie.MeasureT-loop
 μ-loop file out₀ at n shells listings end₀ first₀ k₀ out end first k = n - k
 
 there : (c : tie.In-loop Inv-loop μ-loop) → (c .before .loop .k < length (c .before .before .before .before .before .before .args .shells .now)) × (c .before .loop .k < 16)
-there c = shell-there (c .before .before .before .before .before .before .args .file .now) (c .before .before .before .before .before .before .pre .0) (c .before .loop .inv) (c .before .before .before .before .before .before .pre .2) (c .before .before .before .before .before .before .pre .3) (omega arith)
+there c = let pre = c .before .before .before .before .before .before .pre in
+    shell-there _ (pre .0) (c .before .loop .inv) (pre .2) (pre .3) (omega arith)
 
 fits : (c : tie.After-index Inv-loop μ-loop) → (c .before .before .before .loop .first + c .index .result ≤ length (c .before .before .before .before .before .before .before .before .args .listings .now)) × (c .before .before .before .loop .first + c .index .result ≤ 512)
 fits c =
-    let f = shell-fits (c .before .before .before .before .before .before .before .before .args .file .now) (c .before .before .before .before .before .before .before .before .pre .0) (c .before .before .before .loop .inv) (c .before .before .before .before .before .before .before .before .pre .2) (c .before .before .before .before .before .before .before .before .pre .3) (omega arith) (c .index .ensures .0) in
+    let pre = c .before .before .before .before .before .before .before .before .pre in
+    let f = shell-fits _ (pre .0) (c .before .before .before .loop .inv) (pre .2) (pre .3) (omega arith) (c .index .ensures .0) in
     (f .0, f .2)
 
 loop-holds : tie.Need-loop-holds Inv-loop μ-loop
-loop-holds c = shelling-start (c .before .before .before .before .args .file .now) (c .before .before .before .before .args .out .now) (c .before .before .before .before .args .at)
+loop-holds c = shelling-start _ _ _
 
 mul-index : tie.Need-mul-index Inv-loop μ-loop
 mul-index c = omega (arith, there c)
@@ -41,7 +43,8 @@ part-put-shell-end c = fits (c .before) .0
 
 put-shell-requires : tie.Need-put-shell-requires Inv-loop μ-loop
 put-shell-requires c κs =
-    (omega (arith, there (c .before .before .before .before)), shell-room (c .before .before .before .before .before .before .before .before .before .before .args .file .now) (c .before .before .before .before .before .before .before .before .before .before .pre .0) (c .before .before .before .before .before .loop .inv) (c .before .before .before .before .before .before .before .before .before .before .pre .2) (c .before .before .before .before .before .before .before .before .before .before .pre .3) (omega arith) (c .before .before .index .ensures .0) (c .before .before .before .before .before .before .before .before .before .before .pre .4))
+    let start = c .before .before .before .before .before .before .before .before .before .before in
+    (omega (arith, there (c .before .before .before .before)), shell-room (start .args .file .now) (start .pre .0) (c .before .before .before .before .before .loop .inv) (start .pre .2) (start .pre .3) (omega arith) (c .before .before .index .ensures .0) (start .pre .4))
 
 add-first : tie.Need-add-first Inv-loop μ-loop
 add-first c = omega (arith, fits (c .before .before .before .before .before))
@@ -51,16 +54,18 @@ add-k c = omega (arith, there (c .before .before .before .before .before .before
 
 loop-again : tie.Need-loop-again Inv-loop μ-loop
 loop-again c =
-    let p = c .before .before .put-shell .ensures in
-    shell-next (c .before .before .before .before .before .before .before .before .before .before .before .before .before .args .file .now) (c .before .before .before .before .before .before .before .before .before .before .before .before .before .pre .0) (c .before .before .before .before .before .before .before .before .loop .inv) (c .before .before .before .before .before .before .before .before .before .before .before .before .before .pre .2) (c .before .before .before .before .before .before .before .before .before .before .before .before .before .pre .3) (omega arith) (c .before .before .before .before .before .index .ensures .0) _ _ (p .0, p .1) (p .2)
+    let pre = c .before .before .before .before .before .before .before .before .before .before .before .before .before .pre in
+    let put-shell = c .before .before .put-shell in
+    shell-next _ (pre .0) (c .before .before .before .before .before .before .before .before .loop .inv) (pre .2) (pre .3) (omega arith) (c .before .before .before .before .before .index .ensures .0) _ _ (put-shell .ensures .0, put-shell .ensures .1) (put-shell .ensures .2)
 
 same-length : tie.Need-same-length Inv-loop μ-loop
 same-length c = c .before .loop .inv .listing .long
 
 returns : tie.Need-returns Inv-loop μ-loop
-returns c = shelling-all (c .before .before .before .before .before .before .args .file .now) (c .before .before .before .before .before .before .pre .0) (c .before .loop .inv) (c .before .before .before .before .before .before .args .n) (c .before .before .before .before .before .before .pre .1) (c .loop-test .left)
+returns c = let pre = c .before .before .before .before .before .before .pre in
+    shelling-all _ (pre .0) (c .before .loop .inv) _ (pre .1) (c .loop-test .left)
 
 pub put-shells-spec : {M : Type 1} → statement M
-put-shells-spec = tie.close (tie.spec Inv-loop μ-loop loop-holds mul-index shared-slice-read-index (λ c κs. search needs) add-put-shell
-    mul-put-shell (λ c. search needs) (λ c. search needs) part-put-shell-end put-shell-requires add-first add-k (λ c. search needs)
-    loop-again same-length returns)
+put-shells-spec = tie.close (tie.spec Inv-loop μ-loop loop-holds mul-index shared-slice-read-index (search needs) add-put-shell
+    mul-put-shell (search needs) (search needs) part-put-shell-end put-shell-requires add-first add-k (search needs) loop-again same-length
+    returns)

@@ -19,16 +19,15 @@ put-records-requires c κs =
 
 returns : tie.Need-returns
 returns c =
-    let s = c .before .before .before .before .before .before .before .before .before .before .before .before .before .before .before .before .before .before .before .before .before .args .file .now in
-    rw (refused-is (fileFaults s) s (sym (c .before .before .before .before .before .before .before .before .before .before .before .before .read-file .ensures .0) ∙ c .before .before .before .checked .given .1)) (c .put-refusal .ensures .0, c .put-refusal .ensures .1)
+    let args = c .before .before .before .before .before .before .before .before .before .before .before .before .before .before .before .before .before .before .before .before .before .args in
+    rw (refused-is (fileFaults (args .file .now)) (args .file .now) (sym (c .before .before .before .before .before .before .before .before .before .before .before .before .read-file .ensures .0) ∙ c .before .before .before .checked .given .1)) (c .put-refusal .ensures .0, c .put-refusal .ensures .1)
 
 returns-2 : tie.Need-returns-2
 returns-2 c =
-    let s = c .before .before .before .before .before .before .before .before .before .before .before .before .before .before .before .before .before .before .before .before .before .before .before .before .before .args .file .now in
-    rw (accepted-is (fileFaults s) s (right (c .before .before .before .before .before .before .before))) (c .put-records .ensures)
+    let args = c .before .before .before .before .before .before .before .before .before .before .before .before .before .before .before .before .before .before .before .before .before .before .before .before .before .args in
+    rw (accepted-is (fileFaults (args .file .now)) (args .file .now) (right (c .before .before .before .before .before .before .before))) (c .put-records .ensures)
 
 pub show-spec : {M : Type 1} → statement M
-show-spec = tie.close (tie.spec (λ c. search needs) (λ c. search needs) (λ c. search needs) (λ c. search needs) (λ c. search needs)
-    (λ c. search needs) (λ c. search needs) (λ c κs. search needs) (λ c. search needs) (λ c κs. search needs) (λ c. search needs)
-    (λ c. search needs) (λ c. search needs) (λ c. search needs) (λ c. search needs) (λ c. search needs) put-records-requires returns
-    returns-2)
+show-spec = tie.close (tie.spec (search needs) (search needs) (search needs) (search needs) (search needs) (search needs) (search needs)
+    (search needs) (search needs) (search needs) (search needs) (search needs) (search needs) (search needs) (search needs) (search needs)
+    put-records-requires returns returns-2)

@@ -7,12 +7,12 @@ use Rattle.remove_vertex.proofs.join_pair.Statement.{statement}
 use Rattle.remove_vertex.proofs.join_pair.Tie as tie
 
 returns : tie.Need-returns
-returns c = let s = c .before .before .before .before .args in
-    removal-not (endFaults (s .a) (s .k .ending) (s .b) (s .k .next) (s .edges)) (joinedEnds (s .a) (s .k .ending) (s .b) (s .k .next)) (c .before .before .before .before .args .e) (sym (c .before .before .before .judge-join .ensures) ∙ c .before .made .given .1)
+returns c = let args = c .before .before .before .before .args in
+    removal-not (endFaults (args .a) (args .k .ending) (args .b) (args .k .next) (args .edges)) (joinedEnds (args .a) (args .k .ending) (args .b) (args .k .next)) (args .e) (sym (c .before .before .before .judge-join .ensures) ∙ c .before .made .given .1)
 
 returns-2 : tie.Need-returns-2
-returns-2 c = let s = c .before .before .before .before .args in
-    removal-joins (endFaults (s .a) (s .k .ending) (s .b) (s .k .next) (s .edges)) (joinedEnds (s .a) (s .k .ending) (s .b) (s .k .next)) (c .before .before .before .before .args .e) (sym (c .before .before .before .judge-join .ensures) ∙ c .before .made2 .given .1)
+returns-2 c = let args = c .before .before .before .before .args in
+    removal-joins (endFaults (args .a) (args .k .ending) (args .b) (args .k .next) (args .edges)) (joinedEnds (args .a) (args .k .ending) (args .b) (args .k .next)) (args .e) (sym (c .before .before .before .judge-join .ensures) ∙ c .before .made2 .given .1)
 
 pub join-pair-spec : {M : Type 1} → statement M
 join-pair-spec = tie.close (tie.spec (search needs) (search needs) (search needs) returns returns-2)

@@ -34,21 +34,23 @@ good : (s : tie.Start) → Fine (s .args .t1)
 good s = fine (s .args .t1) (s .pre) (seven s) (full s)
 
 lent : (c : tie.After-wire-counts) → Lent (c .before .before .before .before .before .before .args .t1) (c .before .before .before .before .before .before .args .t1 .counts) (c .before .before .before .fronts-of .result) (c .before .before .backs-of .result) (c .before .before .before .before .before .before .args .t1 .uses) (c .before .before .before .before .before .before .args .t1 .wires) (c .wire-counts .result) (c .before .before .before .before .before .before .args .t1 .shells) (c .before .before .before .before .before .before .args .t1 .listings)
-lent c = record {
-  listed = record {
-    ok = c .before .before .before .before .before .before .pre;
-    seven = seven (c .before .before .before .before .before .before);
-    full = full (c .before .before .before .before .before .before);
-    counts-are = refl;
-    faces-are = c .wire-counts .ensures;
-    shells-are = refl;
-    listings-are = refl;
-  };
-  fronts-are = c .before .before .before .fronts-of .ensures;
-  backs-are = c .before .before .backs-of .ensures;
-  uses-are = refl;
-  wires-are = refl;
-}
+lent c =
+    let start = c .before .before .before .before .before .before in
+    record {
+      listed = record {
+        ok = start .pre;
+        seven = seven start;
+        full = full start;
+        counts-are = refl;
+        faces-are = c .wire-counts .ensures;
+        shells-are = refl;
+        listings-are = refl;
+      };
+      fronts-are = c .before .before .before .fronts-of .ensures;
+      backs-are = c .before .before .backs-of .ensures;
+      uses-are = refl;
+      wires-are = refl;
+    }
 
 -- the pair is of edges of the pattern
 inside : (c : tie.After-found2) → (edgeNumber (c .found2 .given .0 .1 .0 .ending) < getD (c .before .before .before .before .before .before .before .before .before .before .before .before .before .before .before .before .before .before .before .before .before .args .t1 .counts) 1 0) × (edgeNumber (c .found2 .given .0 .1 .0 .next) < getD (c .before .before .before .before .before .before .before .before .before .before .before .before .before .before .before .before .before .before .before .before .before .args .t1 .counts) 1 0)
@@ -64,13 +66,16 @@ element-copy-out-b : tie.Need-element-copy-out-b
 element-copy-out-b c = omega (arith, inside (c .before .before .before .before .before .before) .1, good (c .before .before .before .before .before .before .before .before .before .before .before .before .before .before .before .before .before .before .before .before .before .before .before .before .before .before .before) .limits .edges, c .index2 .ensures .0)
 
 returns : tie.Need-returns
-returns c = let s = c .before .before .before .before .before .before .before .before .before .before .before .before .before .before .before .before .before .before .before .before .before .before in
-    pair-refused (content (s .args .t1)) (s .args .n) (s .args .v .0) (sym (c .before .found .given .1) ∙ c .before .before .before .find-pair .ensures .0 (c .before .before .before .before .before .before .before .before .before .before .before .before .before .before .before .before .before .before .before .before .before .before .args .t1) (lent (c .before .before .before .before .before .before .before .before .before .before .before .before .before .before .before .before)))
+returns c =
+    let args = c .before .before .before .before .before .before .before .before .before .before .before .before .before .before .before .before .before .before .before .before .before .before .args in
+    pair-refused (content (args .t1)) (args .n) (args .v .0) (sym (c .before .found .given .1) ∙ c .before .before .before .find-pair .ensures .0 (args .t1) (lent (c .before .before .before .before .before .before .before .before .before .before .before .before .before .before .before .before)))
 
 returns-2 : tie.Need-returns-2
-returns-2 c = let s = c .before .before .before .before .before .before .before .before .before .before .before .before .before .before .before .before .before .before .before .before .before .before .before .before .before .before .before .before .before in
-    let p = s .args .t1 in
-    pair-removed p _ _ _ _ _ _ _ _ (lent (c .before .before .before .before .before .before .before .before .before .before .before .before .before .before .before .before .before .before .before .before .before .before .before)) (s .args .n) (s .args .v .0) _ _ (sym (c .before .before .before .before .before .before .before .before .found2 .given .1) ∙ c .before .before .before .before .before .before .before .before .before .before .find-pair .ensures .0 p (lent (c .before .before .before .before .before .before .before .before .before .before .before .before .before .before .before .before .before .before .before .before .before .before .before))) _ _ (edge-is p (good s) _ _ (c .before .before .before .before .before .index .ensures .0) (inside (c .before .before .before .before .before .before .before .before) .0)) (edge-is p (good s) _ _ (c .before .before .index2 .ensures .0) (inside (c .before .before .before .before .before .before .before .before) .1)) _ (c .join-pair .ensures)
+returns-2 c =
+    let start = c .before .before .before .before .before .before .before .before .before .before .before .before .before .before .before .before .before .before .before .before .before .before .before .before .before .before .before .before .before in
+    let place = c .before .before .before .before .before .before .before .before .before .before .before .before .before .before .before .before .before .before .before .before .before .before .before in
+    let place-2 = c .before .before .before .before .before .before .before .before in
+    pair-removed (start .args .t1) _ _ _ _ _ _ _ _ (lent place) (start .args .n) (start .args .v .0) _ _ (sym (place-2 .found2 .given .1) ∙ c .before .before .before .before .before .before .before .before .before .before .find-pair .ensures .0 (start .args .t1) (lent place)) _ _ (edge-is (start .args .t1) (good start) _ _ (c .before .before .before .before .before .index .ensures .0) (inside place-2 .0)) (edge-is (start .args .t1) (good start) _ _ (c .before .before .index2 .ensures .0) (inside place-2 .1)) _ (c .join-pair .ensures)
 
 pub judge-removal-spec : {M : Type 1} → statement M
 judge-removal-spec = tie.close (tie.spec (search needs) (search needs) (search needs) (search needs) (search needs) (search needs)

@@ -45,24 +45,23 @@ limits c =
 
 joined : (c : tie.After-judged2) → (removeFaults (content (c .before .before .before .before .before .before .args .t1)) (c .before .before .before .before .before .before .args .n) (c .before .before .before .before .before .before .args .v .0) ≡ []) × ((c .judged2 .given .0 .0 ≡ pairEdge (content (c .before .before .before .before .before .before .args .t1)) (c .before .before .before .before .before .before .args .v .0) (endingOf (endingWires (content (c .before .before .before .before .before .before .args .t1)) (c .before .before .before .before .before .before .args .n) (c .before .before .before .before .before .before .args .v .0)))) × (c .judged2 .given .0 .1 .0 ≡ (endingOf (endingWires (content (c .before .before .before .before .before .before .args .t1)) (c .before .before .before .before .before .before .args .n) (c .before .before .before .before .before .before .args .v .0)))))
 joined c =
-    let s = c .before .before .before .before .before .before in
-    let k = content (s .args .t1) in
-    let g = endingOf (endingWires k (s .args .n) (s .args .v .0)) in
-    joins-whole (removeFaults k (s .args .n) (s .args .v .0)) (pairEdge k (s .args .v .0) g) g (sym (c .before .before .judge-removal .ensures) ∙ c .judged2 .given .1)
+    let args = c .before .before .before .before .before .before .args in
+    let k = content (args .t1) in
+    let g = endingOf (endingWires k (args .n) (args .v .0)) in
+    joins-whole (removeFaults k (args .n) (args .v .0)) (pairEdge k (args .v .0) g) g (sym (c .before .before .judge-removal .ensures) ∙ c .judged2 .given .1)
 
 few : (c : tie.After-judged2) → getD (c .before .before .before .before .before .before .args .t1 .counts) 1 0 < 1024
 few c =
-    let s = c .before .before .before .before .before .before in
-    let p = s .args .t1 in
-    omega (arith, edges-counted p (limits (c .before .before .before)) (full s), removal-room (content p) _ _ (joined c .0))
+    let start = c .before .before .before .before .before .before in
+    omega (arith, edges-counted (start .args .t1) (limits (c .before .before .before)) (full start), removal-room (content (start .args .t1)) _ _ (joined c .0))
 
 returns : tie.Need-returns
 returns c =
-    let p = c .before .before .before .before .args .t1 in
-    let k = content p in
+    let args = c .before .before .before .before .args in
+    let k = content (args .t1) in
     let es = removeFaults k _ _ in
     let e = sym (c .before .before .before .check .ensures) ∙ c .before .checked .given .1 in
-    (judged-refused es Refused Not (Joined (nextEdge p 0)) (patternFaults p) e, (judged-refused es (λ f. p) (λ f. p) (storedIn p (removeContent k _ _)) (patternFaults p) e, λ fine. fine))
+    (judged-refused es Refused Not (Joined (nextEdge (args .t1) 0)) (patternFaults (args .t1)) e, (judged-refused es (λ f. (args .t1)) (λ f. (args .t1)) (storedIn (args .t1) (removeContent k _ _)) (patternFaults (args .t1)) e, λ fine. fine))
 
 judge-removal-requires : tie.Need-judge-removal-requires
 judge-removal-requires c κs = passed (c)
@@ -75,32 +74,32 @@ cast-t23 c = omega (arith, few (c .before .before .before))
 
 returns-2 : tie.Need-returns-2
 returns-2 c =
-    let p = c .before .before .before .before .before .before .before .args .t1 in
-    let k = content p in
-    let es = removeFaults k (c .before .before .before .before .before .before .before .args .n) (c .before .before .before .before .before .before .before .args .v .0) in
-    let g = endingOf (endingWires k (c .before .before .before .before .before .before .before .args .n) (c .before .before .before .before .before .before .before .args .v .0)) in
-    let d = pairEdge k (c .before .before .before .before .before .before .before .args .v .0) g in
+    let args = c .before .before .before .before .before .before .before .args in
+    let k = content (args .t1) in
+    let es = removeFaults k (args .n) (args .v .0) in
+    let g = endingOf (endingWires k (args .n) (args .v .0)) in
+    let d = pairEdge k (args .v .0) g in
     let ok = passed (c .before .before .before .before) in
     let e = not-joint es d g (sym (c .before .before .before .judge-removal .ensures) ∙ c .before .judged .given .1) in
-    (judged-not es Refused Not (Joined (nextEdge p 0)) (patternFaults p) ok d e, (judged-not es (λ f. p) (λ f. p) (storedIn p (removeContent k (c .before .before .before .before .before .before .before .args .n) (c .before .before .before .before .before .before .before .args .v .0))) (patternFaults p) ok d e, λ fine. fine))
+    (judged-not es Refused Not (Joined (nextEdge (args .t1) 0)) (patternFaults (args .t1)) ok d e, (judged-not es (λ f. (args .t1)) (λ f. (args .t1)) (storedIn (args .t1) (removeContent k (args .n) (args .v .0))) (patternFaults (args .t1)) ok d e, λ fine. fine))
 
 returns-3 : tie.Need-returns-3
 returns-3 c =
-    let p = c .before .before .before .before .before .before .before .before .before .args .t1 in
-    let k = content p in
-    let es = removeFaults k (c .before .before .before .before .before .before .before .before .before .args .n) (c .before .before .before .before .before .before .before .before .before .args .v .0) in
-    let g = endingOf (endingWires k (c .before .before .before .before .before .before .before .before .before .args .n) (c .before .before .before .before .before .before .before .before .before .args .v .0)) in
-    let d = pairEdge k (c .before .before .before .before .before .before .before .before .before .args .v .0) g in
-    let ok = passed (c .before .before .before .before .before .before) in
-    let e = joined (c .before .before .before) in
+    let start = c .before .before .before .before .before .before .before .before .before in
+    let place = c .before .before .before .before .before .before in let place-2 = c .before .before .before in
+    let k = content (start .args .t1) in
+    let es = removeFaults k (start .args .n) (start .args .v .0) in
+    let g = endingOf (endingWires k (start .args .n) (start .args .v .0)) in
+    let d = pairEdge k (start .args .v .0) g in
+    let ok = passed place in
+    let e = joined place-2 in
     let done = ap (λ (xs : List EditError). joint xs d) (e .0) in
-    let l = limits (c .before .before .before .before .before .before) in
-    let t = c .before .before .before .judged2 .given .0 in
-    let stored : pairStored p (c .before .before .before .before .before .before .before .before .before .args .v .0) (t .1 .0) (t .0) ≡ afterRemove p (c .before .before .before .before .before .before .before .before .before .args .n) (c .before .before .before .before .before .before .before .before .before .args .v .0) =
-    rw (e .1 .0, e .1 .1) (judged-done es (λ f. p) (λ f. p) (storedIn p (removeContent k (c .before .before .before .before .before .before .before .before .before .args .n) (c .before .before .before .before .before .before .before .before .before .args .v .0))) (patternFaults p) ok d done) in
+    let l = limits place in
+    let stored : pairStored (start .args .t1) (start .args .v .0) (place-2 .judged2 .given .0 .1 .0) (place-2 .judged2 .given .0 .0) ≡ afterRemove (start .args .t1) (start .args .n) (start .args .v .0) =
+    rw (e .1 .0, e .1 .1) (judged-done es (λ f. (start .args .t1)) (λ f. (start .args .t1)) (storedIn (start .args .t1) (removeContent k (start .args .n) (start .args .v .0))) (patternFaults (start .args .t1)) ok d done) in
     let made = c .write-removal .ensures ∙ stored in (
-      ap Joined (next-is p l (full (c .before .before .before .before .before .before .before .before .before))) ∙ judged-done es Refused Not (Joined (nextEdge p 0)) (patternFaults p) ok d done,
-      (made, λ fine. ap patternFaults made ∙ remove-pattern-accepted p (full (c .before .before .before .before .before .before .before .before .before)) (c .before .before .before .before .before .before .before .before .before .args .n) (c .before .before .before .before .before .before .before .before .before .args .v .0) fine),
+      ap Joined (next-is (start .args .t1) l (full start)) ∙ judged-done es Refused Not (Joined (nextEdge (start .args .t1) 0)) (patternFaults (start .args .t1)) ok d done,
+      (made, λ fine. ap patternFaults made ∙ remove-pattern-accepted (start .args .t1) (full start) (start .args .n) (start .args .v .0) fine),
     )
 
 pub remove-vertex-by-concat-edges-spec : {M : Type 1} → statement M
