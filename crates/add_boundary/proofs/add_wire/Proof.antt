@@ -19,8 +19,8 @@ returns c =
     let h = sym (c .before .before .before .judge-wire .ensures) ∙ c .before .judged .given .1 in (
       unfit-answer es _ (Written (length (args .own .now) + length (args .wire .now)) (suc (length (args .sizes .now)))) h,
       (
-        sets-nothing (args .uses .now) _ (unfit-out es _ (args .own .now ++ storedAs (args .reversed) (args .wire .now)) h),
-        sets-nothing (args .lens .now) _ (unfit-out es _ (args .sizes .now ++ (length (args .wire .now) ∷ [])) h),
+        sets-nothing _ _ (unfit-out es _ (args .own .now ++ storedAs (args .reversed) (args .wire .now)) h),
+        sets-nothing _ _ (unfit-out es _ (args .sizes .now ++ (length (args .wire .now) ∷ [])) h),
       ),
     )
 
@@ -33,7 +33,7 @@ put-length-requires : tie.Need-put-length-requires
 put-length-requires c κs =
     let start = c .before .before .before .before .before .before .before .before .before .before .before .before .before .before .before in
     let h = sym (c .before .before .before .before .before .before .before .judge-wire .ensures) ∙ c .before .before .before .before .before .enum-told .given .1 in
-    (wires-fit (start .args .fronts .now) (start .args .backs .now) (start .args .own .now) (length (start .args .sizes .now)) (start .args .wire .now) (length (start .args .uses .now)) (length (start .args .lens .now)) h, omega (arith, is-short (start .args .fronts .now) (start .args .backs .now) (start .args .own .now) (length (start .args .sizes .now)) (start .args .wire .now) (length (start .args .uses .now)) (length (start .args .lens .now)) h (start .pre .0)))
+    (wires-fit (start .args .fronts .now) (start .args .backs .now) (start .args .own .now) (length (start .args .sizes .now)) (start .args .wire .now) (length (start .args .uses .now)) (length (start .args .lens .now)) h, omega (arith, is-short _ _ (start .args .own .now) (length (start .args .sizes .now)) _ (length (start .args .uses .now)) (length (start .args .lens .now)) h (start .pre .0)))
 
 returns-2 : tie.Need-returns-2
 returns-2 c =

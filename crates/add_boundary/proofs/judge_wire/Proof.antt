@@ -33,7 +33,7 @@ returns-2 c =
 returns-3 : tie.Need-returns-3
 returns-3 c =
     let args = c .before .before .before .before .before .before .before .before .before .before .before .before .before .before .args in
-    unfit-uses (args .fronts .now) (args .backs .now) (args .own .now) (args .n) (args .wire .now) (args .m) (args .k) (sym (c .before .before .before .before .before .before .before .before .check-wire .ensures .0) ∙ c .before .before .before .before .before .enum-told .given .1) (sym (c .before .before .before .disjoint-from .ensures) ∙ not-false _ (c .before .if1 .left)) (c .if2 .taken)
+    unfit-uses (args .fronts .now) (args .backs .now) (args .own .now) (args .n) (args .wire .now) _ (args .k) (sym (c .before .before .before .before .before .before .before .before .check-wire .ensures .0) ∙ c .before .before .before .before .before .enum-told .given .1) (sym (c .before .before .before .disjoint-from .ensures) ∙ not-false _ (c .before .if1 .left)) (c .if2 .taken)
 
 returns-4 : tie.Need-returns-4
 returns-4 c =

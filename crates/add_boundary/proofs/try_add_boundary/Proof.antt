@@ -40,8 +40,8 @@ seven s = search needs
 -- the checks found no fault
 good : (c : tie.After-enum-told) → Fine (c .before .before .before .before .before .before .args .t1)
 good c =
-    let start = c .before .before .before .before .before .before in
-    fine (start .args .t1) (accepted-none (patternFaults (start .args .t1)) (sym (c .before .before .check .ensures) ∙ c .enum-told .given .1)) (seven start) (full start)
+    let place = c .before .before .before .before .before .before in
+    fine _ (accepted-none (patternFaults _) (sym (c .before .before .check .ensures) ∙ c .enum-told .given .1)) (seven place) (full place)
 
 -- the columns
 column-fronts : (c : tie.After-face-columns) → c .face-columns .result .fronts ≡ map frontNumber (c .before .before .before .before .before .before .before .before .before .before .before .before .before .args .t1 .edges)
@@ -88,7 +88,7 @@ add-at-requires : tie.Need-add-at-requires
 add-at-requires c κs =
     let args = c .before .before .before .before .before .before .before .before .before .before .before .before .before .before .before .before .before .before .before .before .before .before .before .before .before .before .before .before .before .before .args in
     let place = c .before .before .before .before .before .before .before .before .before .before .before .before .before .before .before .before .before in
-    at-requires (args .t1) (args .f) _ (args .uses .now) (args .lens .now) (good (c .before .before .before .before .before .before .before .before .before .before .before .before .before .before .before .before .before .before .before .before .before .before .before .before)) (there place) (named place) _ _ _ (column-fronts place) (column-backs place) (part-there (c .before .before .before .before .before .before .before .before .before))
+    at-requires (args .t1) _ _ (args .uses .now) (args .lens .now) (good (c .before .before .before .before .before .before .before .before .before .before .before .before .before .before .before .before .before .before .before .before .before .before .before .before)) (there place) (named place) _ _ _ (column-fronts place) (column-backs place) (part-there (c .before .before .before .before .before .before .before .before .before))
 
 returns-4 : tie.Need-returns-4
 returns-4 c =

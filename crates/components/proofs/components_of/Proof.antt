@@ -17,5 +17,5 @@ returns c =
     let z = rw (keys-part _ _ _ (pre .shown) _ _ _ pre _ (c .before .before .before .before .before .before .before .before .before .put-keys .ensures), key-components _ _ _ (pre .shown) _) at (c .before .before .before .before .group-first .ensures) in (z .0, (z .1 .0, (z .1 .1, (components-long _ _ _ (pre .shown) _ _ _ pre, omega (arith, z .1 .1, components-few _ _ _ (pre .shown) _ _ _ pre)))))
 
 pub components-of-spec : {M : Type 1} → statement M
-components-of-spec = tie.close (tie.spec (λ c. search needs) (λ c κs. search needs) (λ c. search needs) group-first-requires
-    (λ c. search needs) (λ c. search needs) returns)
+components-of-spec = tie.close (tie.spec (search needs) (λ c κs. search needs) (search needs) group-first-requires (search needs) (search needs)
+    returns)

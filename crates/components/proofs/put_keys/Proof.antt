@@ -19,5 +19,4 @@ returns c = let args = c .before .before .before .before .before .before .before
     c .before .before .put-roots .ensures ∙ ap (λ (ps : List ℕ). sets (args .keys .now) 0 (rootsOf ps (args .edges) (length (args .spans .now)))) (c .before .before .before .before .before .before .before .link-uses .ensures .0)
 
 pub put-keys-spec : {M : Type 1} → statement M
-put-keys-spec = tie.close (tie.spec (λ c. search needs) (λ c. search needs) (λ c κs. search needs) (λ c. search needs) put-roots-requires
-    (λ c. search needs) returns)
+put-keys-spec = tie.close (tie.spec (search needs) (search needs) (λ c κs. search needs) (search needs) put-roots-requires (search needs) returns)

@@ -24,14 +24,12 @@ part-corner-of-end c = let pre = c .before .before .before .before .before .befo
 
 corner-of-requires : tie.Need-corner-of-requires
 corner-of-requires c κs =
-    let start = c .before .before .before .before .before .before .before .before in
-    let sum-of = c .before .before .before .sum-of in
+    let start = c .before .before .before .before .before .before .before .before in let sum-of = c .before .before .before .sum-of in
     (named-part (start .args .fronts .now) (start .args .backs .now) (start .args .uses .now) (start .pre .0) (sum-of .result) (sum-of .result + c .before .index .result - sum-of .result), omega (arith, ap length (walk-part (start .args .wires .now) (start .args .w) (sum-of .result) (c .before .index .result) (record { low = omega (arith, start .pre .1 .4); here = sum-of .ensures }) (start .pre .1 .4) (c .before .index .ensures .0) (start .args .uses .now)), part-long (start .args .wires .now) (start .args .uses .now) (start .args .w) (start .pre .1 .2) (start .pre .1 .4), start .pre .1 .3 (start .args .w) (start .pre .1 .4)))
 
 returns : tie.Need-returns
 returns c =
-    let start = c .before .before .before .before .before .before .before .before .before in
-    let sum-of = c .before .before .before .before .sum-of in
+    let start = c .before .before .before .before .before .before .before .before .before in let sum-of = c .before .before .before .before .sum-of in
     let index = c .before .before .index in
     corner-whole (start .args .fronts .now) (start .args .backs .now) (start .args .v .0) (start .args .uses .now) (sum-of .result) (sum-of .result + index .result - sum-of .result) (start .pre .0) (walk-part (start .args .wires .now) (start .args .w) (sum-of .result) (index .result) (record { low = omega (arith, start .pre .1 .4); here = sum-of .ensures }) (start .pre .1 .4) (index .ensures .0) (start .args .uses .now)) (omega (arith, ap length (walk-part (start .args .wires .now) (start .args .w) (sum-of .result) (index .result) (record { low = omega (arith, start .pre .1 .4); here = sum-of .ensures }) (start .pre .1 .4) (index .ensures .0) (start .args .uses .now)), part-long (start .args .wires .now) (start .args .uses .now) (start .args .w) (start .pre .1 .2) (start .pre .1 .4), start .pre .1 .3 (start .args .w) (start .pre .1 .4))) (c .corner-of .ensures)
 

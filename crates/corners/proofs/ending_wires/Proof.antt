@@ -20,8 +20,7 @@ array-copy-out-d c = omega (arith, c .before .before .before .before .before .be
 
 then-requires : tie.Need-then-requires Inv-loop μ-loop
 then-requires c κs =
-    let start = c .before .before .before .before .before .before .before .before .before in
-    let loop = c .before .before .before .before .loop in
+    let start = c .before .before .before .before .before .before .before .before .before in let loop = c .before .before .before .before .loop in
     omega (arith, loop .inv .1 .few, start .pre .1 .0, start .pre .0 .2, end-few (start .args .flags .now) (start .args .counts .now) (c .before .before .before .before .before .face-endings .result) (loop .inv .0) (c .before .index .result))
 
 loop-again : tie.Need-loop-again Inv-loop μ-loop

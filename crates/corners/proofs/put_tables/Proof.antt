@@ -12,8 +12,7 @@ put-wires-requires c κs = let start = c .before .before .before .before .before
 
 returns : tie.Need-returns
 returns c =
-    let args = c .before .before .before .before .before .before .before .before .before .before .before .before .before .before .before .before .before .args in
-    rw (sub-zero (args .ucount), sub-zero (args .wcount), sub-zero (args .ecount)) at (c .before .before .before .before .put-wires .ensures)
+    rw (sub-zero _, sub-zero _, sub-zero _) at (c .before .before .before .before .put-wires .ensures)
 
 pub put-tables-spec : {M : Type 1} → statement M
 put-tables-spec = tie.close (tie.spec (search needs) (search needs) (search needs) (search needs) (search needs) (search needs)

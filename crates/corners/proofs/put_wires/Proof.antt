@@ -33,8 +33,7 @@ part-put-wire-end c = let start = c .before .before .before .before .before .bef
 put-wire-requires : tie.Need-put-wire-requires Inv-loop μ-loop
 put-wire-requires c κs =
     let start = c .before .before .before .before .before .before .before .before .before .before .before .before in
-    let loop = c .before .before .before .before .before .loop in
-    let index = c .before .before .index in
+    let loop = c .before .before .before .before .before .loop in let index = c .before .before .index in
     (named-part (start .args .fronts .now) (start .args .backs .now) (start .args .uses .now) (start .pre .0) (loop .from) (loop .from + index .result - loop .from), (omega (arith, putting-long (removedWire (start .args .fronts .now) (start .args .backs .now) (start .args .v .0) (start .args .e) (start .args .a)) (start .args .wires .now) (start .args .uses .now) (start .args .out .now) (start .args .lens .now) (loop .inv) (omega arith) (index .ensures .0) (start .pre .1 .0 .3), start .pre .1 .1 .0 (loop .w) (omega arith), index .ensures .0), omega (arith, putting-long (removedWire (start .args .fronts .now) (start .args .backs .now) (start .args .v .0) (start .args .e) (start .args .a)) (start .args .wires .now) (start .args .uses .now) (start .args .out .now) (start .args .lens .now) (loop .inv) (omega arith) (index .ensures .0) (start .pre .1 .0 .3), putting-fits (removedWire (start .args .fronts .now) (start .args .backs .now) (start .args .v .0) (start .args .e) (start .args .a)) (start .args .wires .now) (start .args .uses .now) (start .args .out .now) (start .args .lens .now) (loop .inv) (omega arith) (index .ensures .0) (start .pre .1 .0 .3), loop .inv .less, out-long (removedWire (start .args .fronts .now) (start .args .backs .now) (start .args .v .0) (start .args .e) (start .args .a)) (start .args .wires .now) (start .args .uses .now) (start .args .out .now) (start .args .lens .now) (loop .inv), start .pre .1 .0 .1), start .pre .1 .1 .1))
 
 cast-lens : tie.Need-cast-lens Inv-loop μ-loop

@@ -54,9 +54,9 @@ returns-2 : tie.Need-returns-2
 returns-2 c =
     let args = c .before .before .before .before .before .before .before .before .args in let place = c .before .before .before .before .before in
     let no = sym (c .before .all-named .ensures) ∙ not-true _ (c .if1 .taken) in (
-      unnamed (args .t1) (good place) (args .n) (args .e .0) (args .v .0) (args .at) Refused Not (Cut (nextEdge (args .t1) 0) (nextEdge (args .t1) 1)) no,
+      unnamed _ (good place) _ _ _ (args .at) Refused Not (Cut (nextEdge (args .t1) 0) (nextEdge (args .t1) 1)) no,
       (
-        unnamed (args .t1) (good place) (args .n) (args .e .0) (args .v .0) (args .at) (λ (f : Refusal). args .t1) (λ (x : EditError). args .t1) (storedIn (args .t1) (cutContent (content (args .t1)) (args .n) (args .e .0) (args .v .0) (args .at))) no,
+        unnamed _ (good place) _ _ _ (args .at) (λ (f : Refusal). args .t1) (λ (x : EditError). args .t1) (storedIn (args .t1) (cutContent (content (args .t1)) (args .n) (args .e .0) (args .v .0) (args .at))) no,
         λ ok. ok,
       ),
     )
@@ -65,7 +65,7 @@ cut-named-requires : tie.Need-cut-named-requires
 cut-named-requires c κs =
     let args = c .before .before .before .before .before .before .before .before .args in
     let place = c .before .before .before .before .before in
-    (good place .ok, names (args .t1) (good place) (args .n) (args .e .0) (args .v .0) (args .at) (sym (c .before .all-named .ensures) ∙ not-false _ (c .if1 .left)))
+    (good place .ok, names _ (good place) _ _ _ (args .at) (sym (c .before .all-named .ensures) ∙ not-false _ (c .if1 .left)))
 
 pub cut-edge-spec : {M : Type 1} → statement M
 cut-edge-spec = tie.close (tie.spec (search needs) (search needs) returns (search needs) (search needs) (search needs) (search needs)

@@ -44,7 +44,7 @@ good s = fine (s .args .t1) (s .pre .0) (seven s) (full s)
 -- the edge that is read
 edge-is : (c : tie.After-index) → getD (c .before .before .before .before .before .args .t1 .edges) (c .index .result) noEdge ≡ edgeAt (content (c .before .before .before .before .before .args .t1)) (c .before .before .before .before .before .args .e .0)
 edge-is c = let start = c .before .before .before .before .before in
-    rw (c .index .ensures .0) (sym (edge-at (start .args .t1) (good start) _ (start .pre .1 .1)))
+    rw (c .index .ensures .0) (sym (edge-at _ (good start) _ (start .pre .1 .1)))
 
 curve-is : (c : tie.After-index) → getD (c .before .before .before .before .before .args .t1 .edges) (c .index .result) noEdge .curve ≡ edgeAt (content (c .before .before .before .before .before .args .t1)) (c .before .before .before .before .before .args .e .0) .curve
 curve-is c = ap (λ (d : Edge). d .curve) (edge-is c)
@@ -85,9 +85,9 @@ store-cut-requires : tie.Need-store-cut-requires
 store-cut-requires c κs =
     let start = c .before .before .before .before .before .before .before .before .before .before .before .before .before .before .before .before .before .before .before .before .before .before .before .before .before .before .before .before .before in
     let place = c .before .before .before .before .before .before .before .before .before .before .before .before .before .before .before .before .before .before in
-    let done = c .before .before .before .before .before .cut-columns .ensures (start .args .t1) (lent place) (curve-is (c .before .before .before .before .before .before .before .before .before .before .before .before .before .before .before .before .before .before .before .before .before .before .before .before)) in
+    let done = c .before .before .before .before .before .cut-columns .ensures _ (lent place) (curve-is (c .before .before .before .before .before .before .before .before .before .before .before .before .before .before .before .before .before .before .before .before .before .before .before .before)) in
     let parts = parted-are _ _ _ _ _ _ (sym (c .before .done2 .given .1) ∙ done .answer) in
-    rooms (start .args .t1) (good start) (start .args .n) (start .args .e .0) (start .args .v .0) (start .args .at) (here place) (parts .0) .0
+    rooms _ (good start) _ _ _ (start .args .at) (here place) (parts .0) .0
 
 cast-a : tie.Need-cast-a
 cast-a c = omega (arith, good (c .before .before .before .before .before .before .before .before .before .before .before .before .before .before .before .before .before .before .before .before .before .before .before .before .before .before .before .before .before .before) .limits .edges)
@@ -99,11 +99,11 @@ returns : tie.Need-returns
 returns c =
     let start = c .before .before .before .before .before .before .before .before .before .before .before .before .before .before .before .before .before .before .before .before .before .before .before .before .before .before .before .before .before in
     let place = c .before .before .before .before .before .before .before .before .before .before .before .before .before .before .before .before .before .before in
-    let done = c .before .before .before .before .before .cut-columns .ensures (start .args .t1) (lent place) (curve-is (c .before .before .before .before .before .before .before .before .before .before .before .before .before .before .before .before .before .before .before .before .before .before .before .before)) in
+    let done = c .before .before .before .before .before .cut-columns .ensures _ (lent place) (curve-is (c .before .before .before .before .before .before .before .before .before .before .before .before .before .before .before .before .before .before .before .before .before .before .before .before)) in
     let no = sym (c .before .done .given .1) ∙ done .answer in (
-      refused-not (start .args .t1) (good start) (start .args .n) (start .args .e .0) (start .args .v .0) (start .args .at) (here place) Refused Not (Cut (nextEdge (start .args .t1) 0) (nextEdge (start .args .t1) 1)) _ _ no,
+      refused-not _ (good start) _ _ _ (start .args .at) (here place) Refused Not (Cut (nextEdge (start .args .t1) 0) (nextEdge (start .args .t1) 1)) _ _ no,
       (
-        refused-not (start .args .t1) (good start) (start .args .n) (start .args .e .0) (start .args .v .0) (start .args .at) (here place) (λ (f : Refusal). start .args .t1) (λ (x : EditError). start .args .t1) (storedIn (start .args .t1) (cutContent (content (start .args .t1)) (start .args .n) (start .args .e .0) (start .args .v .0) (start .args .at))) _ _ no,
+        refused-not _ (good start) _ _ _ (start .args .at) (here place) (λ (f : Refusal). start .args .t1) (λ (x : EditError). start .args .t1) (storedIn (start .args .t1) (cutContent (content (start .args .t1)) (start .args .n) (start .args .e .0) (start .args .v .0) (start .args .at))) _ _ no,
         start .pre .0,
       ),
     )
@@ -113,11 +113,11 @@ returns-2 c =
     let start = c .before .before .before .before .before .before .before .before .before .before .before .before .before .before .before .before .before .before .before .before .before .before .before .before .before .before .before .before .before .before in
     let place = c .before .before .before .before .before .before .before .before .before .before .before .before .before .before .before .before .before .before .before .before .before .before .before .before .before in
     let place-2 = c .before .before .before .before .before .before .before .before .before .before .before .before .before .before .before .before .before .before .before in
-    let done = c .before .before .before .before .before .before .cut-columns .ensures (start .args .t1) (lent place-2) (curve-is place) in
+    let done = c .before .before .before .before .before .before .cut-columns .ensures _ (lent place-2) (curve-is place) in
     let parts = parted-are _ _ _ _ _ _ (sym (c .before .before .done2 .given .1) ∙ done .answer) in
-    let after = pattern-cut (start .args .t1) (good start) (start .args .n) (start .args .e .0) (start .args .v .0) (start .args .at) (parts .0) _ _ _ _ _ _ _ (parts .1) (parts .2) (done .uses-cut (parts .0)) (done .wires-cut (parts .0)) (edge-is place) (c .store-cut .ensures) in (
-      answer-cut (start .args .t1) (good start) (start .args .n) (start .args .e .0) (start .args .v .0) (start .args .at) (parts .0),
-      (after, ap patternFaults after ∙ after-fine (start .args .t1) (good start) (start .args .n) (start .args .e .0) (start .args .v .0) (start .args .at) (here place-2) (done .spans)),
+    let after = pattern-cut _ (good start) _ _ _ (start .args .at) (parts .0) _ _ _ _ _ _ _ (parts .1) (parts .2) (done .uses-cut (parts .0)) (done .wires-cut (parts .0)) (edge-is place) (c .store-cut .ensures) in (
+      answer-cut _ (good start) _ _ _ (start .args .at) (parts .0),
+      (after, ap patternFaults after ∙ after-fine _ (good start) _ _ _ (start .args .at) (here place-2) (done .spans)),
     )
 
 pub cut-named-spec : {M : Type 1} → statement M

@@ -13,8 +13,8 @@ put-first-requires : tie.Need-put-first-requires
 put-first-requires c κs =
     let start = c .before .before .before .before .before .before .before .before .before .before in
     let index = c .before .before .before .before .index in
-    let new = new-named (start .args .t2) (start .args .t3) (getD (start .args .t1) 1 0) (start .args .e .0) (start .args .v .0) (start .pre .1 .0 .0) (start .pre .1 .0 .1) (ends-long start .0) (ends-long start .1) _ (start .pre .1 .1 .0) in
-    let halved = new-halved (start .args .t2) (start .args .t3) (getD (start .args .t1) 1 0) (start .args .e .0) (start .args .v .0) (start .pre .1 .0 .0) (start .pre .1 .0 .1) (ends-long start .0) (ends-long start .1) (start .pre .1 .0 .2) (start .pre .1 .0 .3) (start .pre .1 .0 .4) in
+    let new = new-named (start .args .t2) (start .args .t3) (getD (start .args .t1) 1 0) _ (start .args .v .0) (start .pre .1 .0 .0) (start .pre .1 .0 .1) (ends-long start .0) (ends-long start .1) _ (start .pre .1 .1 .0) in
+    let halved = new-halved (start .args .t2) (start .args .t3) (getD (start .args .t1) 1 0) _ _ (start .pre .1 .0 .0) (start .pre .1 .0 .1) (ends-long start .0) (ends-long start .1) (start .pre .1 .0 .2) (start .pre .1 .0 .3) (start .pre .1 .0 .4) in
     (start .pre .0, (rw (index .ensures .0) new, (rw (index .ensures .0) halved, start .pre .1 .1 .1)))
 
 pub put-halves-spec : {M : Type 1} → statement M

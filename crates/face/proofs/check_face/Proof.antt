@@ -42,5 +42,5 @@ returns-2 c =
     (disjoint-wires .ensures .0 ∙ sym (passed-first (alone place) (shared place) (sym (c .before .before .before .before .before .before .before .before .check-wires .ensures .0) ∙ c .before .before .before .before .enum-told .given .1)), disjoint-wires .ensures .1)
 
 pub check-face-spec : {M : Type 1} → statement M
-check-face-spec = tie.close (tie.spec (λ c κs. search needs) (λ c. search needs) (λ c. search needs) (λ c. search needs)
-    disjoint-wires-requires (λ c. search needs) returns (λ c. search needs) returns-2)
+check-face-spec = tie.close (tie.spec (λ c κs. search needs) (search needs) (search needs) (search needs) disjoint-wires-requires (search needs)
+    returns (search needs) returns-2)

@@ -88,10 +88,9 @@ add-check-face-3 c = omega (arith, wires-fit (face (c .before .before)))
 
 check-face-requires : tie.Need-check-face-requires Inv-loop μ-loop
 check-face-requires c κs =
-    let start = c .before .before .before .before .before .before .before .before .before .before .before .before .before in
     let loop = c .before .before .before .before .before .before .before .loop in let place = c .before .before in
     let f = face place in (
-      named-part (start .args .fronts .now) (start .args .backs .now) (start .args .uses .now) (start .pre .0) (loop .at) (loop .at + place .sum-of .result - loop .at),
+      named-part _ _ _ (c .before .before .before .before .before .before .before .before .before .before .before .before .before .pre .0) (loop .at) (loop .at + place .sum-of .result - loop .at),
       ((omega (arith, part-sum f, uses-long f), omega (arith, part-long f, wires-fit f), omega (arith, part-long f, wires-fit f)), (loop .inv .3, loop .inv .4)),
     )
 
@@ -124,7 +123,7 @@ returns-2 c =
     (rw (length-split (take (start .args .n) (start .args .counts .now)) (split (start .args .lengths .now) (start .args .uses .now)), length-take-le (start .args .n) (start .args .counts .now) (start .pre .1 .0 .0)) (omega arith))))
 
 pub check-faces-spec : {M : Type 1} → statement M
-check-faces-spec = tie.close (tie.spec Inv-loop μ-loop loop-holds (λ c. search needs) (λ c. search needs) (λ c κs. search needs) add-part
-    mul-part (λ c. search needs) (λ c. search needs) part-part-end sum-of-requires add-check-face mul-check-face (λ c. search needs)
-    (λ c. search needs) part-check-face-end (λ c. search needs) add-check-face-2 add-check-face-3 check-face-requires (λ c. search needs)
-    returns (λ c. search needs) add-at add-first (λ c. search needs) (λ c. search needs) loop-again returns-2)
+check-faces-spec = tie.close (tie.spec Inv-loop μ-loop loop-holds (search needs) (search needs) (search needs) add-part mul-part
+    (search needs) (search needs) part-part-end sum-of-requires add-check-face mul-check-face (search needs) (search needs)
+    part-check-face-end (search needs) add-check-face-2 add-check-face-3 check-face-requires (search needs) returns (search needs) add-at
+    add-first (search needs) (search needs) loop-again returns-2)

@@ -51,13 +51,11 @@ check-wire-requires c κs =
 
 returns : tie.Need-returns Inv-loop μ-loop
 returns c =
-    let args = c .before .before .before .before .before .before .before .before .before .before .before .before .before .before .before .before .before .args in
     let loop = c .before .before .before .before .before .before .before .before .before .before .before .loop in
-    let index = c .before .before .before .before .before .before .before .before .index in
     let check-wire = c .before .before .before .before .before .check-wire in (
-      sym (outline-stop (args .fronts .now) (args .backs .now) (args .lengths .now) (args .uses .now) (args .first) (loop .k) (loop .at) (index .result) (loop .inv .1) (loop .inv .0)
-          (c .before .before .before .before .before .before .before .before .before .before .loop-test .taken) (index .ensures .0) _ (sym (check-wire .ensures .0) ∙ c .before .answer .given .1)),
-      below-later (args .stamp + loop .k + 1) _ (check-wire .last .1 .1 .1 .0) (check-wire .ensures .1) (omega arith),
+      sym (outline-stop _ _ _ _ _ _ _ _ (loop .inv .1) (loop .inv .0)
+          (c .before .before .before .before .before .before .before .before .before .before .loop-test .taken) (c .before .before .before .before .before .before .before .before .index .ensures .0) _ (sym (check-wire .ensures .0) ∙ c .before .answer .given .1)),
+      below-later (c .before .before .before .before .before .before .before .before .before .before .before .before .before .before .before .before .before .args .stamp + loop .k + 1) _ (check-wire .last .1 .1 .1 .0) (check-wire .ensures .1) (omega arith),
     )
 
 add-at : tie.Need-add-at Inv-loop μ-loop
@@ -65,15 +63,14 @@ add-at c = omega (arith, fits (c .before .before .before .before .before .before
 
 loop-again : tie.Need-loop-again Inv-loop μ-loop
 loop-again c =
-    let args = c .before .before .before .before .before .before .before .before .before .before .before .before .before .before .before .before .args in
     let loop = c .before .before .before .before .before .before .before .before .before .before .loop in
     let loop-test = c .before .before .before .before .before .before .before .before .before .loop-test in
     let index = c .before .before .before .before .before .before .before .index in let check-wire = c .before .before .before .before .check-wire in (
-      walk-next (args .lengths .now) (loop .k) (loop .at) (index .result) (loop .inv .0) (loop-test .taken) (index .ensures .0),
-      outline-next (args .fronts .now) (args .backs .now) (args .lengths .now) (args .uses .now) (args .first) (loop .k) (loop .at) (index .result) (loop .inv .1) (loop .inv .0)
+      walk-next _ _ _ _ (loop .inv .0) (loop-test .taken) (index .ensures .0),
+      outline-next _ _ _ _ _ _ _ _ (loop .inv .1) (loop .inv .0)
           (loop-test .taken) (index .ensures .0) (sym (check-wire .ensures .0) ∙ c .enum-told .given .1),
       search needs,
-      below-later (args .stamp + loop .k + 1) _ (check-wire .last .1 .1 .1 .0) (check-wire .ensures .1) (omega arith),
+      below-later (c .before .before .before .before .before .before .before .before .before .before .before .before .before .before .before .before .args .stamp + loop .k + 1) _ (check-wire .last .1 .1 .1 .0) (check-wire .ensures .1) (omega arith),
     )
 
 returns-2 : tie.Need-returns-2 Inv-loop μ-loop
@@ -83,7 +80,6 @@ returns-2 c = (
 )
 
 pub check-wires-spec : {M : Type 1} → statement M
-check-wires-spec = tie.close (tie.spec Inv-loop μ-loop loop-holds (λ c. search needs) (λ c. search needs) (λ c κs. search needs)
-    add-check-wire mul-check-wire (λ c. search needs) (λ c. search needs) part-check-wire-end (λ c. search needs) (λ c. search needs)
-    check-wire-requires (λ c. search needs) (λ c. search needs) (λ c. search needs) returns (λ c. search needs) add-at (λ c. search needs)
-    (λ c. search needs) loop-again (λ c. search needs) returns-2)
+check-wires-spec = tie.close (tie.spec Inv-loop μ-loop loop-holds (search needs) (search needs) (search needs) add-check-wire
+    mul-check-wire (search needs) (search needs) part-check-wire-end (search needs) (search needs) check-wire-requires (search needs)
+    (search needs) (search needs) returns (search needs) add-at (search needs) (search needs) loop-again (search needs) returns-2)

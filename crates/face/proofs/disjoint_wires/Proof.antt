@@ -29,9 +29,9 @@ fits c =
 loop-holds : tie.Need-loop-holds Inv-loop μ-loop
 loop-holds c =
     let start = c .before .before .before .before .before in (
-      walk-start (start .args .lengths .now),
-      apart-start (start .args .fronts .now) (start .args .backs .now) (split (start .args .lengths .now) (start .args .uses .now)) (start .args .first) (start .args .stamp) (start .args .marks .now) (start .pre .1 .1 .0) (start .pre .1 .1 .1 .0),
-      below-later (start .args .stamp) (start .args .stamp + 1) (start .args .marks .now) (start .pre .1 .1 .1 .0) (omega arith),
+      walk-start _,
+      apart-start _ _ (split _ _) _ _ _ (start .pre .1 .1 .0) (start .pre .1 .1 .1 .0),
+      below-later _ (start .args .stamp + 1) (start .args .marks .now) (start .pre .1 .1 .1 .0) (omega arith),
     )
 
 add-stamp-points : tie.Need-add-stamp-points Inv-loop μ-loop
@@ -52,10 +52,10 @@ returns : tie.Need-returns Inv-loop μ-loop
 returns c =
     let start = c .before .before .before .before .before .before .before .before .before .before .before .before .before .before .before in
     let loop = c .before .before .before .before .before .before .before .before .before .loop in
-    let index = c .before .before .before .before .before .before .index in let stamp-points = c .before .before .before .stamp-points in (
-      sym (apart-stop (start .args .fronts .now) (start .args .backs .now) (start .args .lengths .now) (start .args .uses .now) (start .args .first) (start .args .stamp) (loop .marks) (loop .k) (loop .start) (index .result) (loop .inv .1) (loop .inv .0)
-          (c .before .before .before .before .before .before .before .before .loop-test .taken) (index .ensures .0) (start .pre .0) (start .pre .1 .1 .1 .1) (sym (stamp-points .ensures .0) ∙ c .if1 .taken)),
-      rw (stamp-points .ensures .1) (below-stamped (start .args .stamp) (start .args .stamp + 1) _ (loop .marks) (loop .inv .2) (omega arith)),
+    let stamp-points = c .before .before .before .stamp-points in (
+      sym (apart-stop _ _ _ _ _ _ _ _ _ _ (loop .inv .1) (loop .inv .0)
+          (c .before .before .before .before .before .before .before .before .loop-test .taken) (c .before .before .before .before .before .before .index .ensures .0) (start .pre .0) (start .pre .1 .1 .1 .1) (sym (stamp-points .ensures .0) ∙ c .if1 .taken)),
+      rw (stamp-points .ensures .1) (below-stamped _ (start .args .stamp + 1) _ _ (loop .inv .2) (omega arith)),
     )
 
 add-start : tie.Need-add-start Inv-loop μ-loop
@@ -67,10 +67,10 @@ loop-again c =
     let loop = c .before .before .before .before .before .before .before .before .before .loop in
     let loop-test = c .before .before .before .before .before .before .before .before .loop-test in
     let index = c .before .before .before .before .before .before .index in let stamp-points = c .before .before .before .stamp-points in (
-      walk-next (start .args .lengths .now) (loop .k) (loop .start) (index .result) (loop .inv .0) (loop-test .taken) (index .ensures .0),
-      rw (stamp-points .ensures .1) (apart-next (start .args .fronts .now) (start .args .backs .now) (start .args .lengths .now) (start .args .uses .now) (start .args .first) (start .args .stamp) (loop .marks) (loop .k) (loop .start) (index .result) (loop .inv .1) (loop .inv .0)
+      walk-next _ _ _ _ (loop .inv .0) (loop-test .taken) (index .ensures .0),
+      rw (stamp-points .ensures .1) (apart-next _ _ _ _ _ _ _ _ _ _ (loop .inv .1) (loop .inv .0)
           (loop-test .taken) (index .ensures .0) (start .pre .0) (start .pre .1 .1 .1 .1) (sym (stamp-points .ensures .0) ∙ c .if1 .left)),
-      rw (stamp-points .ensures .1) (below-stamped (start .args .stamp) (start .args .stamp + 1) _ (loop .marks) (loop .inv .2) (omega arith)),
+      rw (stamp-points .ensures .1) (below-stamped _ (start .args .stamp + 1) _ _ (loop .inv .2) (omega arith)),
     )
 
 returns-2 : tie.Need-returns-2 Inv-loop μ-loop
@@ -78,7 +78,6 @@ returns-2 c =
     (ap first (sym (apart-all _ _ (split _ _) _ _ _ _ (c .before .loop .inv .1) (rw (length-split _ _) (omega arith)))), c .before .loop .inv .2)
 
 pub disjoint-wires-spec : {M : Type 1} → statement M
-disjoint-wires-spec = tie.close (tie.spec Inv-loop μ-loop loop-holds (λ c. search needs) (λ c. search needs) (λ c κs. search needs)
-    add-stamp-points mul-stamp-points (λ c. search needs) (λ c. search needs) part-stamp-points-end (λ c. search needs)
-    stamp-points-requires (λ c. search needs) (λ c. search needs) returns add-start (λ c. search needs) (λ c. search needs) loop-again
-    (λ c. search needs) returns-2)
+disjoint-wires-spec = tie.close (tie.spec Inv-loop μ-loop loop-holds (search needs) (search needs) (search needs) add-stamp-points
+    mul-stamp-points (search needs) (search needs) part-stamp-points-end (search needs) stamp-points-requires (search needs) (search needs)
+    returns add-start (search needs) (search needs) loop-again (search needs) returns-2)

@@ -21,11 +21,11 @@ loop-holds c = (search needs, column-start wireCount noFace _ _ (sym (search nee
 
 loop-again : tie.Need-loop-again Inv-loop μ-loop
 loop-again c =
-    (c .before .loop .inv .0, column-next wireCount noFace _ (c .before .loop .out) _ (c .before .loop .inv .1) (omega (arith, c .before .loop .inv .0)))
+    (c .before .loop .inv .0, column-next wireCount noFace _ _ _ (c .before .loop .inv .1) (omega (arith, c .before .loop .inv .0)))
 
 returns : tie.Need-returns Inv-loop μ-loop
 returns c =
-    column-all wireCount noFace (c .before .before .args .t1) (c .before .loop .out) (c .before .loop .i) (c .before .loop .inv .1) (omega (arith, c .before .loop .inv .0))
+    column-all wireCount noFace _ _ _ (c .before .loop .inv .1) (omega (arith, c .before .loop .inv .0))
 
 pub wire-counts-spec : {M : Type 1} → statement M
 wire-counts-spec = tie.close (tie.spec Inv-loop μ-loop loop-holds (search needs) (search needs) (search needs) (search needs)

@@ -51,14 +51,14 @@ returns-3 c =
     let start = c .before .before .before .before .before .before .before .before .before .before .before .before in
     let index = c .before .before .before .before .before .before .before .before .index in
     let index2 = c .before .before .before .before .before .before .before .index2 in
-    surface-20 (start .args .t1) (start .args .f) (start .args .g) _ _ _ (counted start) (omega (arith, c .before .before .before .before .before .before .if1 .left, index .ensures .0)) (omega (arith, c .before .before .before .before .before .if2 .left, index2 .ensures .0)) refl _ _ (index .ensures .0) (index2 .ensures .0) (c .if3 .taken)
+    surface-20 (start .args .t1) _ _ _ _ _ (counted start) (omega (arith, c .before .before .before .before .before .before .if1 .left, index .ensures .0)) (omega (arith, c .before .before .before .before .before .if2 .left, index2 .ensures .0)) refl _ _ (index .ensures .0) (index2 .ensures .0) (c .if3 .taken)
 
 returns-4 : tie.Need-returns-4
 returns-4 c =
     let start = c .before .before .before .before .before .before .before .before .before .before .before .before .before in
     let index = c .before .before .before .before .before .before .before .before .before .index in
     let index2 = c .before .before .before .before .before .before .before .before .index2 in
-    sign-20 (start .args .t1) (start .args .f) (start .args .g) _ _ _ (counted start) (omega (arith, c .before .before .before .before .before .before .before .if1 .left, index .ensures .0)) (omega (arith, c .before .before .before .before .before .before .if2 .left, index2 .ensures .0)) refl _ _ (index .ensures .0) (index2 .ensures .0) (c .if4 .taken)
+    sign-20 (start .args .t1) _ _ _ _ _ (counted start) (omega (arith, c .before .before .before .before .before .before .before .if1 .left, index .ensures .0)) (omega (arith, c .before .before .before .before .before .before .if2 .left, index2 .ensures .0)) refl _ _ (index .ensures .0) (index2 .ensures .0) (c .if4 .taken)
 
 glue-faces-requires : tie.Need-glue-faces-requires
 glue-faces-requires c κs = (c .before .before .before .before .before .before .before .before .before .before .before .before .before .before .before .pre, (omega (arith, c .before .before .before .before .before .before .before .before .before .if1 .left, c .before .before .before .before .before .before .before .before .before .before .before .index .ensures .0), omega (arith, c .before .before .before .before .before .before .before .before .if2 .left, c .before .before .before .before .before .before .before .before .before .before .index2 .ensures .0)))
@@ -68,7 +68,7 @@ returns-5 c =
     let start = c .before .before .before .before .before .before .before .before .before .before .before .before .before .before .before .before .before .before .before .before in
     let index = c .before .before .before .before .before .before .before .before .before .before .before .before .before .before .before .before .index in
     let index2 = c .before .before .before .before .before .before .before .before .before .before .before .before .before .before .before .index2 in
-    alike-rest (start .args .t1) (start .args .f) (start .args .g) _ _ _ (counted start) (omega (arith, c .before .before .before .before .before .before .before .before .before .before .before .before .before .before .if1 .left, index .ensures .0)) (omega (arith, c .before .before .before .before .before .before .before .before .before .before .before .before .before .if2 .left, index2 .ensures .0)) refl _ _ (index .ensures .0) (index2 .ensures .0) (c .before .before .before .before .before .before .before .before .if3 .left) (c .before .before .before .before .before .before .before .if4 .left) _ _ _ (c .before .before .before .before .glue-faces .ensures)
+    alike-rest (start .args .t1) _ _ _ _ _ (counted start) (omega (arith, c .before .before .before .before .before .before .before .before .before .before .before .before .before .before .if1 .left, index .ensures .0)) (omega (arith, c .before .before .before .before .before .before .before .before .before .before .before .before .before .if2 .left, index2 .ensures .0)) refl _ _ (index .ensures .0) (index2 .ensures .0) (c .before .before .before .before .before .before .before .before .if3 .left) (c .before .before .before .before .before .before .before .if4 .left) _ _ _ (c .before .before .before .before .glue-faces .ensures)
 
 pub glue-checked-spec : {M : Type 1} → statement M
 glue-checked-spec = tie.close (tie.spec (search needs) (search needs) (search needs) returns returns-2 (search needs) element-copy-out-a

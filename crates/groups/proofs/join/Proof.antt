@@ -21,5 +21,5 @@ returns : tie.Need-returns
 returns c = joined-alike _ _ _ _ (c .before .before .before .before .before .pre) (c .if1 .taken)
 
 pub join-spec : {M : Type 1} → statement M
-join-spec = tie.close (tie.spec mul-if1 slice-read-if1 mul-if1-2 slice-read-if1-2 returns (λ c κs. search needs) (λ c. search needs)
-    (λ c. search needs) (λ c. search needs))
+join-spec = tie.close (tie.spec mul-if1 slice-read-if1 mul-if1-2 slice-read-if1-2 returns (λ c κs. search needs) (search needs) (search needs)
+    (λ c. search needs))

@@ -36,6 +36,5 @@ returns : tie.Need-returns Inv-loop μ-loop
 returns c = joins-end _ _ _ _ _ _ _ _ (c .before .before .before .before .before .before .pre .1) (c .before .loop .inv) (omega arith)
 
 pub join-all-spec : {M : Type 1} → statement M
-join-all-spec = tie.close (tie.spec Inv-loop μ-loop loop-holds (λ c. search needs) (λ c. search needs) cast-join (λ c. search needs)
-    (λ c. search needs) cast-join-2 join-requires (λ c. search needs) (λ c. search needs) loop-again (λ c. search needs)
-    (λ c. search needs) returns)
+join-all-spec = tie.close (tie.spec Inv-loop μ-loop loop-holds (search needs) (search needs) cast-join (search needs) (search needs)
+    cast-join-2 join-requires (search needs) (search needs) loop-again (search needs) (search needs) returns)

@@ -31,6 +31,5 @@ returns-3 c =
     rw (← find2 .ensures, ← find .ensures, rooted-more (args .parents .now) (args .sizes .now) (find .result) (find2 .result) (c .before .before .before .before .before .before .before .before .before .before .if1 .left) (omega (arith, c .before .before .before .before .before .before .before .if2 .left))) (c .before .before .before .before .put-under2 .ensures)
 
 pub join-roots-spec : {M : Type 1} → statement M
-join-roots-spec = tie.close (tie.spec (λ c κs. search needs) (λ c κs. search needs) (λ c. search needs) returns (λ c. search needs)
-    (λ c. search needs) (λ c. search needs) (λ c. search needs) put-under-requires put-under-requires-2 (λ c. search needs)
-    (λ c. search needs) returns-2 (λ c. search needs) (λ c. search needs) returns-3)
+join-roots-spec = tie.close (tie.spec (λ c κs. search needs) (λ c κs. search needs) (search needs) returns (search needs) (search needs) (search needs)
+    (search needs) put-under-requires put-under-requires-2 (search needs) (search needs) returns-2 (search needs) (search needs) returns-3)

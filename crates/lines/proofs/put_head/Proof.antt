@@ -28,8 +28,8 @@ returns c =
     let args = c .before .before .before .before .before .before .before .before .before .before .before .before .before .before .args in
     let x = wordNumber (ascii "shell ") _ in
     let y = conditionLine (args .condition) in
-    let p = put-then (args .out .now) (args .at) x y _ _ _ _ (c .before .before .before .before .before .before .before .before .before .before .put-number .ensures) (c .before .before .before .before .before .before .put-condition .ensures) in
-    put-then (args .out .now) (args .at) (x ++ y) (connectedLine (args .connected)) _ _ _ _ p (c .before .before .put-connected .ensures)
+    let p = put-then (args .out .now) _ x y _ _ _ _ (c .before .before .before .before .before .before .before .before .before .before .put-number .ensures) (c .before .before .before .before .before .before .put-condition .ensures) in
+    put-then (args .out .now) _ (x ++ y) (connectedLine (args .connected)) _ _ _ _ p (c .before .before .put-connected .ensures)
 
 pub put-head-spec : {M : Type 1} → statement M
 put-head-spec = tie.close (tie.spec (search needs) put-number-requires put-condition-requires put-connected-requires same-length returns)

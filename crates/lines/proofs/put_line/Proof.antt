@@ -34,8 +34,8 @@ returns : tie.Need-returns
 returns c =
     let args = c .before .before .before .before .before .before .before .before .before .before .before .args in
     let items = flat (map item (args .us .now)) in
-    put-byte (args .out .now) (args .at) ((args .word .now) ++ items) _ _ 10
-    (put-then (args .out .now) (args .at) (args .word .now) items _ _ _ _ (c .before .before .before .before .before .before .put-text .ensures) (c .before .before .put-items .ensures))
+    put-byte (args .out .now) _ ((args .word .now) ++ items) _ _ 10
+    (put-then (args .out .now) _ (args .word .now) items _ _ _ _ (c .before .before .before .before .before .before .put-text .ensures) (c .before .before .put-items .ensures))
 
 pub put-line-spec : {M : Type 1} → statement M
 put-line-spec = tie.close (tie.spec put-text-requires put-items-requires slice-write-out add-result same-length returns)

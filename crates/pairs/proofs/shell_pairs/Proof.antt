@@ -64,8 +64,7 @@ returns : tie.Need-returns
 returns c =
     let pre = c .before .before .before .before .before .before .before .before .before .before .before .before .before .before .before .before .before .before .before .before .before .before .before .before .before .before .before .before .before .before .before .before .before .before .before .before .before .before .before .pre in
     let distinct = c .before .before .before .before .before .before .before .before .before .before .before .before .before .before .before .before .before .before .before .before .before .before .before .before .before .before .distinct in
-    let put-parts = c .before .before .before .before .before .before .before .before .put-parts in
-    let put-parts2 = c .before .before .put-parts2 in
+    let put-parts = c .before .before .before .before .before .before .before .before .put-parts in let put-parts2 = c .before .before .put-parts2 in
     built (pre .0) (pre .1 .0) (distinct .ensures .0) (distinct .ensures .1) (pre .1 .3) (pre .1 .4) (c .before .before .before .before .before .before .before .before .before .before .before .before .before .before .before .before .before .before .before .before .put-spans .ensures) (c .before .before .before .before .before .before .before .before .before .before .before .before .before .before .put-spans2 .ensures) (put-parts .ensures .0) (put-parts .ensures .1) (put-parts2 .ensures .0) (put-parts2 .ensures .1)
 
 pub shell-pairs-spec : {M : Type 1} → statement M

@@ -19,8 +19,7 @@ put-records-requires c κs =
 
 returns : tie.Need-returns
 returns c =
-    let args = c .before .before .before .before .before .before .before .before .before .before .before .before .before .before .before .before .before .before .before .before .before .args in
-    rw (refused-is (fileFaults (args .file .now)) (args .file .now) (sym (c .before .before .before .before .before .before .before .before .before .before .before .before .read-file .ensures .0) ∙ c .before .before .before .checked .given .1)) (c .put-refusal .ensures .0, c .put-refusal .ensures .1)
+    rw (refused-is (fileFaults _) _ (sym (c .before .before .before .before .before .before .before .before .before .before .before .before .read-file .ensures .0) ∙ c .before .before .before .checked .given .1)) (c .put-refusal .ensures .0, c .put-refusal .ensures .1)
 
 returns-2 : tie.Need-returns-2
 returns-2 c =

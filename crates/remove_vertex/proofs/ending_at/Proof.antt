@@ -40,8 +40,7 @@ ending-in-requires c κs =
     )
 
 returns : tie.Need-returns
-returns c = let start = c .before .before .before .before .before .before .before .before .before .before .before in
-    λ p l. endings-are p _ _ _ _ _ _ _ _ l (start .args .n) (start .args .v .0) _ (part-are p _ _ _ _ (l .listed) (start .args .n) (start .pre .1) _ _ (c .before .before .before .sum-of .ensures) (c .before .index .ensures .0)) (c .ending-in .ensures)
+returns c = λ p l. endings-are p _ _ _ _ _ _ _ _ l _ _ _ (part-are p _ _ _ _ (l .listed) _ (c .before .before .before .before .before .before .before .before .before .before .before .pre .1) _ _ (c .before .before .before .sum-of .ensures) (c .before .index .ensures .0)) (c .ending-in .ensures)
 
 pub ending-at-spec : {M : Type 1} → statement M
 ending-at-spec = tie.close (tie.spec sum-of-requires mul-index shared-slice-read-index (search needs) add-end (search needs) (search needs)

@@ -12,7 +12,7 @@ returns c = let args = c .before .before .before .before .args in
 
 returns-2 : tie.Need-returns-2
 returns-2 c = let args = c .before .before .before .before .args in
-    removal-joins (endFaults (args .a) (args .k .ending) (args .b) (args .k .next) (args .edges)) (joinedEnds (args .a) (args .k .ending) (args .b) (args .k .next)) (args .e) (sym (c .before .before .before .judge-join .ensures) ∙ c .before .made2 .given .1)
+    removal-joins (endFaults (args .a) (args .k .ending) (args .b) (args .k .next) (args .edges)) (joinedEnds (args .a) (args .k .ending) (args .b) (args .k .next)) _ (sym (c .before .before .before .judge-join .ensures) ∙ c .before .made2 .given .1)
 
 pub join-pair-spec : {M : Type 1} → statement M
 join-pair-spec = tie.close (tie.spec (search needs) (search needs) (search needs) returns returns-2)

@@ -75,7 +75,7 @@ returns-2 c =
     let start = c .before .before .before .before .before .before .before .before .before .before .before .before .before .before .before .before .before .before .before .before .before .before .before .before .before .before .before .before .before in
     let place = c .before .before .before .before .before .before .before .before .before .before .before .before .before .before .before .before .before .before .before .before .before .before .before in
     let place-2 = c .before .before .before .before .before .before .before .before in
-    pair-removed (start .args .t1) _ _ _ _ _ _ _ _ (lent place) (start .args .n) (start .args .v .0) _ _ (sym (place-2 .found2 .given .1) ∙ c .before .before .before .before .before .before .before .before .before .before .find-pair .ensures .0 (start .args .t1) (lent place)) _ _ (edge-is (start .args .t1) (good start) _ _ (c .before .before .before .before .before .index .ensures .0) (inside place-2 .0)) (edge-is (start .args .t1) (good start) _ _ (c .before .before .index2 .ensures .0) (inside place-2 .1)) _ (c .join-pair .ensures)
+    pair-removed _ _ _ _ _ _ _ _ _ (lent place) _ _ _ _ (sym (place-2 .found2 .given .1) ∙ c .before .before .before .before .before .before .before .before .before .before .find-pair .ensures .0 _ (lent place)) _ _ (edge-is _ (good start) _ _ (c .before .before .before .before .before .index .ensures .0) (inside place-2 .0)) (edge-is _ (good start) _ _ (c .before .before .index2 .ensures .0) (inside place-2 .1)) _ (c .join-pair .ensures)
 
 pub judge-removal-spec : {M : Type 1} → statement M
 judge-removal-spec = tie.close (tie.spec (search needs) (search needs) (search needs) (search needs) (search needs) (search needs)

@@ -47,7 +47,7 @@ joined : (c : tie.After-judged2) → (removeFaults (content (c .before .before .
 joined c =
     let args = c .before .before .before .before .before .before .args in
     let k = content (args .t1) in
-    let g = endingOf (endingWires k (args .n) (args .v .0)) in
+    let g = endingOf (endingWires k (args .n) _) in
     joins-whole (removeFaults k (args .n) (args .v .0)) (pairEdge k (args .v .0) g) g (sym (c .before .before .judge-removal .ensures) ∙ c .judged2 .given .1)
 
 few : (c : tie.After-judged2) → getD (c .before .before .before .before .before .before .args .t1 .counts) 1 0 < 1024
@@ -61,7 +61,7 @@ returns c =
     let k = content (args .t1) in
     let es = removeFaults k _ _ in
     let e = sym (c .before .before .before .check .ensures) ∙ c .before .checked .given .1 in
-    (judged-refused es Refused Not (Joined (nextEdge (args .t1) 0)) (patternFaults (args .t1)) e, (judged-refused es (λ f. (args .t1)) (λ f. (args .t1)) (storedIn (args .t1) (removeContent k _ _)) (patternFaults (args .t1)) e, λ fine. fine))
+    (judged-refused es Refused Not (Joined (nextEdge (args .t1) 0)) (patternFaults _) e, (judged-refused es (λ f. (args .t1)) (λ f. (args .t1)) (storedIn (args .t1) (removeContent k _ _)) (patternFaults _) e, λ fine. fine))
 
 judge-removal-requires : tie.Need-judge-removal-requires
 judge-removal-requires c κs = passed (c)
@@ -81,7 +81,7 @@ returns-2 c =
     let d = pairEdge k (args .v .0) g in
     let ok = passed (c .before .before .before .before) in
     let e = not-joint es d g (sym (c .before .before .before .judge-removal .ensures) ∙ c .before .judged .given .1) in
-    (judged-not es Refused Not (Joined (nextEdge (args .t1) 0)) (patternFaults (args .t1)) ok d e, (judged-not es (λ f. (args .t1)) (λ f. (args .t1)) (storedIn (args .t1) (removeContent k (args .n) (args .v .0))) (patternFaults (args .t1)) ok d e, λ fine. fine))
+    (judged-not es Refused Not (Joined (nextEdge (args .t1) 0)) (patternFaults _) ok d e, (judged-not es (λ f. (args .t1)) (λ f. (args .t1)) (storedIn (args .t1) (removeContent k (args .n) (args .v .0))) (patternFaults _) ok d e, λ fine. fine))
 
 returns-3 : tie.Need-returns-3
 returns-3 c =

@@ -11,6 +11,5 @@ abbrev μ-loop : tie.MeasureT-loop
 μ-loop one other mark from₀ from = length one - from
 
 pub print-missing-spec : {M : Type 1} → statement M
-print-missing-spec = tie.close (tie.spec Inv-loop μ-loop (λ c. search needs) (λ c κs. search needs) (λ c. search needs) (λ c. search needs)
-    (λ c. search needs) (λ c κs. search needs) (λ c. search needs) (λ c. search needs) (λ c. search needs) (λ c κs. search needs)
-    (λ c. search needs) (λ c. search needs) (λ c. search needs) (λ c. search needs))
+print-missing-spec = tie.close (tie.spec Inv-loop μ-loop (search needs) (search needs) (search needs) (search needs) (search needs)
+    (search needs) (search needs) (search needs) (search needs) (search needs) (search needs) (search needs) (search needs) (search needs))

@@ -11,5 +11,5 @@ abbrev μ-loop : tie.MeasureT-loop
 μ-loop a b n other i₀ i = n - i
 
 pub same-spec : {M : Type 1} → statement M
-same-spec = tie.close (tie.spec Inv-loop μ-loop (λ c. search needs) (λ c. search needs) (λ c. search needs) (λ c. search needs)
-    (λ c. search needs) (λ c. search needs) (λ c. search needs) (λ c. search needs) (λ c. search needs) (λ c. search needs))
+same-spec = tie.close (tie.spec Inv-loop μ-loop (search needs) (search needs) (search needs) (search needs) (search needs) (search needs)
+    (search needs) (search needs) (search needs) (search needs))

@@ -9,23 +9,23 @@ use Rattle.report_text.proofs.shell_text.Statement.{statement}
 use Rattle.report_text.proofs.shell_text.Tie as tie
 
 shared-slice-read-first : tie.Need-shared-slice-read-first
-shared-slice-read-first c = let start = c .before .before .before .before .before .before .before .before .before .before .before in
-    let k : Columns = lent (start .args .points) (start .args .edges) (start .args .uses .now) (start .args .turned .now) (start .args .starts .now) (start .args .wires .now) (start .args .firsts .now) (start .args .fronts .now) (start .args .backs .now) (start .args .places .now) (start .args .listings .now) in omega (arith, places-inside k (start .args .n) (start .pre .0 .pattern) (start .pre .0 .sound) (start .pre .0 .columns) (start .pre .0 .here))
+shared-slice-read-first c = let pre = c .before .before .before .before .before .before .before .before .before .before .before .pre in
+    let k : Columns = lent _ _ _ _ _ _ _ _ _ _ _ in omega (arith, places-inside k _ (pre .0 .pattern) (pre .0 .sound) (pre .0 .columns) (pre .0 .here))
 
 shared-slice-read-end : tie.Need-shared-slice-read-end
-shared-slice-read-end c = let start = c .before .before .before .before .before .before .before .before .before .before .before .before in
-    let k : Columns = lent (start .args .points) (start .args .edges) (start .args .uses .now) (start .args .turned .now) (start .args .starts .now) (start .args .wires .now) (start .args .firsts .now) (start .args .fronts .now) (start .args .backs .now) (start .args .places .now) (start .args .listings .now) in omega (arith, places-inside k (start .args .n) (start .pre .0 .pattern) (start .pre .0 .sound) (start .pre .0 .columns) (start .pre .0 .here))
+shared-slice-read-end c = let pre = c .before .before .before .before .before .before .before .before .before .before .before .before .pre in
+    let k : Columns = lent _ _ _ _ _ _ _ _ _ _ _ in omega (arith, places-inside k _ (pre .0 .pattern) (pre .0 .sound) (pre .0 .columns) (pre .0 .here))
 
 put-figures-requires : tie.Need-put-figures-requires
 put-figures-requires c κs =
     let start = c .before .before .before .before .before .before .before .before .before .before .before .before .before .before .before .before .before .before .before .before .before .before .before .before .before .before .before .before .before .before in
     let put-openings = c .before .before .before .before .before .before .before .before .before .before .before .before .before .before .before .put-openings in
-    let k : Columns = lent (start .args .points) (start .args .edges) (start .args .uses .now) (start .args .turned .now) (start .args .starts .now) (start .args .wires .now) (start .args .firsts .now) (start .args .fronts .now) (start .args .backs .now) (start .args .places .now) (start .args .listings .now) in let eo = put-openings .ensures .0 (start .pre .0 .pattern) (start .pre .0 .sound) (start .pre .0 .columns) (start .pre .0 .here) in let eg = c .before .before .before .before .before .before .before .before .before .put-groups .ensures (start .pre .0 .pattern) (start .pre .0 .sound) (start .pre .0 .columns) (start .pre .0 .here) in (figures-inside (start .pre .0 .pattern) (start .pre .0 .sound) (start .args .n) (start .pre .0 .here) _ _ eo eg (put-openings .ensures .1), figures-fit (start .pre .0 .pattern) (start .pre .0 .sound) _ (start .pre .0 .here) _ _ eo eg (put-openings .ensures .1) _ _ (start .pre .1 .0) (start .pre .1 .1))
+    let k : Columns = lent (start .args .points) (start .args .edges) (start .args .uses .now) (start .args .turned .now) (start .args .starts .now) (start .args .wires .now) (start .args .firsts .now) (start .args .fronts .now) (start .args .backs .now) (start .args .places .now) (start .args .listings .now) in let eo = put-openings .ensures .0 (start .pre .0 .pattern) (start .pre .0 .sound) (start .pre .0 .columns) (start .pre .0 .here) in let eg = c .before .before .before .before .before .before .before .before .before .put-groups .ensures (start .pre .0 .pattern) (start .pre .0 .sound) (start .pre .0 .columns) (start .pre .0 .here) in (figures-inside (start .pre .0 .pattern) (start .pre .0 .sound) _ (start .pre .0 .here) _ _ eo eg (put-openings .ensures .1), figures-fit (start .pre .0 .pattern) (start .pre .0 .sound) _ (start .pre .0 .here) _ _ eo eg (put-openings .ensures .1) _ _ (start .pre .1 .0) (start .pre .1 .1))
 
 sub-check-shell : tie.Need-sub-check-shell
 sub-check-shell c =
-    let start = c .before .before .before .before .before .before .before .before .before .before .before .before .before .before .before .before .before .before .before .before .before .before .before .before .before .before .before .before .before .before .before .before .before in
-    let k : Columns = lent (start .args .points) (start .args .edges) (start .args .uses .now) (start .args .turned .now) (start .args .starts .now) (start .args .wires .now) (start .args .firsts .now) (start .args .fronts .now) (start .args .backs .now) (start .args .places .now) (start .args .listings .now) in in-places k (start .args .n) (start .pre .0 .pattern) (start .pre .0 .sound) (start .pre .0 .columns) (start .pre .0 .here) .0
+    let pre = c .before .before .before .before .before .before .before .before .before .before .before .before .before .before .before .before .before .before .before .before .before .before .before .before .before .before .before .before .before .before .before .before .before .pre in
+    let k : Columns = lent _ _ _ _ _ _ _ _ _ _ _ in in-places k _ (pre .0 .pattern) (pre .0 .sound) (pre .0 .columns) (pre .0 .here) .0
 
 returns : tie.Need-returns
 returns c =

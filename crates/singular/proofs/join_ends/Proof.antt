@@ -13,8 +13,8 @@ start-requires c κs = let pre = c .before .before .before .before .before .pre 
 
 join-wires-requires : tie.Need-join-wires-requires
 join-wires-requires c κs =
-    let start = c .before .before .before .before .before .before .before .before .before .before .before in
-    (ends-forest (start .args .uses .now) (start .args .lens .now) _ (start .pre .0) _ (replicate 2048 0) (c .before .before .before .before .before .start .ensures), start .pre .0)
+    let pre = c .before .before .before .before .before .before .before .before .before .before .before .pre in
+    (ends-forest _ _ _ (pre .0) _ (replicate 2048 0) (c .before .before .before .before .before .start .ensures), pre .0)
 
 returns : tie.Need-returns
 returns c =

@@ -13,8 +13,7 @@ several-roots-requires c κs =
 
 returns : tie.Need-returns
 returns c =
-    let start = c .before .before .before .before .before .before .before .before .before .before .before .before in
-    rw (singular-none (start .args .uses .now) (start .args .lens .now) (start .args .fronts .now) (start .args .backs .now) (start .args .points) (start .args .out .now) (start .pre) (c .before .before .before .before .before .join-ends .ensures) (c .before .several-roots .ensures .0) (c .before .several-roots .ensures .1 (not-true _ (c .if1 .taken)))) ((refl, refl), omega arith)
+    rw (singular-none _ _ _ _ _ _ (c .before .before .before .before .before .before .before .before .before .before .before .before .pre) (c .before .before .before .before .before .join-ends .ensures) (c .before .several-roots .ensures .0) (c .before .several-roots .ensures .1 (not-true _ (c .if1 .taken)))) ((refl, refl), omega arith)
 
 returns-2 : tie.Need-returns-2
 returns-2 c =
@@ -22,5 +21,5 @@ returns-2 c =
     rw (← e) (c .before .before .put-points .ensures)
 
 pub singular-of-spec : {M : Type 1} → statement M
-singular-of-spec = tie.close (tie.spec (λ c. search needs) (λ c κs. search needs) (λ c. search needs) several-roots-requires returns
-    (λ c κs. search needs) (λ c. search needs) returns-2)
+singular-of-spec = tie.close (tie.spec (search needs) (λ c κs. search needs) (search needs) several-roots-requires returns (search needs)
+    (search needs) returns-2)
