@@ -3,9 +3,8 @@ use Prim.Native.Nat.{_+_, _-_, _<_, _≤_, suc, ℕ}
 use mathlib.Core.Bool.{Bool, _&&_, false, not, true}
 use mathlib.Core.List.{List, [], _++_, _∷_, map, reverse}
 use mathlib.Core.Path.{_∙_, _≡_, refl}
-use native.Mathlib.Omega.{arith}
 use lib.Dec.{leb}
-use lib.ListN.{drop, length, take}
+use lib.ListN.{length}
 use lib.Seq.{sets}
 use borrow.Author.Tests.{le-leb, leb-true, lt-leb}
 use Rattle.edge.specs.Uses.{turned}
@@ -14,7 +13,6 @@ use Rattle.edit_answers.specs.declared.FaceAnswer.{FaceAnswer}
 use Rattle.edit_answers.specs.declared.FaceAnswer.the-variants.{Not, Refused}
 use Rattle.edit_answers.specs.declared.FaceEditError.{FaceEditError}
 use Rattle.edit_answers.specs.declared.FaceEditError.the-variants.{NoSpace, NotDisjointWires}
-use Rattle.errors.specs.Faults.{firstOfWire}
 use Rattle.errors.specs.declared.Refusal.{Refusal}
 use Rattle.errors.specs.declared.WireCheck.the-variants.{Simple, Refused as WireRefused}
 use Rattle.errors.specs.declared.WireError.{WireError}
@@ -28,6 +26,7 @@ use Rattle.wire.proofs.Laws.{faultless-noDup, points-below}
 use Rattle.wire.specs.Wires.{Named, points, wireFaults}
 use Rattle.add_boundary.specs.Boundary.{boundaryFaults, firstOf, storedAs}
 use Rattle.add_boundary.specs.declared.Judged.the-variants.{Fine, Unfit}
+use Rattle.errors.specs.Sequence.{firstOfWire}
 
 -- ---- the marks
 
@@ -159,7 +158,3 @@ stored-turned false l out us at h e = cc
 pub stored-along : (b : Bool) (l out us : List ℕ) (at : ℕ) → b ≡ false → out ≡ sets l at us → out ≡ sets l at (storedAs b us)
 stored-along true l out us at h e = cc
 stored-along false l out us at h e = e
-
--- a part, as the code takes it
-pub part-to {ℓ} : {A : Type ℓ} (a z : ℕ) (xs : List A) → take (a + z - a) (drop a xs) ≡ take z (drop a xs)
-part-to a z xs = let e : a + z - a ≡ z = omega arith in rw e

@@ -3,7 +3,7 @@ use Prim.Native.Nat.{ℕ, suc, _+_}
 use mathlib.Core.Bool.{Bool, _&&_}
 use mathlib.Core.List.{List, [], _∷_, _++_, map, reverse}
 use lib.Dec.{leb}
-use lib.ListN.{drop, length, take}
+use lib.ListN.{length}
 use Rattle.edge.specs.Uses.{turned}
 use Rattle.edit_answers.specs.Answers.{judged}
 use Rattle.edit_answers.specs.declared.FaceAnswer.{FaceAnswer}
@@ -11,7 +11,6 @@ use Rattle.edit_answers.specs.declared.FaceAnswer.the-variants.{Not, Refused, W
 use Rattle.edit_answers.specs.declared.FaceEditError.{FaceEditError}
 use Rattle.edit_answers.specs.declared.FaceEditError.the-variants.{NoSpace, NotDisjointWires}
 use Rattle.errors.specs.declared.Refusal.{Refusal}
-use Rattle.face_parts.specs.declared.FacePart.{FacePart}
 use Rattle.face_edits.specs.FaceEdits.{wireError}
 use Rattle.lists.specs.Lists.{disjoint, pick, unless}
 use Rattle.wire.specs.Wires.{points, wireFaults}
@@ -21,13 +20,6 @@ use Rattle.add_boundary.specs.declared.Judged.the-variants.{Fine, Unfit}
 abbrev pub firstOf : List FaceEditError → Judged
 firstOf [] = Fine
 firstOf (e ∷ es) = Unfit e
-
--- a face's part of the uses, and of the wires' lengths
-abbrev pub partUses : FacePart → List ℕ → List ℕ
-partUses part all = take (part .uses) (drop (part .at) all)
-
-abbrev pub partSizes : FacePart → List ℕ → List ℕ
-partSizes part wires = take (part .wires) (drop (part .wire) wires)
 
 -- a wire as a face with this sign stores it
 abbrev pub storedAs : Bool → List ℕ → List ℕ

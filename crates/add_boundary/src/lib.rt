@@ -4,26 +4,32 @@ ghost use mathlib.Core.Path.{_≡_};
 ghost use mathlib.Core.Bool.{true};
 ghost use mathlib.Core.List.{[], _∷_, _++_, map};
 ghost use Prim.Native.Nat.{_+_, _<_, _≤_, suc};
-ghost use lib.ListN.{length, take};
+ghost use lib.ListN.{length};
 ghost use lib.Seq.{sets};
 ghost use Rattle.lists.specs.Lists.{disjoint, flat, noDup};
 ghost use Rattle.lists.specs.Marks.{Below};
 ghost use Rattle.wire.specs.Wires.{Named, points};
+ghost use Rattle.store.specs.Store.{held};
 ghost use Rattle.face_edits.specs.FaceEdits.{wireError};
 ghost use Rattle.face_edits.specs.FaceAnswers.{addAnswer, addOut};
-ghost use Rattle.add_boundary.specs.Boundary.{boundaryAnswer, boundaryFaults, firstOf, partSizes, partUses, storedAs, writtenOf};
+ghost use Rattle.add_boundary.specs.Boundary.{boundaryAnswer, boundaryFaults, firstOf, storedAs, writtenOf};
 use edit_answers::FaceAnswer;
 use edit_answers::FaceEditError;
 use errors::Check;
 use errors::WireCheck;
 use errors::WireError;
-use face_parts::FacePart;
 use face_parts::are_uses;
-use face_parts::face_columns;
 use face_parts::face_part;
+use face_parts::first_backs;
+use face_parts::first_fronts;
+use face_parts::sizes_of;
+use face_parts::uses_of;
 use listing::put_turned;
-use pattern::Pattern;
-use pattern::check;
+use store::Spans;
+use store::Tables;
+use store::counts_in;
+use store::tables_known;
+use store_check::check;
 use wire::check_wire;
 use wire::stamp_points;
 use words::copy_u16s;
@@ -164,86 +170,45 @@ fn add_wire(
     FaceAnswer::Written(own.len() + wire.len(), n + 1)
 }
 
-// The same for the face whose part of the tables is given; the first `ecount` of `fronts` and
-// `backs` have the ends of the edges.
-fn add_at<'a>(
-    wire: &[u16],
-    reversed: bool,
-    all: &'a [u16],
-    wires: &'a [u16],
-    part: FacePart,
-    fronts: &[u16],
-    backs: &[u16],
-    ecount: usize,
-    uses: &mut [u16],
-    lens: &mut [u16],
-) -> FaceAnswer
-    requires { ⌜ (ecount ≤ length (now fronts)) × (ecount ≤ length (now backs)) ⌝ }
-    requires { ⌜ (part .at + part .uses ≤ length (now all)) × (length (now all) ≤ 4096) × (part .wire + part .wires ≤ length (now wires)) × (length (now wires) ≤ 1024) ⌝ }
-    requires { ⌜ Named (take ecount (now fronts)) (take ecount (now backs)) (now wire) ⌝ }
-    requires { ⌜ Named (take ecount (now fronts)) (take ecount (now backs)) (partUses part (now all)) ⌝ }
-    ensures { λ r. ⌜ r ≡ boundaryAnswer (take ecount (now (fronts .entry))) (take ecount (now (backs .entry))) (partUses part (now (all .entry))) (part .wires) (now (wire .entry)) (length (now (uses .entry))) (length (now (lens .entry))) ⌝ }
-    ensures { λ _. ⌜ now (uses .exit) ≡ sets (now (uses .entry)) 0 (writtenOf (take ecount (now (fronts .entry))) (take ecount (now (backs .entry))) (partUses part (now (all .entry))) (part .wires) (now (wire .entry)) (length (now (uses .entry))) (length (now (lens .entry))) (partUses part (now (all .entry)) ++ storedAs reversed (now (wire .entry)))) ⌝ }
-    ensures { λ _. ⌜ now (lens .exit) ≡ sets (now (lens .entry)) 0 (writtenOf (take ecount (now (fronts .entry))) (take ecount (now (backs .entry))) (partUses part (now (all .entry))) (part .wires) (now (wire .entry)) (length (now (uses .entry))) (length (now (lens .entry))) (partSizes part (now (wires .entry)) ++ (length (now (wire .entry)) ∷ []))) ⌝ }
-{
-    let start = part.at;
-    let end = start + part.uses;
-    let first = part.wire;
-    let last = first + part.wires;
-    add_wire(
-        wire,
-        reversed,
-        &all[start..end],
-        &wires[first..last],
-        &fronts[0..ecount],
-        &backs[0..ecount],
-        uses,
-        lens,
-    )
-}
-
 // Writes the wires of face f of a pattern, given with a sign, and one more; refused, it writes
 // nothing.
 pub fn try_add_boundary(
-    p: Pattern,
+    t: &Tables,
+    spans: &Spans,
     f: u16,
     wire: &[u16],
     uses: &mut [u16],
     lens: &mut [u16],
 ) -> FaceAnswer
-    ensures { λ r. ⌜ r ≡ addAnswer p f (now (wire .entry)) (length (now (uses .entry))) (length (now (lens .entry))) ⌝ }
-    ensures { λ _. ⌜ now (uses .exit) ≡ sets (now (uses .entry)) 0 (flat (addOut p f (now (wire .entry)) (length (now (uses .entry))) (length (now (lens .entry))))) ⌝ }
-    ensures { λ _. ⌜ now (lens .exit) ≡ sets (now (lens .entry)) 0 (map length (addOut p f (now (wire .entry)) (length (now (uses .entry))) (length (now (lens .entry))))) ⌝ }
+    ensures { λ r. ⌜ r ≡ addAnswer (held (now (t .entry)) (now (spans .entry))) f (now (wire .entry)) (length (now (uses .entry))) (length (now (lens .entry))) ⌝ }
+    ensures { λ _. ⌜ now (uses .exit) ≡ sets (now (uses .entry)) 0 (flat (addOut (held (now (t .entry)) (now (spans .entry))) f (now (wire .entry)) (length (now (uses .entry))) (length (now (lens .entry))))) ⌝ }
+    ensures { λ _. ⌜ now (lens .exit) ≡ sets (now (lens .entry)) 0 (map length (addOut (held (now (t .entry)) (now (spans .entry))) f (now (wire .entry)) (length (now (uses .entry))) (length (now (lens .entry))))) ⌝ }
 {
-    let answer = check(p);
+    tables_known(t);
+    let answer = check(t, spans);
     match answer {
         Check::Refused(r) => {
             return FaceAnswer::Refused(r);
         }
         Check::Accepted => {}
     }
+    let counts = counts_in(t);
     let face = index(f % 32768);
-    if face >= p.counts[4] {
+    if face >= counts[4] {
         return FaceAnswer::Not(FaceEditError::Unnamed);
     }
-    let ecount = p.counts[1];
-    if !are_uses(wire, ecount) {
+    let edges = counts[1];
+    if !are_uses(wire, edges) {
         return FaceAnswer::Not(FaceEditError::Unnamed);
     }
-    let columns = face_columns(p);
-    let counts = columns.counts;
-    let fronts = columns.fronts;
-    let backs = columns.backs;
-    let part = face_part(&counts, &p.wires, face);
-    add_at(
+    let part = face_part(t, face);
+    add_wire(
         wire,
         32768 <= f,
-        &p.uses,
-        &p.wires,
-        part,
-        &fronts,
-        &backs,
-        ecount,
+        uses_of(t, part),
+        sizes_of(t, part),
+        first_fronts(t, edges),
+        first_backs(t, edges),
         uses,
         lens,
     )

@@ -21,8 +21,8 @@ use Rattle.pattern.specs.declared.WirePlace.the-variants.{At, NoWire, Refused a
 use Rattle.solid.specs.Solid.{reasonNumber}
 use Rattle.solid_calls.specs.declared.SolidAnswer.{SolidAnswer}
 use Rattle.solid_calls.specs.declared.SolidAnswer.the-variants.{Accepted as Solid·Accepted, Refused as Solid·Refused, Unread}
-use Rattle.writer.specs.declared.Written.{Written}
-use Rattle.writer.specs.declared.Written.the-variants.{Length, NoSpace, Refused as Written·Refused}
+use Rattle.store_write.specs.declared.Written.{Written}
+use Rattle.store_write.specs.declared.Written.the-variants.{Length, NoSpace, Refused as Written·Refused}
 
 abbrev pub done : ℕ → ℕ → ℕ → Answer
 done first second third = record { outcome = 0; number = 0; first = first; second = second; third = third; fourth = 0 }

@@ -17,8 +17,8 @@ use errors::record_of;
 use pattern::WirePlace;
 use solid::reason_number;
 use solid_calls::SolidAnswer;
+use store_write::Written;
 use words::index;
-use writer::Written;
 
 // An answer. `outcome` is 0 done, 1 refused by the reading checks, 2 refused by the call. `fourth` is
 // 0: room for one number more.

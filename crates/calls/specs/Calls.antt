@@ -13,8 +13,7 @@ use Rattle.errors.specs.Numbers.{body, number, recordNumber}
 use Rattle.errors.specs.declared.Refusal.{Refusal}
 use Rattle.lists.specs.Lists.{pick}
 use Rattle.pattern.specs.Checks.{patternFaults}
-use Rattle.pattern.specs.Contents.{Content, content}
-use Rattle.pattern.specs.declared.Pattern.{Pattern}
+use Rattle.pattern.specs.Contents.{Content, Pattern, content}
 
 abbrev pub presenceOf : List Refusal → Content → ℕ → Presence
 presenceOf (f ∷ fs) c n = Refused f

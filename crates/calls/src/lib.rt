@@ -1,16 +1,16 @@
-// What the calls on a shell of a pattern in storage share: the reading checks come first; then the shell
+// What the calls on a shell of a pattern in the store share: the reading checks come first; then the shell
 // must be there.
 ghost use mathlib.Core.Path.{_≡_};
-ghost use Prim.Native.Nat.{_≤_};
-ghost use lib.ListN.{length, take};
-ghost use lib.Seq.{sets};
+ghost use Rattle.store.specs.Store.{held};
 ghost use Rattle.calls.specs.Calls.{presence};
 use condition::Condition;
 use errors::Check;
 use errors::Refusal;
-use pattern::Pattern;
-use pattern::check;
-use words::copy_u16s;
+use store::Spans;
+use store::Tables;
+use store::counts_in;
+use store::tables_known;
+use store_check::check;
 
 // Whether a pattern has a shell: the refusal of the reading checks, or no such shell (3).
 pub enum Presence {
@@ -37,27 +37,20 @@ pub enum FigureAnswer {
 }
 
 // The reading checks, then whether there is a shell n.
-pub fn find_shell(p: Pattern, n: usize) -> Presence
-    ensures { λ r. ⌜ r ≡ presence p n ⌝ }
+pub fn find_shell(t: &Tables, spans: &Spans, n: usize) -> Presence
+    ensures { λ r. ⌜ r ≡ presence (held (now (t .entry)) (now (spans .entry))) n ⌝ }
 {
-    let answer = check(p);
+    tables_known(t);
+    let answer = check(t, spans);
     match answer {
         Check::Refused(f) => {
             return Presence::Refused(f);
         }
         Check::Accepted => {}
     }
-    let shells = p.counts[5];
-    if n >= shells {
+    let counts = counts_in(t);
+    if n >= counts[5] {
         return Presence::NoShell;
     }
     Presence::There
-}
-
-// Writes the first n numbers of a list.
-pub fn put_first(out: &mut [u16], from: &[u16], n: usize)
-    requires { ⌜ (n ≤ length (now out)) × (n ≤ length (now from)) ⌝ }
-    ensures { λ _. ⌜ now (out .exit) ≡ sets (now (out .entry)) 0 (take n (now (from .entry))) ⌝ }
-{
-    copy_u16s(&from[0..n], out, 0);
 }

@@ -1,54 +1,80 @@
 -- The columns that the code makes are those of the definition.
-use Prim.Native.Nat.{ℕ}
+use Prim.Native.Nat.{ℕ, _<_, _≤_, suc}
 use mathlib.Core.List.{List, [], map}
-use mathlib.Core.Path.{_≡_, ap, sym}
+use mathlib.Core.Path.{_≡_, _∙_, ap, sym}
 use native.Mathlib.Omega.{arith}
-use lib.ListN.{getD, length, length-map, take}
-use Rattle.columns.specs.Columns.{Made, Summed, columnsIn}
-use Rattle.columns.specs.declared.Columns.{Columns}
-use Rattle.edge.specs.Edges.{backNumber, frontNumber}
+use lib.Ieee.{Float}
+use lib.ListN.{getD, length, take}
+use Rattle.columns.specs.Columns.{Made, columnsIn, lent}
+use Rattle.columns.specs.Sound.{Faultless, OfTables}
 use Rattle.face.specs.Faces.{wireCount}
+use Rattle.listing.specs.Parts.{faceStart, turnedUses}
 use Rattle.lists.proofs.Laws.{map-take}
-use Rattle.pattern.proofs.Counts.{Full, Limited}
+use Rattle.lists.specs.Lists.{padded, sum, tabulate}
+use Rattle.pattern.proofs.Counts.{Limited, limited}
 use Rattle.pattern.proofs.Named.{tables-faces, tables-wires}
-use Rattle.pattern.specs.Checks.{recordFaults}
-use Rattle.pattern.specs.Contents.{content}
-use Rattle.pattern.specs.declared.Pattern.{Pattern}
+use Rattle.pattern.proofs.Passed.{content-passed, pattern-passed}
+use Rattle.pattern.specs.Checks.{patternFaults, recordFaults}
+use Rattle.pattern.specs.Contents.{Pattern, content}
+use Rattle.store.proofs.Parts.{part-long}
+use Rattle.store.proofs.View.{held-backs, held-fronts, held-full, held-seven, held-wire-counts}
+use Rattle.store.specs.Store.{countTable, held, listingTable, shellTable, useTable, wireTable}
+use Rattle.store.specs.Columns.{faceTable}
 
-module _ (p : Pattern) (counts turned starts firsts places fronts backs : List ℕ) where
-  abbrev pub made : Columns
-  made = record {
-    points = getD (p .counts) 0 0;
-    edges = getD (p .counts) 1 0;
-    uses = p .uses;
-    turned = turned;
-    starts = starts;
-    wires = p .wires;
-    firsts = firsts;
-    fronts = fronts;
-    backs = backs;
-    places = places;
-    listings = p .listings;
-  }
+module _ (t : List ℕ) (long : length t ≡ 12312) where
+  abbrev counted : ℕ → ℕ
+  counted b = getD (countTable t) b 0
 
-  pub columns-made : counts ≡ map wireCount (p .faces) → Made (p .counts) (p .uses) (p .wires) counts (p .shells) turned starts firsts places
-      → fronts ≡ map frontNumber (p .edges) → backs ≡ map backNumber (p .edges) → made ≡ columnsIn p
-  columns-made c m a b =
-      let same : take (getD (p .counts) 4 0) counts ≡ map wireCount (content p .faces) = rw c (sym (map-take wireCount (getD (p .counts) 4 0) (p .faces))) in
-      rw (m .turned-are, m .starts-are, m .firsts-are, m .places-are, same, a, b)
+  module _ (spans : List Float) (ok : patternFaults (held t spans) ≡ []) where
+    abbrev P : Pattern
+    P = held t spans
 
--- the tables of a pattern whose records have no fault
-pub summed : (p : Pattern) → Limited (p .counts) → Full p → recordFaults (content p) ≡ [] → (faces : List ℕ) → faces ≡ map wireCount (p .faces)
-    → Summed (p .counts) (p .uses) (p .wires) faces (p .shells)
-summed p l f fine faces e = record {
-  uses-few = l .uses;
-  uses-long = omega (arith, l .uses, f .uses);
-  wires-few = l .wires;
-  wires-long = omega (arith, l .wires, f .wires);
-  faces-few = l .faces;
-  faces-long = omega (arith, l .faces, f .faces, ap length e, length-map (p .faces) wireCount);
-  shells-few = omega (arith, l .shells);
-  shells-long = omega (arith, l .shells, f .shells);
-  wires-summed = tables-wires p l f fine;
-  faces-summed = rw e (tables-faces p l f fine);
-}
+    limits : Limited (countTable t)
+    limits = limited (countTable t) (held-seven t spans long) (pattern-passed P ok .counts)
+
+    fine : recordFaults (content P) ≡ []
+    fine = content-passed (content P) (pattern-passed P ok .content) .records
+
+    abbrev wireNumbers : faceTable t ≡ map wireCount (P .faces)
+    wireNumbers = held-wire-counts t spans long
+
+  module _ (f : Faultless t) where
+    few : Limited (countTable t)
+    few = limits (f .spans) (f .ok)
+
+    -- what the parts ask of the tables
+    pub turned-ready : ((counted 2 ≤ 4096) × (counted 2 ≤ length (useTable t)) × (counted 3 ≤ 1024) × (counted 3 ≤ length (wireTable t))) × (sum (take (counted 3) (wireTable t)) ≡ counted 2)
+    turned-ready = (
+      (few .uses, omega (arith, few .uses, part-long t 2056 4096 (omega arith)), few .wires, omega (arith, few .wires, part-long t 6152 1024 (omega arith))),
+      tables-wires (P (f .spans) (f .ok)) few (held-full t (f .spans) long) (fine (f .spans) (f .ok)),
+    )
+
+    pub starts-ready : ((counted 3 ≤ 1024) × (counted 3 ≤ length (wireTable t)) × (counted 4 ≤ 256) × (counted 4 ≤ length (faceTable t))) × (sum (take (counted 4) (faceTable t)) ≡ counted 3)
+    starts-ready = (
+      (few .wires, omega (arith, few .wires, part-long t 6152 1024 (omega arith)), few .faces, omega (arith, few .faces, part-long t 7176 256 (omega arith))),
+      rw (wireNumbers (f .spans) (f .ok)) (tables-faces (P (f .spans) (f .ok)) few (held-full t (f .spans) long) (fine (f .spans) (f .ok))),
+    )
+
+    pub firsts-ready : (counted 4 ≤ 256) × (counted 4 ≤ length (faceTable t))
+    firsts-ready = (few .faces, omega (arith, few .faces, part-long t 7176 256 (omega arith)))
+
+    pub places-ready : (counted 5 ≤ 256) × (counted 5 ≤ length (shellTable t))
+    places-ready = (omega (arith, few .shells), omega (arith, few .shells, part-long t 7688 16 (omega arith)))
+
+    -- what they make
+    module _ (turned starts firsts places : List ℕ) (uses : (k : ℕ) → getD (useTable t) k 0 < 65536) (listings : (k : ℕ) → getD (listingTable t) k 0 < 65536)
+        (a : turned ≡ padded 4096 0 (turnedUses (take (counted 3) (wireTable t)) (take (counted 2) (useTable t))))
+        (b : starts ≡ padded 257 0 (tabulate (suc (counted 4)) (faceStart (take (counted 4) (faceTable t)) (take (counted 3) (wireTable t)))))
+        (c : firsts ≡ padded 257 0 (tabulate (suc (counted 4)) (λ (n : ℕ). sum (take n (take (counted 4) (faceTable t))))))
+        (d : places ≡ padded 257 0 (tabulate (suc (counted 5)) (λ (n : ℕ). sum (take n (take (counted 5) (shellTable t)))))) where
+      derived : OfTables t (λ p. lent t turned starts firsts places ≡ columnsIn p)
+      derived spans ok =
+          let same : take (counted 4) (faceTable t) ≡ map wireCount (content (held t spans) .faces) =
+          ap (take (counted 4)) (wireNumbers spans ok) ∙ sym (map-take wireCount (counted 4) (held t spans .faces)) in
+          rw (a, b, c, d, same, held-fronts t spans long, held-backs t spans long)
+
+      pub made : Made t turned starts firsts places
+      made = record {
+        faultless = f;
+        all = λ spans ok. (record { ok = ok; limits = limits spans ok; full = held-full t spans long; uses = uses; listings = listings }, derived spans ok);
+      }

@@ -22,8 +22,7 @@ use Rattle.pattern.proofs.Counts.{faces-counted, listings-counted, uses-counted
 use Rattle.pattern.proofs.Named.{wires-summed}
 use Rattle.pattern.proofs.Passed.{content-passed, pattern-passed}
 use Rattle.pattern.specs.Checks.{contentFaults, outlines, recordFaults}
-use Rattle.pattern.specs.Contents.{content}
-use Rattle.pattern.specs.declared.Pattern.{Pattern}
+use Rattle.pattern.specs.Contents.{Pattern, content}
 use Rattle.shell.specs.Shells.{faceNumber, listingsOf, shownWires}
 
 -- a part of a list's first n numbers

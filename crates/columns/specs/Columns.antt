@@ -1,15 +1,29 @@
 -- The columns of a pattern: what the reports on its shells work on.
-use Prim.Native.Nat.{ℕ, _≤_, suc}
+use Prim.Native.Nat.{ℕ, suc}
 use mathlib.Core.List.{List, map}
 use mathlib.Core.Path.{_≡_}
-use lib.ListN.{getD, length, take}
+use lib.ListN.{getD, take}
 use Rattle.lists.specs.Lists.{padded, sum, tabulate}
 use Rattle.edge.specs.Edges.{backNumber, frontNumber}
 use Rattle.face.specs.Faces.{wireCount}
 use Rattle.listing.specs.Parts.{faceStart, turnedUses}
-use Rattle.pattern.specs.Contents.{content}
-use Rattle.pattern.specs.declared.Pattern.{Pattern}
-use Rattle.columns.specs.declared.Columns.{Columns}
+use Rattle.pattern.specs.Contents.{Pattern, content}
+use Rattle.store.specs.Store.{countTable, listingTable, useTable, wireTable}
+use Rattle.columns.specs.Sound.{Faultless, OfTables, Sound}
+use Rattle.store.specs.Columns.{backTable, frontTable}
+
+pub record Columns : Type 0 where
+  pub points : ℕ
+  pub edges : ℕ
+  pub uses : List ℕ
+  pub turned : List ℕ
+  pub starts : List ℕ
+  pub wires : List ℕ
+  pub firsts : List ℕ
+  pub fronts : List ℕ
+  pub backs : List ℕ
+  pub places : List ℕ
+  pub listings : List ℕ
 
 -- where the wires of face f begin; for the number of faces, where they end
 abbrev pub firstWire : Pattern → ℕ → ℕ
@@ -38,22 +52,23 @@ columnsIn p = record {
   listings = p .listings;
 }
 
--- tables with so many records; the faces are given by their numbers of wires
-pub record Summed (counts uses wires faces shells : List ℕ) : Type 0 where
-  pub uses-few : getD counts 2 0 ≤ 4096
-  pub uses-long : getD counts 2 0 ≤ length uses
-  pub wires-few : getD counts 3 0 ≤ 1024
-  pub wires-long : getD counts 3 0 ≤ length wires
-  pub faces-few : getD counts 4 0 ≤ 256
-  pub faces-long : getD counts 4 0 ≤ length faces
-  pub shells-few : getD counts 5 0 ≤ 256
-  pub shells-long : getD counts 5 0 ≤ length shells
-  pub wires-summed : sum (take (getD counts 3 0) wires) ≡ getD counts 2 0
-  pub faces-summed : sum (take (getD counts 4 0) faces) ≡ getD counts 3 0
+-- tables of a store, with columns that are derived of them
+abbrev pub lent : List ℕ → List ℕ → List ℕ → List ℕ → List ℕ → Columns
+lent t turned starts firsts places = record {
+  points = getD (countTable t) 0 0;
+  edges = getD (countTable t) 1 0;
+  uses = useTable t;
+  turned = turned;
+  starts = starts;
+  wires = wireTable t;
+  firsts = firsts;
+  fronts = frontTable t;
+  backs = backTable t;
+  places = places;
+  listings = listingTable t;
+}
 
--- the columns that are made of them
-pub record Made (counts uses wires faces shells turned starts firsts places : List ℕ) : Type 0 where
-  pub turned-are : turned ≡ padded 4096 0 (turnedUses (take (getD counts 3 0) wires) (take (getD counts 2 0) uses))
-  pub starts-are : starts ≡ padded 257 0 (tabulate (suc (getD counts 4 0)) (faceStart (take (getD counts 4 0) faces) (take (getD counts 3 0) wires)))
-  pub firsts-are : firsts ≡ padded 257 0 (tabulate (suc (getD counts 4 0)) (λ (f : ℕ). sum (take f (take (getD counts 4 0) faces))))
-  pub places-are : places ≡ padded 257 0 (tabulate (suc (getD counts 5 0)) (λ (n : ℕ). sum (take n (take (getD counts 5 0) shells))))
+-- the tables are those of a pattern without fault, and these are its columns
+pub record Made (t turned starts firsts places : List ℕ) : Type 0 where
+  pub faultless : Faultless t
+  pub all : OfTables t (λ p. Sound p × (lent t turned starts firsts places ≡ columnsIn p))

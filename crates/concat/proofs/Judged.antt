@@ -124,7 +124,7 @@ room-there c u v h =
     omega (arith, leb-true (length (c .edges) + 1) 1024 (unless-passes room NoSpace (none-right ends (unless room NoSpace) h)))
 
 -- where two uses are joined, no refusal of the join is left
-pub joins-none : (c : Content) (u v : ℕ) (d : Edge) {k : Edge} → joint (concatFaults c u v) d ≡ Whole k → joinFaults c u v ≡ []
+joins-none : (c : Content) (u v : ℕ) (d : Edge) {k : Edge} → joint (concatFaults c u v) d ≡ Whole k → joinFaults c u v ≡ []
 joins-none c u v d h =
     let named = unless (ltb (edgeNumber u) (length (c .edges)) && ltb (edgeNumber v) (length (c .edges))) Unnamed in
     let met = unless (eqb (backIn c u) (frontIn c v)) Disconnected in

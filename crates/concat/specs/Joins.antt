@@ -9,12 +9,12 @@ use Rattle.vertex.specs.declared.VertexID.{VertexID}
 use Rattle.edge.specs.Edges.{edge}
 use Rattle.edge.specs.declared.Edge.{Edge}
 use Rattle.curve.specs.Curves.{joinCurves, joinedSpan}
-use Rattle.pattern.specs.declared.Pattern.{Pattern}
 use Rattle.edit_answers.specs.declared.EditError.{EditError}
 use Rattle.edit_answers.specs.declared.EditError.the-variants.{Disconnected, NoSpace, SameEnds, SpanRefused}
 use Rattle.shell_edits.specs.Edits.{isJoined}
 use Rattle.concat.specs.declared.Joint.{Joint}
 use Rattle.concat.specs.declared.Joint.the-variants.{Whole, Not}
+use Rattle.pattern.specs.Contents.{Pattern}
 
 -- the ends of use u of edge d
 abbrev pub useFront : Edge → ℕ → VertexID

@@ -7,6 +7,7 @@ ghost use Rattle.pattern.specs.Checks.{patternFaults};
 ghost use Rattle.pattern.specs.Contents.{content};
 ghost use Rattle.shell_edits.specs.Answers.{afterConcat, concatAnswer};
 ghost use Rattle.shell_edits.specs.Edits.{concatFaults, joinedEdge};
+ghost use Rattle.store.specs.Store.{countTable, held};
 ghost use Rattle.concat.specs.Joins.{appended, endFaults, joinedEnds, joint, meetFaults, useBack, useFront};
 use curve::Joined;
 use curve::join_curves;
@@ -15,15 +16,16 @@ use edge::EdgeID;
 use edit_answers::EditError;
 use edit_answers::JoinAnswer;
 use errors::Check;
-use pattern::Pattern;
-use pattern::check;
+use store::Spans;
+use store::Tables;
+use store::counts_in;
+use store::edge_in;
+use store::store_count;
+use store::store_edge;
+use store::tables_known;
+use store_check::check;
 use vertex::VertexID;
-
-// The answer, and the pattern then.
-pub struct JoinResult {
-    pub answer: JoinAnswer,
-    pub pattern: Pattern,
-}
+use words::index;
 
 // Two uses joined to an edge; or why not.
 pub enum Joint {
@@ -73,7 +75,7 @@ pub fn judge_join(a: Edge, u: u16, b: Edge, v: u16, edges: usize) -> Joint
 }
 
 // The same where the first use must end where the second begins: 29 first.
-pub fn judge_concat(a: Edge, u: u16, b: Edge, v: u16, edges: usize) -> Joint
+fn judge_concat(a: Edge, u: u16, b: Edge, v: u16, edges: usize) -> Joint
     ensures { λ r. ⌜ r ≡ joint (meetFaults a u b v edges) (joinedEnds a u b v) ⌝ }
 {
     let meet = use_back(a, u);
@@ -85,66 +87,55 @@ pub fn judge_concat(a: Edge, u: u16, b: Edge, v: u16, edges: usize) -> Joint
 }
 
 // Two uses of a pattern without fault, joined: 3 first.
-fn concat_uses(p: Pattern, u: u16, v: u16) -> Joint
-    requires { ⌜ patternFaults p ≡ [] ⌝ }
-    ensures { λ r. ⌜ r ≡ joint (concatFaults (content p) u v) (joinedEdge (content p) u v) ⌝ }
+fn concat_uses(t: &Tables, spans: &Spans, u: u16, v: u16) -> Joint
+    requires { ⌜ patternFaults (held (now t) (now spans)) ≡ [] ⌝ }
+    ensures { λ r. ⌜ r ≡ joint (concatFaults (content (held (now (t .entry)) (now (spans .entry)))) u v) (joinedEdge (content (held (now (t .entry)) (now (spans .entry)))) u v) ⌝ }
 {
-    let edges = p.counts[1];
-    let i = (u % 32768) as usize;
-    let j = (v % 32768) as usize;
+    tables_known(t);
+    let counts = counts_in(t);
+    let edges = counts[1];
+    let i = index(u % 32768);
+    let j = index(v % 32768);
     if i >= edges {
         return Joint::Not(EditError::Unnamed);
     }
     if j >= edges {
         return Joint::Not(EditError::Unnamed);
     }
-    let a = p.edges[i];
-    let b = p.edges[j];
-    judge_concat(a, u, b, v, edges)
+    judge_concat(edge_in(t, spans, i), u, edge_in(t, spans, j), v, edges)
 }
 
-// Appends an edge, for which there is room.
-pub fn append_edge(p: Pattern, d: Edge) -> Pattern
-    requires { ⌜ getD (p .counts) 1 0 < 1024 ⌝ }
-    ensures { λ r. ⌜ r ≡ appended p d ⌝ }
+// Appends an edge, for which there is room; its number.
+pub fn append_edge(t: &mut Tables, spans: &mut Spans, d: Edge) -> EdgeID
+    requires { ⌜ getD (countTable (now t)) 1 0 < 1024 ⌝ }
+    ensures { λ r. ⌜ r .0 ≡ getD (countTable (now (t .entry))) 1 0 ⌝ }
+    ensures { λ _. ⌜ held (now (t .exit)) (now (spans .exit)) ≡ appended (held (now (t .entry)) (now (spans .entry))) d ⌝ }
 {
-    let n = p.counts[1];
-    let mut q = p;
-    q.edges[n] = d;
-    q.counts[1] = n + 1;
-    q
+    let counts = counts_in(t);
+    let n = counts[1];
+    store_edge(t, spans, n, d);
+    store_count(t, 1, (n + 1) as u16);
+    EdgeID(n as u16)
 }
 
 // Joins two uses to a new edge, which is appended. Refused, the pattern is as it was. An accepted
 // pattern stays so.
-pub fn concat(p: Pattern, u: u16, v: u16) -> JoinResult
-    ensures { λ r. ⌜ r .answer ≡ concatAnswer p u v ⌝ }
-    ensures { λ r. ⌜ r .pattern ≡ afterConcat p u v ⌝ }
-    ensures { λ r. ⌜ (patternFaults p ≡ [] → patternFaults (r .pattern) ≡ []) ⌝ }
+pub fn concat(t: &mut Tables, spans: &mut Spans, u: u16, v: u16) -> JoinAnswer
+    ensures { λ r. ⌜ r ≡ concatAnswer (held (now (t .entry)) (now (spans .entry))) u v ⌝ }
+    ensures { λ _. ⌜ held (now (t .exit)) (now (spans .exit)) ≡ afterConcat (held (now (t .entry)) (now (spans .entry))) u v ⌝ }
+    ensures { λ _. ⌜ (patternFaults (held (now (t .entry)) (now (spans .entry))) ≡ [] → patternFaults (held (now (t .exit)) (now (spans .exit))) ≡ []) ⌝ }
 {
-    let checked = check(p);
+    tables_known(t);
+    let checked = check(t, spans);
     match checked {
         Check::Refused(f) => {
-            return JoinResult {
-                answer: JoinAnswer::Refused(f),
-                pattern: p,
-            };
+            return JoinAnswer::Refused(f);
         }
         Check::Accepted => {}
     }
-    let made = concat_uses(p, u, v);
+    let made = concat_uses(t, spans, u, v);
     match made {
-        Joint::Not(e) => JoinResult {
-            answer: JoinAnswer::Not(e),
-            pattern: p,
-        },
-        Joint::Whole(d) => {
-            let edges = p.counts[1];
-            let q = append_edge(p, d);
-            JoinResult {
-                answer: JoinAnswer::Joined(EdgeID(edges as u16)),
-                pattern: q,
-            }
-        }
+        Joint::Not(e) => JoinAnswer::Not(e),
+        Joint::Whole(d) => JoinAnswer::Joined(append_edge(t, spans, d)),
     }
 }

@@ -2,8 +2,9 @@
 ghost use mathlib.Core.Path.{_≡_};
 ghost use Prim.Native.Nat.{ℕ, _%_, _+_, _-_, _<_, _≤_, min};
 ghost use lib.ListN.{drop, length, replicate, take};
-ghost use Rattle.edge.specs.Uses.{edgeNumber, EdgesBelow};
+ghost use Rattle.edge.specs.Uses.{edgeNumber};
 ghost use Rattle.condition.specs.Tallies.{conditionIn, digit, inserted, insertedAll, least, nextState, oddsIn, useCondition, withDigit};
+ghost use Rattle.edge.specs.Below.{EdgesBelow};
 
 // The condition of a shell: a lower one is worse.
 pub struct Condition(pub u8);

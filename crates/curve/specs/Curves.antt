@@ -1,6 +1,6 @@
 -- Cutting a curve at a parameter, and joining two (the Rust's Edge::cut and Edge::concat).
 use Prim.Native.Nat.{ℕ}
-use mathlib.Core.Bool.{Bool, true, false, not, _&&_, _||_}
+use mathlib.Core.Bool.{Bool, true, false, not, _||_}
 use lib.Ieee.{Float, nan, inf, fin, binary64, ofBits, nanBits, add, sub, lt}
 use Rattle.lists.specs.Lists.{pick}
 use Rattle.edge.specs.Edges.{isSpan}
@@ -35,11 +35,6 @@ backHalf k t = record { t0 = t; t1 = k .t1 }
 abbrev pub cutCurve : Curve → Parameter → Halves
 cutCurve k Nowhere = Refused
 cutCurve k (At t) = pick (refuses k t) Refused (Both (frontHalf k t) (backHalf k t))
-
--- each half is a span: neither is empty
-abbrev pub areSpans : Halves → Bool
-areSpans Refused = true
-areSpans (Both k l) = isSpan k && isSpan l
 
 -- from a0 to b1 + (a1 − b0); two roundings
 abbrev pub joinedSpan : Curve → Curve → Curve

@@ -2,7 +2,8 @@
 ghost use mathlib.Core.Bool.{true};
 ghost use mathlib.Core.Path.{_≡_};
 ghost use Rattle.edge.specs.Edges.{isSpan};
-ghost use Rattle.curve.specs.Curves.{areSpans, cutCurve, joinCurves, parameterOf, refuses};
+ghost use Rattle.curve.specs.Curves.{cutCurve, joinCurves, parameterOf, refuses};
+ghost use Rattle.curve.specs.Spans.{areSpans};
 use edge::Curve;
 
 // Where the search put a point on a curve.

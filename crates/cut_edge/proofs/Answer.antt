@@ -6,25 +6,21 @@ use mathlib.Core.Path.{_∙_, _≡_, ap, refl, sym}
 use native.Mathlib.Omega.{arith}
 use lib.Dec.{eqb, leb, ltb}
 use lib.ListN.{List·getD-append, getD, length, length-map, replicate, take}
-use lib.Seq.{sets}
-use borrow.Author.Tests.{leb-true, lt-ltb, ltb-true}
-use Rattle.curve.specs.Curves.{areSpans, cutCurve}
+use borrow.Author.Tests.{leb-true, ltb-true}
+use Rattle.curve.specs.Curves.{cutCurve}
 use Rattle.curve.specs.declared.Halves.{Halves}
 use Rattle.curve.specs.declared.Halves.the-variants.{Both, Refused}
 use Rattle.curve.specs.declared.Parameter.{Parameter}
-use Rattle.cut_edge.proofs.Stored.{back-low, cut-stored, front-low}
+use Rattle.cut_edge.proofs.Stored.{cut-stored}
 use Rattle.cut_edge.proofs.Wires.{cuts-has, cuts-long, each-long, each-same, uses-flagged}
-use Rattle.cut_edge.specs.Cutting.{CutOn, cutLent, cutStored, cuttingOf}
-use Rattle.cut_edge.specs.declared.Cutting.the-variants.{Not, Parted}
-use Rattle.cut_wires.specs.Halves.{cutFlagged}
-use Rattle.cut_faults.specs.Flags.{cutsWhere, usesWhere}
-use Rattle.cut_faults.specs.Judgement.{judgement, laterFaults}
-use Rattle.cut_faults.specs.declared.Judgement.{Judgement}
-use Rattle.cut_faults.specs.declared.Judgement.the-variants.{Accepted, Not as Jdg·Not}
+use Rattle.cut_edge.specs.Cutting.{cutStored}
+use Rattle.cut_edge_wires.specs.Halves.{cutFlagged}
+use Rattle.cut_edge_faults.specs.Flags.{cutsWhere, usesWhere}
+use Rattle.cut_edge_faults.specs.Judgement.{judgement, laterFaults}
+use Rattle.cut_edge_faults.specs.declared.Judgement.the-variants.{Accepted, Not as Jdg·Not}
 use Rattle.edge.specs.Edges.{backNumber, edge, frontNumber, isSpan}
 use Rattle.edge.specs.Uses.{edgeNumber}
 use Rattle.edge.specs.declared.Curve.{Curve}
-use Rattle.edge.specs.declared.Edge.{Edge}
 use Rattle.edit_answers.specs.Answers.{judged}
 use Rattle.edit_answers.specs.declared.CutAnswer.the-variants.{Cut, Not as Rfs, Refused as Ref}
 use Rattle.edit_answers.specs.declared.EditError.{EditError}
@@ -37,21 +33,18 @@ use Rattle.errors.specs.declared.Refusal.the-variants.{SameVertex, Span, Unname
 use Rattle.lists.proofs.Flat.{getD-tabulate}
 use Rattle.lists.proofs.Laws.{left-true, length-split, length-tabulate, map-tabulate, map-take, right-true}
 use Rattle.lists.proofs.Parts.{flat-split}
-use Rattle.lists.specs.Lists.{flat, has, numbers, pick, split, unless}
+use Rattle.lists.specs.Lists.{flat, has, numbers, pick, unless}
 use Rattle.pattern.proofs.Counts.{edges-counted, points-counted, shells-counted, uses-counted, wires-counted}
 use Rattle.pattern.specs.Checks.{edgeFaults, patternFaults, recordFaults}
-use Rattle.pattern.specs.Contents.{Content, content, zeroEdge}
-use Rattle.pattern.specs.declared.Pattern.{Pattern}
+use Rattle.pattern.specs.Contents.{Content, Pattern, content, storedIn, zeroEdge}
 use Rattle.shell.specs.Openings.{frontIn}
 use Rattle.shell_edits.proofs.CutTheorem.{cut-pattern-accepted}
-use Rattle.shell_edits.specs.Answers.{afterCut, cutAnswer, nextEdge, storedIn}
+use Rattle.shell_edits.specs.Answers.{afterCut, cutAnswer, nextEdge}
 use Rattle.shell_edits.specs.Edits.{cutContent, cutFaults, cutWire, cutWires, eachWire, edgeAt, edited, isCut, sharesFace, usesIn, wiresIn, wiresOf}
 use Rattle.shell_wires.proofs.Facts.{Fine, records-fine, wires-sum}
-use Rattle.shell_wires.proofs.Made.{lent-fine}
-use Rattle.shell_wires.specs.Lent.{Lent}
 use Rattle.shell_wires.specs.ShellWires.{marksOf}
-use Rattle.shell_wires.specs.declared.Marks.{Marks}
 use Rattle.wire.specs.Wires.{points}
+use Rattle.curve.specs.Spans.{areSpans}
 
 -- ---- lists of refusals
 
@@ -61,35 +54,16 @@ module _ {ℓ} {A : Type ℓ} (refused : Refusal → A) (refuse : EditError → 
   judged-refused [] es f h = cc
   judged-refused (g ∷ fs) es f h = let e : f ≡ g = cc in ap refused e
 
-  cutting-judged : (es : List EditError) (h : Halves) (t : ℕ) (x : EditError) → (es ≡ [] → isCut h ≡ true) → cuttingOf es h t ≡ Not x → refuse x ≡ judged [] es refused refuse done
-  cutting-judged (y ∷ es) h t x some j = let s : x ≡ y = cc in ap refuse s
-  cutting-judged [] (Both k l) t x some j = cc
-  cutting-judged [] Refused t x some j = absurd (true≢false (sym (some refl)))
+  judgement-judged : (es : List EditError) (h : Halves) (x : EditError) → (es ≡ [] → isCut h ≡ true) → judgement es h ≡ Jdg·Not x → refuse x ≡ judged [] es refused refuse done
+  judgement-judged (y ∷ es) h x some j = let s : x ≡ y = cc in ap refuse s
+  judgement-judged [] (Both k l) x some j = cc
+  judgement-judged [] Refused x some j = absurd (true≢false (sym (some refl)))
 
--- the judgement, with the number of uses
-judgement-not : (es : List EditError) (h : Halves) (t : ℕ) (x : EditError) → judgement es h ≡ Jdg·Not x → Not x ≡ cuttingOf es h t
-judgement-not (y ∷ es) h t x j = let s : x ≡ y = cc in ap Not s
-judgement-not [] (Both k l) t x j = cc
-judgement-not [] Refused t x j = let s : x ≡ CurveRefuses = cc in ap Not s
-
-judgement-accepted : (es : List EditError) (h : Halves) (t : ℕ) (k l : Curve) → judgement es h ≡ Accepted k l → Parted k l t ≡ cuttingOf es h t
-judgement-accepted (x ∷ es) h t k l j = cc
-judgement-accepted [] (Both m n) t k l j = let a : k ≡ m = cc in let b : l ≡ n = cc in rw (a, b)
-judgement-accepted [] Refused t k l j = cc
-
-judgement-none : (es : List EditError) (h : Halves) (k l : Curve) → judgement es h ≡ Accepted k l → es ≡ []
-judgement-none (x ∷ es) h k l j = cc
-judgement-none [] h k l j = refl
-
-judgement-some : (es : List EditError) (h : Halves) (x : EditError) → (es ≡ [] → isCut h ≡ true) → judgement es h ≡ Jdg·Not x → es ≡ [] → ⊥
-judgement-some (y ∷ es) h x some j none = true≢false cc
-judgement-some [] (Both k l) x some j none = true≢false cc
-judgement-some [] Refused x some j none = true≢false (sym (some refl))
-
-pub parted-are : (es : List EditError) (h : Halves) (t : ℕ) (k l : Curve) (total : ℕ) → Parted k l total ≡ cuttingOf es h t → (es ≡ []) × (h ≡ Both k l) × (total ≡ t)
-parted-are (x ∷ es) h t k l total j = (cc, cc, cc)
-parted-are [] (Both m n) t k l total j = (refl, cc, cc)
-parted-are [] Refused t k l total j = (refl, cc, cc)
+-- accepted: no refusal, and the halves
+pub accepted-are : (es : List EditError) (h : Halves) (k l : Curve) → judgement es h ≡ Accepted k l → (es ≡ []) × (h ≡ Both k l)
+accepted-are (x ∷ es) h k l j = (cc, cc)
+accepted-are [] (Both m n) k l j = (refl, cc)
+accepted-are [] Refused k l j = (refl, cc)
 
 module _ (shared met : Bool) (cuts : ℕ) (h : Halves) (edges uses : ℕ) (none : laterFaults shared met cuts h edges uses ≡ []) where
   abbrev three : List EditError
@@ -210,13 +184,13 @@ module _ (p : Pattern) (s : Fine p) (n e v : ℕ) (at : Parameter) where
       )
 
   module _ (here : named ≡ true) where
-    faults-are : faults ≡ later
+    pub faults-are : faults ≡ later
     faults-are =
         all-faults (ltb n (length (content p .shells)) && ltb e (length (content p .edges)) && ltb v (length (content p .points))) (sharesFace (content p) n) (has v (map (frontIn (content p)) (usesIn (content p) n))) met
         (has e (map edgeNumber (usesIn (content p) n))) (cutsWhere flags e 0 wires) halves (length (content p .edges)) a (length (flat (cutWires (content p) n e))) uses
         (named-is ∙ here) met-is edge-is (edges-counted p (s .limits) (s .full)) size-is
 
-    pub some-cut : faults ≡ [] → isCut halves ≡ true
+    some-cut : faults ≡ [] → isCut halves ≡ true
     some-cut none = later-cut (sharesFace (content p) n) met (cutsWhere flags e 0 wires) halves a uses (sym faults-are ∙ none)
 
     pub rooms : faults ≡ [] → (a + 2 ≤ 1024) × (length (flat (cutWires (content p) n e)) ≤ 4096)
@@ -224,8 +198,8 @@ module _ (p : Pattern) (s : Fine p) (n e v : ℕ) (at : Parameter) where
         let r = later-room (sharesFace (content p) n) met (cutsWhere flags e 0 wires) halves a uses (sym faults-are ∙ none) in
         (r .0, omega (arith, r .1, size-is))
 
-    pub refused-not {ℓ} : {A : Type ℓ} (refused : Refusal → A) (refuse : EditError → A) (done : A) (t : ℕ) (x : EditError) → Not x ≡ cuttingOf faults halves t → refuse x ≡ judged (patternFaults p) faults refused refuse done
-    refused-not refused refuse done t x j = cutting-judged refused refuse done faults halves t x some-cut (sym j) ∙ past refused refuse done
+    pub refused-not {ℓ} : {A : Type ℓ} (refused : Refusal → A) (refuse : EditError → A) (done : A) (x : EditError) → judgement faults halves ≡ Jdg·Not x → refuse x ≡ judged (patternFaults p) faults refused refuse done
+    refused-not refused refuse done x j = judgement-judged refused refuse done faults halves x some-cut j ∙ past refused refuse done
 
     -- the pattern has no fault afterwards, since cutting a span gives spans
     pub after-fine : areSpans halves ≡ true → patternFaults (afterCut p n e v at) ≡ []
@@ -234,12 +208,12 @@ module _ (p : Pattern) (s : Fine p) (n e v : ℕ) (at : Parameter) where
     pub curve-span : isSpan (edgeAt (content p) e .curve) ≡ true
     curve-span = edge-span (content p) (records-fine p s) e (omega (arith, names here .1, edges-counted p (s .limits) (s .full)))
 
-  pub wires-long : length (map length (cutWires (content p) n e)) ≡ getD (p .counts) 3 0
+  wires-long : length (map length (cutWires (content p) n e)) ≡ getD (p .counts) 3 0
   wires-long =
       length-map (cutWires (content p) n e) length ∙ each-long _ 0 wires ∙ length-split (content p .wires) (content p .uses) ∙ wires-counted p (s .limits) (s .full)
 
   module _ (none : faults ≡ []) where
-    pub done-is {ℓ} : {A : Type ℓ} (refused : Refusal → A) (refuse : EditError → A) (done : A) → done ≡ judged (patternFaults p) faults refused refuse done
+    done-is {ℓ} : {A : Type ℓ} (refused : Refusal → A) (refuse : EditError → A) (done : A) → done ≡ judged (patternFaults p) faults refused refuse done
     done-is refused refuse done = ap (λ (es : List EditError). judged [] es refused refuse done) (sym none) ∙ past refused refuse done
 
     pub answer-cut : Cut (record { 0 = a }) (record { 0 = a + 1 }) ≡ cutAnswer p n e v at
@@ -248,75 +222,12 @@ module _ (p : Pattern) (s : Fine p) (n e v : ℕ) (at : Parameter) where
         let o : length (content p .edges) + 1 ≡ a + 1 = omega (arith, edges-counted p (s .limits) (s .full)) in
         same-numbers a (a + 1) (length (content p .edges) + 0) (length (content p .edges) + 1) z o ∙ done-is Ref Rfs (Cut (nextEdge p 0) (nextEdge p 1))
 
-    -- the storage, from what each part of the code gives
-    pub pattern-cut : (k l : Curve) (total : ℕ) (out sizes : List ℕ) (d : Edge) (q : Pattern)
-        → halves ≡ Both k l → total ≡ length (flat (cutWires (content p) n e)) → out ≡ sets (p .uses) 0 (flat (cutWires (content p) n e)) → sizes ≡ sets (p .wires) 0 (map length (cutWires (content p) n e))
-        → d ≡ edgeAt (content p) e → q ≡ cutStored p (edge (d .front) (record { 0 = v }) k) (edge (record { 0 = v }) (d .back) l) total out sizes
-        → q ≡ afterCut p n e v at
-    pattern-cut k l total out sizes d q h t o z is stored =
+    -- the storage, from what the code stores
+    pub pattern-cut : (k l : Curve) → halves ≡ Both k l
+        → cutStored p (edge (edgeAt (content p) e .front) (record { 0 = v }) k) (edge (record { 0 = v }) (edgeAt (content p) e .back) l) (cutWires (content p) n e) ≡ afterCut p n e v at
+    pattern-cut k l h =
         let made = cutWires (content p) n e in
         let same : edited (content p) (edge (edgeAt (content p) e .front) (record { 0 = v }) k ∷ edge (record { 0 = v }) (edgeAt (content p) e .back) l ∷ []) (flat made) (map length made) ≡ cutContent (content p) n e v at = rw h in
-        stored
-        ∙ rw (t, o, z, is) (cut-stored p s (edge (edgeAt (content p) e .front) (record { 0 = v }) k) (edge (record { 0 = v }) (edgeAt (content p) e .back) l) (flat made) (map length made) wires-long)
+        cut-stored p s (edge (edgeAt (content p) e .front) (record { 0 = v }) k) (edge (record { 0 = v }) (edgeAt (content p) e .back) l) made wires-long
         ∙ ap (storedIn p) same
         ∙ done-is (λ (f : Refusal). p) (λ (x : EditError). p) (storedIn p (cutContent (content p) n e v at))
-
--- ---- the columns of a pattern without fault
-
-module _ (p : Pattern) (counts fronts backs uses wires faces shells listings : List ℕ) (l : Lent p counts fronts backs uses wires faces shells listings) where
-  abbrev fine-here : Fine p
-  fine-here = lent-fine p counts fronts backs uses wires faces shells listings l
-
-  module _ (n e v : ℕ) (at : Parameter) (names-all : (n < getD counts 5 0) × (e < getD counts 1 0) × (v < getD counts 0 0)) where
-    stored-named : (n < getD (p .counts) 5 0) × (e < getD (p .counts) 1 0) × (v < getD (p .counts) 0 0)
-    stored-named = rw (l .listed .counts-are) at names-all
-
-    pub all-here : (ltb n (getD (p .counts) 5 0) && ltb e (getD (p .counts) 1 0) && ltb v (getD (p .counts) 0 0)) ≡ true
-    all-here = rw (lt-ltb n (getD (p .counts) 5 0) (stored-named .0), lt-ltb e (getD (p .counts) 1 0) (stored-named .1), lt-ltb v (getD (p .counts) 0 0) (stored-named .2))
-
-    pub ends-low : (getD fronts e 0 < 2048) × (getD backs e 0 < 2048)
-    ends-low = rw (l .fronts-are, l .backs-are) (front-low p fine-here e (stored-named .1), back-low p fine-here e (stored-named .1))
-
-    -- as the code judges
-    module _ (m : Marks) (is : m ≡ marksOf p n) (curve : Curve) (its : curve ≡ edgeAt (content p) e .curve) (h : Halves) (cut : h ≡ cutCurve curve at) (r : Judgement)
-        (j : r ≡ judgement (laterFaults (m .shared) (has v (points (take (getD counts 1 0) fronts) (take (getD counts 1 0) backs) (usesWhere (m .wires) 0 (split (take (getD counts 3 0) wires) (take (getD counts 2 0) uses))))) (cutsWhere (m .wires) e 0 (split (take (getD counts 3 0) wires) (take (getD counts 2 0) uses))) h (getD counts 1 0) (getD counts 2 0)) h) where
-      abbrev faultsHere : List EditError
-      faultsHere = cutFaults (content p) n e v at
-
-      abbrev halvesHere : Halves
-      halvesHere = cutCurve (edgeAt (content p) e .curve) at
-
-      judged-is : r ≡ judgement faultsHere halvesHere
-      judged-is = j ∙ rw (is, cut, its, l .listed .counts-are, l .fronts-are, l .backs-are, l .uses-are, l .wires-are, faults-are p fine-here n e v at all-here)
-
-      wires-cut-are : cutLent (m .wires) e counts wires uses ≡ cutWires (content p) n e
-      wires-cut-are = rw (is, l .listed .counts-are, l .uses-are, l .wires-are, wires-are p fine-here n e v at)
-
-      pub accepted-room : (k q : Curve) → r ≡ Accepted k q → (getD counts 1 0 + 2 ≤ 1024) × (length (flat (cutLent (m .wires) e counts wires uses)) ≤ 4096)
-      accepted-room k q a =
-          let room = rooms p fine-here n e v at all-here (judgement-none faultsHere halvesHere k q (sym judged-is ∙ a)) in
-          (rw (l .listed .counts-are) (room .0), rw wires-cut-are (room .1))
-
-      module _ (spans : isSpan curve ≡ true → areSpans (cutCurve curve at) ≡ true) (out₀ sizes₀ out sizes : List ℕ) where
-        their-spans : areSpans halvesHere ≡ true
-        their-spans = rw its at spans (curve-span p fine-here n e v at all-here)
-
-        pub cut-refused : (x : EditError) → r ≡ Jdg·Not x → CutOn p n e v at out₀ sizes₀ out sizes (Not x)
-        cut-refused x a =
-            let never : faultsHere ≡ [] → ⊥ = judgement-some faultsHere halvesHere x (some-cut p fine-here n e v at all-here) (sym judged-is ∙ a) in
-            record {
-              answer = judgement-not faultsHere halvesHere (length (flat (cutWires (content p) n e))) x (sym judged-is ∙ a);
-              spans = their-spans;
-              uses-cut = λ none. absurd (never none);
-              wires-cut = λ none. absurd (never none);
-            }
-
-        pub cut-made : (k q : Curve) (total : ℕ) → r ≡ Accepted k q → total ≡ length (flat (cutLent (m .wires) e counts wires uses))
-            → out ≡ sets out₀ 0 (flat (cutLent (m .wires) e counts wires uses)) → sizes ≡ sets sizes₀ 0 (map length (cutLent (m .wires) e counts wires uses))
-            → CutOn p n e v at out₀ sizes₀ out sizes (Parted k q total)
-        cut-made k q total a t o z = record {
-          answer = ap (Parted k q) (t ∙ rw wires-cut-are) ∙ judgement-accepted faultsHere halvesHere (length (flat (cutWires (content p) n e))) k q (sym judged-is ∙ a);
-          spans = their-spans;
-          uses-cut = λ none. o ∙ rw wires-cut-are;
-          wires-cut = λ none. z ∙ rw wires-cut-are;
-        }

@@ -1,3 +1,4 @@
 pub mod Wires
 pub mod Stored
 pub mod Answer
+pub mod Store

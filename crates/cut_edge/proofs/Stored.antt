@@ -5,18 +5,17 @@ use mathlib.Core.Path.{_∙_, _≡_, ap, sym}
 use native.Mathlib.Numerals.{add-one}
 use native.Mathlib.Omega.{arith}
 use lib.ListN.{getD, length, length-set, length-take, set, take}
-use lib.Seq.{getD-set-other, getD-set-same, getD-take, set-getD, sets}
+use lib.Seq.{getD-set-other, getD-set-same, getD-take, set-getD}
 use Rattle.cut_edge.specs.Cutting.{cutStored}
-use Rattle.cut_wires.proofs.Halves.{against, along, turned-small}
-use Rattle.cut_wires.specs.Halves.{Halved}
+use Rattle.cut_edge_wires.proofs.Halves.{against, along, turned-small}
+use Rattle.cut_edge_wires.specs.Halves.{Halved}
 use Rattle.edge.proofs.Laws.{noEdge}
 use Rattle.edge.specs.Edges.{backNumber, frontNumber}
 use Rattle.edge.specs.Uses.{edgeNumber, frontOf, turned}
 use Rattle.edge.specs.declared.Edge.{Edge}
 use Rattle.lists.proofs.Flat.{getD-any}
-use Rattle.pattern.specs.Contents.{content, zeroEdge}
-use Rattle.pattern.specs.declared.Pattern.{Pattern}
-use Rattle.shell_edits.specs.Answers.{storedIn}
+use Rattle.lists.specs.Lists.{flat}
+use Rattle.pattern.specs.Contents.{Pattern, content, storedIn, zeroEdge}
 use Rattle.shell_edits.specs.Edits.{edgeAt, edited}
 use Rattle.shell_wires.proofs.Facts.{Fine, front-point, front-taken, stored-edited}
 use Rattle.wire.specs.Wires.{Named}
@@ -26,7 +25,7 @@ module _ (xs : List ℕ) (a x y : ℕ) where
   abbrev pub extended : List ℕ
   extended = set (set xs a x) (a + 1) y
 
-  pub extended-long : length extended ≡ length xs
+  extended-long : length extended ≡ length xs
   extended-long = length-set (set xs a x) (a + 1) y ∙ length-set xs a x
 
   extended-kept : (k : ℕ) → k < a → getD extended k 0 ≡ getD xs k 0
@@ -45,10 +44,10 @@ front-extended fronts backs a x y z w u h = rw (extended-kept fronts a x y (edge
 
 -- columns of ends with those of the halves of edge e after the first a, cut at v
 module _ (fronts backs : List ℕ) (a e v : ℕ) (here : e < a) (room : a + 2 ≤ 1024) (long : length fronts ≡ 1024) (alike : length backs ≡ 1024) where
-  abbrev pub newFronts : List ℕ
+  abbrev newFronts : List ℕ
   newFronts = extended fronts a (getD fronts e 0) v
 
-  abbrev pub newBacks : List ℕ
+  abbrev newBacks : List ℕ
   newBacks = extended backs a v (getD backs e 0)
 
   new-long : length newFronts ≡ 1024
@@ -114,12 +113,12 @@ module _ (p : Pattern) (s : Fine p) (e : ℕ) (here : e < getD (p .counts) 1 0) 
       omega (arith, against fronts backs e small, front-point p s (turned e) (omega (arith, n)), s .limits .points)
 
 -- the pattern after the cut, as the code makes it
-pub cut-stored : (p : Pattern) (s : Fine p) (h₁ h₂ : Edge) (us ws : List ℕ) → length ws ≡ getD (p .counts) 3 0
-    → cutStored p h₁ h₂ (length us) (sets (p .uses) 0 us) (sets (p .wires) 0 ws) ≡ storedIn p (edited (content p) (h₁ ∷ h₂ ∷ []) us ws)
-cut-stored p s h₁ h₂ us ws long =
+pub cut-stored : (p : Pattern) (s : Fine p) (h₁ h₂ : Edge) (ws : List (List ℕ)) → length (map length ws) ≡ getD (p .counts) 3 0
+    → cutStored p h₁ h₂ ws ≡ storedIn p (edited (content p) (h₁ ∷ h₂ ∷ []) (flat ws) (map length ws))
+cut-stored p s h₁ h₂ ws long =
     let a = getD (p .counts) 1 0 in
-    let two = set (set (p .counts) 1 (a + 2)) 2 (length us) in
+    let two = set (set (p .counts) 1 (a + 2)) 2 (length (flat ws)) in
     let third : getD two 3 0 ≡ getD (p .counts) 3 0 =
-    getD-set-other (set (p .counts) 1 (a + 2)) 2 3 (length us) 0 (λ e. omega arith) ∙ getD-set-other (p .counts) 1 3 (a + 2) 0 (λ e. omega arith) in
-    let kept : set two 3 (length ws) ≡ two = ap (set two 3) (long ∙ sym third) ∙ set-getD two 3 0 in
-    sym (stored-edited p s (h₁ ∷ h₂ ∷ []) us ws ∙ rw (kept, add-one a))
+    getD-set-other (set (p .counts) 1 (a + 2)) 2 3 (length (flat ws)) 0 (λ e. omega arith) ∙ getD-set-other (p .counts) 1 3 (a + 2) 0 (λ e. omega arith) in
+    let kept : set two 3 (length (map length ws)) ≡ two = ap (set two 3) (long ∙ sym third) ∙ set-getD two 3 0 in
+    sym (stored-edited p s (h₁ ∷ h₂ ∷ []) (flat ws) (map length ws) ∙ rw (kept, add-one a))

@@ -9,10 +9,10 @@ use native.Mathlib.Omega.{arith}
 use lib.Dec.{eqb, ltb}
 use lib.ListN.{List·getD-eq-default, drop, getD, length, length-append, length-drop, length-take, take}
 use borrow.Author.Tests.{eq-eqb, eqb-true, lt-ltb, ltb-false, ltb-true}
-use Rattle.cut_faults.proofs.Flags.{cuts-next, cuts-none, found-at, found-has, has-next, has-none, isAt}
-use Rattle.cut_wires.proofs.Halves.{halves-long}
-use Rattle.cut_wires.specs.Halves.{cutFlagged}
-use Rattle.cut_faults.specs.Flags.{cutsWhere, usesWhere}
+use Rattle.cut_edge_faults.proofs.Flags.{cuts-next, cuts-none, found-at, found-has, has-next, has-none, isAt}
+use Rattle.cut_edge_wires.proofs.Halves.{halves-long}
+use Rattle.cut_edge_wires.specs.Halves.{cutFlagged}
+use Rattle.cut_edge_faults.specs.Flags.{cutsWhere, usesWhere}
 use Rattle.edge.specs.Uses.{edgeNumber}
 use Rattle.lists.proofs.Count.{bit}
 use Rattle.lists.proofs.Laws.{cases, has-append, left-true, right-true}
@@ -106,10 +106,10 @@ module _ (e a : ℕ) (us : List ℕ) where
       let new = halvesOf a (getD us j 0) in
       omega (arith, found-at 0 e us j (sym h) .high, length-append (take j us) (new ++ drop (suc j) us), length-append new (drop (suc j) us), halves-long a (getD us j 0), length-take j us, length-drop (suc j) us)
 
-  pub cut-long : length (cutWire e a us) ≡ length us + bit (has e (map edgeNumber us))
+  cut-long : length (cutWire e a us) ≡ length us + bit (has e (map edgeNumber us))
   cut-long = swapped-long (findFrom 0 e us) refl ∙ ap (λ (b : Bool). length us + bit b) (found-has 0 e us)
 
-  pub flagged-long : (b : Bool) → length (pick b (cutWire e a us) us) ≡ length us + bit (b && has e (map edgeNumber us))
+  flagged-long : (b : Bool) → length (pick b (cutWire e a us) us) ≡ length us + bit (b && has e (map edgeNumber us))
   flagged-long true = cut-long
   flagged-long false = omega arith
 

@@ -1,17 +1,13 @@
 -- A use of an edge: the edge's number, plus 32,768 if reversed.
-use Prim.Native.Nat.{ℕ, _+_, _-_, _<_, _%_}
+use Prim.Native.Nat.{ℕ, _+_, _-_, _%_}
 use mathlib.Core.List.{List}
 use lib.Dec.{leb}
-use lib.ListN.{getD, length}
+use lib.ListN.{getD}
 use Rattle.lists.specs.Lists.{pick}
 use Rattle.edge.specs.declared.EdgeUse.{EdgeUse}
 
 abbrev pub edgeNumber : ℕ → ℕ
 edgeNumber u = u % 32768
-
--- every use of the list names an edge below n
-abbrev pub EdgesBelow : ℕ → List ℕ → Type 0
-EdgesBelow n us = (k : ℕ) → k < length us → edgeNumber (getD us k 0) < n
 
 abbrev pub useOf : ℕ → EdgeUse
 useOf u = record { edge = record { 0 = edgeNumber u }; reversed = leb 32768 u }

@@ -1,9 +1,8 @@
 // The edge, its curve, and the use of an edge (the Rust's edge.rs).
 ghost use mathlib.Core.Path.{_≡_};
-ghost use mathlib.Core.List.{map};
 ghost use Prim.Native.Nat.{_<_};
 ghost use lib.ListN.{length};
-ghost use Rattle.edge.specs.Edges.{inRange, isSpan, edge, frontNumber, backNumber};
+ghost use Rattle.edge.specs.Edges.{inRange, isSpan, edge};
 ghost use Rattle.edge.specs.Uses.{edgeNumber, useOf, front, back, frontOf, backOf};
 use vertex::VertexID;
 
@@ -109,30 +108,4 @@ pub fn back_of(u: u16, fronts: &[u16], backs: &[u16]) -> usize
     ensures { λ r. ⌜ r ≡ backOf (now (fronts .entry)) (now (backs .entry)) u ⌝ }
 {
     front_of(u, backs, fronts)
-}
-
-// The numbers of the edges' front vertices.
-pub fn fronts_of(edges: [Edge; 1024]) -> [u16; 1024]
-    ensures { λ r. ⌜ r ≡ map frontNumber edges ⌝ }
-{
-    let mut out = [0u16; 1024];
-    let mut i: usize = 0;
-    while i < 1024 {
-        out[i] = edges[i].front.0;
-        i += 1;
-    }
-    out
-}
-
-// The numbers of the edges' back vertices.
-pub fn backs_of(edges: [Edge; 1024]) -> [u16; 1024]
-    ensures { λ r. ⌜ r ≡ map backNumber edges ⌝ }
-{
-    let mut out = [0u16; 1024];
-    let mut i: usize = 0;
-    while i < 1024 {
-        out[i] = edges[i].back.0;
-        i += 1;
-    }
-    out
 }

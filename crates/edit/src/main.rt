@@ -6,10 +6,11 @@ ghost use Prim.Native.Nat.{_<_, _≤_};
 ghost use lib.ListN.{length};
 use libc::STDIN_FILENO;
 use libc::STDOUT_FILENO;
+use pattern::LONGEST;
 use replace::Replaced;
 
 // Replaces the file by the first n bytes of an edited one, where there are any.
-fn save(path: &[u8], out: &[u8; 41048], n: usize) -> Replaced {
+fn save(path: &[u8], out: &[u8; LONGEST], n: usize) -> Replaced {
     let whole: &[u8] = out;
     if n == 0 {
         return Replaced::Done;
@@ -29,7 +30,7 @@ fn answer(path: &[u8], line: &[u8]) -> bool {
         return io::write_all(STDOUT_FILENO, b"failed: the file cannot be read\n");
     }
     let n = io::count(got, &file);
-    let mut out = [0u8; 41048];
+    let mut out = [0u8; LONGEST];
     let mut text = [0u8; 65536];
     let done = jobs::run(line, &file[0..n], &mut out, &mut text);
     let saved = save(path, &out, done.file);

@@ -7,10 +7,11 @@ use native.Mathlib.Numerals.{add-one}
 use native.Mathlib.Omega.{arith}
 use lib.ListN.{drop, drop-of-length-le, getD, length, take}
 use lib.Seq.{drop-cons, getD-take, length-take-le}
-use Rattle.errors.specs.Faults.{andThen, each, first}
+use Rattle.errors.specs.Faults.{each, first}
 use Rattle.errors.specs.declared.Check.the-variants.{Accepted, Refused}
 use Rattle.errors.specs.declared.Refusal.{Refusal}
 use Rattle.lists.specs.Lists.{unless}
+use Rattle.errors.specs.Sequence.{andThen}
 
 pub accepted-none : (fs : List Refusal) → first fs ≡ Accepted → fs ≡ []
 accepted-none [] h = refl

@@ -1,24 +1,13 @@
 -- Checks in sequence: the list of all faults, of which the first is the answer.
 use Prim.Native.Nat.{ℕ, suc}
 use mathlib.Core.List.{List, [], _∷_, _++_}
-use Rattle.errors.specs.declared.WireError.{WireError}
 use Rattle.errors.specs.declared.Refusal.{Refusal}
-use Rattle.errors.specs.declared.WireCheck.{WireCheck}
-use Rattle.errors.specs.declared.WireCheck.the-variants.{Simple, Refused as WireRefused}
 use Rattle.errors.specs.declared.Check.{Check}
 use Rattle.errors.specs.declared.Check.the-variants.{Accepted, Refused}
 
 abbrev pub first : List Refusal → Check
 first [] = Accepted
 first (f ∷ fs) = Refused f
-
-abbrev pub andThen : Check → Check → Check
-andThen Accepted next = next
-andThen (Refused f) next = Refused f
-
-abbrev pub firstOfWire : List WireError → WireCheck
-firstOfWire [] = Simple
-firstOfWire (e ∷ es) = WireRefused e
 
 -- the faults of each record, in sequence; the first record has number i
 unfoldable pub each {ℓ} : {A : Type ℓ} → (ℕ → A → List Refusal) → ℕ → List A → List Refusal

@@ -1,7 +1,7 @@
 // The refusals of document 01 with their values (the Rust's errors.rs).
 ghost use mathlib.Core.Path.{_≡_};
-ghost use Rattle.errors.specs.Faults.{andThen};
 ghost use Rattle.errors.specs.Numbers.{wireNumber, number, body, recordNumber};
+ghost use Rattle.errors.specs.Sequence.{andThen};
 
 // Why a wire is refused: numbers 6, 7 and 8.
 pub enum WireError {

@@ -5,13 +5,14 @@ use mathlib.Core.Path.{_≡_}
 use lib.ListN.{getD, length, replicate}
 use lib.Seq.{sets}
 use Rattle.lists.specs.Lists.{flat}
-use Rattle.edge.specs.Uses.{EdgesBelow, frontOf}
+use Rattle.edge.specs.Uses.{frontOf}
 use Rattle.wire.specs.Wires.{Named}
 use Rattle.shell.specs.Openings.{Walk, isFree}
 use Rattle.condition.specs.declared.Tally.{Tally}
 use Rattle.listing.specs.Parts.{Shows, partAt}
 use Rattle.openings.specs.declared.Walked.{Walked}
 use Rattle.openings.specs.Passes.{isOdd}
+use Rattle.edge.specs.Below.{EdgesBelow}
 
 -- the tally before the first use
 abbrev pub noUses : Tally

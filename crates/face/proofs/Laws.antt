@@ -9,7 +9,7 @@ use lib.ListN.{drop, drop-of-length-le, getD, length, length-drop, length-take, 
 use lib.Seq.{drop-cons, take-add, take-all}
 use borrow.Author.Tests.{not-false, not-true}
 use Rattle.errors.proofs.Laws.{Passed, accepted-none, each-record, passed-next, passed-stop, refused-first}
-use Rattle.errors.specs.Faults.{each, first, firstOfWire}
+use Rattle.errors.specs.Faults.{each, first}
 use Rattle.errors.specs.declared.Check.the-variants.{Accepted, Refused}
 use Rattle.errors.specs.declared.Refusal.{Refusal}
 use Rattle.errors.specs.declared.Refusal.the-variants.{Wire}
@@ -19,12 +19,13 @@ use Rattle.errors.specs.declared.WireError.the-variants.{NotSimpleWire}
 use Rattle.face.specs.Faces.{faceFaults, faceRule, outlineFaults, sharedFaults}
 use Rattle.face.specs.declared.Face.{Face}
 use Rattle.lists.proofs.Laws.{length-split, sum-append, sum-take-drop}
-use Rattle.lists.proofs.Marks.{AllBelow, Holds, holds-fresh, holds-stamped, met-seen}
+use Rattle.lists.proofs.Marks.{AllBelow, Holds, disjoint-nil, holds-fresh, holds-stamped, met-seen}
 use Rattle.lists.proofs.Split.{Walk, getD-split, split-run, walk-fits, walk-part}
 use Rattle.lists.specs.Lists.{disjoint, noDup, split, sum, unless}
 use Rattle.lists.specs.Marks.{Below, met, stamped}
 use Rattle.wire.proofs.Laws.{faultless-noDup, named-part, points-below}
 use Rattle.wire.specs.Wires.{Named, points, wireFaults}
+use Rattle.errors.specs.Sequence.{firstOfWire}
 
 -- what the language's reads give past the end of a list of faces
 abbrev pub noFace : Face
@@ -198,3 +199,10 @@ module _ (fronts backs : List ℕ) where
   pub ruled-all : (faces : List (List (List ℕ))) (i w : ℕ) → Ruled faces i w → length faces ≤ i → faceRule fronts backs 0 faces ≡ []
   unfolding faceRule
   ruled-all faces i w s h = s .rest ∙ rw drop-of-length-le
+
+-- one wire alone shares no point
+pub one-alone : (fronts backs : List ℕ) (w : ℕ) (wires : List (List ℕ)) → length wires < 2 → sharedFaults fronts backs [] w wires ≡ []
+unfolding sharedFaults
+one-alone fronts backs w [] h = refl
+one-alone fronts backs w (us ∷ []) h = rw (disjoint-nil (points fronts backs us))
+one-alone fronts backs w (us ∷ vs ∷ wires) h = absurd (omega arith)

@@ -1,13 +1,13 @@
 // The face and the face rule (the Rust's face.rs, Face::try_new).
 ghost use mathlib.Core.Path.{_≡_};
-ghost use mathlib.Core.List.{map, []};
+ghost use mathlib.Core.List.{[]};
 ghost use Prim.Native.Nat.{_+_, _<_, _≤_};
-ghost use lib.ListN.{length, getD, take};
+ghost use lib.ListN.{length, take};
 ghost use Rattle.lists.specs.Lists.{sum, split};
 ghost use Rattle.lists.specs.Marks.{Below};
 ghost use Rattle.errors.specs.Faults.{first as firstFault, each};
-ghost use Rattle.wire.specs.Wires.{Named, wireFaults};
-ghost use Rattle.face.specs.Faces.{wireCount, outlineFaults, sharedFaults, faceFaults, faceRule};
+ghost use Rattle.wire.specs.Wires.{Named};
+ghost use Rattle.face.specs.Faces.{outlineFaults, sharedFaults, faceFaults, faceRule};
 use errors::Check;
 use errors::Refusal;
 use errors::WireCheck;
@@ -25,19 +25,6 @@ pub struct FaceID(pub u16);
 pub struct Face {
     pub wires: u16,
     pub surface: u16,
-}
-
-// The numbers of wires of the faces.
-pub fn wire_counts(faces: [Face; 256]) -> [u16; 256]
-    ensures { λ r. ⌜ r ≡ map wireCount faces ⌝ }
-{
-    let mut out = [0u16; 256];
-    let mut i: usize = 0;
-    while i < 256 {
-        out[i] = faces[i].wires;
-        i += 1;
-    }
-    out
 }
 
 // Each wire by itself. The wires have these lengths and stand in `uses` in sequence; the first has
@@ -127,6 +114,10 @@ fn check_face(
     match alone {
         Check::Refused(f) => Check::Refused(f),
         Check::Accepted => {
+            // One wire alone shares no point.
+            if lengths.len() < 2 {
+                return Check::Accepted;
+            }
             let next = stamp + lengths.len();
             disjoint_wires(uses, lengths, fronts, backs, marks, first, next)
         }

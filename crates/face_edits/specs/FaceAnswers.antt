@@ -10,8 +10,7 @@ use Rattle.errors.specs.declared.Refusal.{Refusal}
 use Rattle.face_edits.specs.FaceEdits.{addFaults, added, cutFaceFaults, cutInTwo, glueFaults, glued}
 use Rattle.lists.specs.Lists.{flat}
 use Rattle.pattern.specs.Checks.{patternFaults}
-use Rattle.pattern.specs.Contents.{content}
-use Rattle.pattern.specs.declared.Pattern.{Pattern}
+use Rattle.pattern.specs.Contents.{Pattern, content}
 
 -- the two lengths of the result
 abbrev pub faceAnswer : Pattern → List FaceEditError → List (List ℕ) → FaceAnswer

@@ -3,19 +3,22 @@ use Prim.Native.Nat.{_+_, _-_, _<_, _≤_, suc, zero, ℕ}
 use mathlib.Core.Bool.{Bool, false, not, true}
 use mathlib.Core.List.{List, [], _∷_, map}
 use mathlib.Core.Logic.{⊎-elim}
-use mathlib.Core.Path.{_∙_, _≡_, refl, sym}
+use mathlib.Core.Path.{_∙_, _≡_, ap, refl, sym}
+use native.Mathlib.Nat.{sub-zero}
 use native.Mathlib.Numerals.{add-one}
 use native.Mathlib.Omega.{arith}
-use lib.Dec.{eqb, ltb}
+use lib.Dec.{eqb, leb, ltb}
 use lib.ListN.{drop, getD, length, length-drop, take}
 use lib.Seq.{length-take-le, take-all, take-suc, take-take}
-use borrow.Author.Tests.{eq-eqb, eqb-false, ltb-false, ltb-true, ne-eqb}
+use borrow.Author.Tests.{eq-eqb, eqb-false, leb-true, ltb-false, ltb-true, ne-eqb}
 use Rattle.face_parts.specs.Parts.{partOf}
 use Rattle.lists.proofs.Alike.{noDup-count}
 use Rattle.lists.proofs.Count.{All, all-each, count-append, count-only-le}
 use Rattle.lists.proofs.Laws.{cases}
 use Rattle.lists.proofs.Split.{drop-take}
 use Rattle.lists.specs.Lists.{count, noDup, only, split, sum}
+use Rattle.store.proofs.Parts.{part-long}
+use Rattle.store.specs.Store.{part}
 use Rattle.wire.proofs.Laws.{length-points, points-below}
 use Rattle.wire.specs.Wires.{Named, points}
 
@@ -24,8 +27,15 @@ module _ {ℓ} {A : Type ℓ} where
   pub part-taken : (n w m : ℕ) (xs : List A) → w + n ≤ m → take n (drop w (take m xs)) ≡ take n (drop w xs)
   part-taken n w m xs h = rw (drop-take w m xs (omega arith)) (take-take n (m - w) (drop w xs) (omega arith))
 
+  -- a part, as the code takes it
+  pub part-to : (a z : ℕ) (xs : List A) → take (a + z - a) (drop a xs) ≡ take z (drop a xs)
+  part-to a z xs = let e : a + z - a ≡ z = omega arith in rw e
+
+  pub first-to : (n : ℕ) (xs : List A) → take (n - 0) (drop 0 xs) ≡ take n xs
+  first-to n xs = rw (sub-zero n)
+
   module _ (q : A → Bool) where
-    pub count-le : (xs : List A) → count q xs ≤ length xs
+    count-le : (xs : List A) → count q xs ≤ length xs
     unfolding count
     count-le [] = omega arith
     count-le (x ∷ xs) =
@@ -79,7 +89,19 @@ module _ {ℓ} {A : Type ℓ} where
   split-lengths [] xs h = refl
   split-lengths (n ∷ ns) xs h = rw (length-take-le n xs (omega arith), split-lengths ns (drop n xs) (omega (arith, length-drop n xs)))
 
--- the part of a face, as the code finds it
+-- n numbers of the store, lent from `at` on
+module _ (t xs : List ℕ) (at n : ℕ) where
+  pub lent-long : length t ≡ 12312 → xs ≡ part at n t → leb (at + n) 12312 ≡ true → length xs ≡ n
+  lent-long long is room = ap length is ∙ part-long t at n (omega (arith, leb-true (at + n) 12312 room))
+
+  pub lent-fits : (m : ℕ) → length t ≡ 12312 → xs ≡ part at n t → leb (at + n) 12312 ≡ true → m ≤ n → m ≤ length xs
+  lent-fits m long is room h = omega (arith, h, lent-long long is room)
+
+-- ---- the part of a face, as the code finds it
+
+pub ends-inside : (counts xs : List ℕ) (f w n : ℕ) → xs ≡ counts → w ≡ sum (take f xs) → n ≡ getD xs f 0 → sum (take f counts) + getD counts f 0 ≤ 1024 → w + n ≤ 1024
+ends-inside counts xs f w n is hw hn h = rw (hw, hn, is) h
+
 pub part-made : (counts lens : List ℕ) (f w n a z : ℕ) → w ≡ sum (take f counts) → n ≡ getD counts f 0 → a ≡ sum (take w lens) → z ≡ sum (take n (take (w + n - w) (drop w lens)))
     → record { wire = w; wires = n; at = a; uses = z } ≡ partOf counts lens f
 part-made counts lens f w n a z hw hn ha hz =
@@ -111,7 +133,7 @@ module _ (n : ℕ) where
       (cases (eqb n x))
 
   -- without the number n
-  pub length-others : (xs : List ℕ) → length xs ≡ count (eqb n) xs + length (only others xs)
+  length-others : (xs : List ℕ) → length xs ≡ count (eqb n) xs + length (only others xs)
   unfolding count only
   length-others [] = refl
   length-others (x ∷ xs) =
@@ -120,7 +142,7 @@ module _ (n : ℕ) where
       (λ (e : eqb n x ≡ false). rw e (omega (arith, length-others xs)))
       (cases (eqb n x))
 
-pub few-distinct : (n : ℕ) (xs : List ℕ) → ((q : ℕ) → count (eqb q) xs ≤ 1) → All (λ (x : ℕ). x < n) xs → length xs ≤ n
+few-distinct : (n : ℕ) (xs : List ℕ) → ((q : ℕ) → count (eqb q) xs ≤ 1) → All (λ (x : ℕ). x < n) xs → length xs ≤ n
 few-distinct zero [] d h = omega arith
 few-distinct zero (x ∷ xs) d h = absurd (omega (arith, h .0))
 few-distinct (suc n) xs d h =

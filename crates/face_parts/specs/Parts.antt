@@ -1,13 +1,8 @@
 -- Where the wires and the uses of a face stand.
 use Prim.Native.Nat.{ℕ}
-use mathlib.Core.List.{List, map}
+use mathlib.Core.List.{List}
 use lib.ListN.{drop, getD, take}
-use Rattle.edge.specs.Edges.{backNumber, frontNumber}
-use Rattle.face.specs.Faces.{wireCount}
 use Rattle.lists.specs.Lists.{sum}
-use Rattle.pattern.specs.declared.Pattern.{Pattern}
-use Rattle.shell.specs.Shells.{faceNumber}
-use Rattle.face_parts.specs.declared.FaceColumns.{FaceColumns}
 use Rattle.face_parts.specs.declared.FacePart.{FacePart}
 
 -- the part of face f; `counts` has the faces' numbers of wires, `lens` the wires' lengths
@@ -19,9 +14,9 @@ partOf counts lens f = record {
   uses = sum (take (getD counts f 0) (drop (sum (take f counts)) lens));
 }
 
--- the part of a face given with a sign, in storage
-abbrev pub partIn : Pattern → ℕ → FacePart
-partIn p f = partOf (map wireCount (p .faces)) (p .wires) (faceNumber f)
+-- its part of the uses, and of the wires' lengths
+abbrev pub partUses : FacePart → List ℕ → List ℕ
+partUses part all = take (part .uses) (drop (part .at) all)
 
-abbrev pub faceColumns : Pattern → FaceColumns
-faceColumns p = record { fronts = map frontNumber (p .edges); backs = map backNumber (p .edges); counts = map wireCount (p .faces) }
+abbrev pub partSizes : FacePart → List ℕ → List ℕ
+partSizes part wires = take (part .wires) (drop (part .wire) wires)

@@ -1,14 +1,20 @@
-// Leaves of the edits of a face: where the face stands, whether uses name edges, the columns.
+// A face in the store: where it stands, its uses, its wires' lengths; the ends of the edges; whether
+// uses name edges.
 ghost use mathlib.Core.Path.{_≡_};
 ghost use Prim.Native.Nat.{_+_, _<_, _≤_};
-ghost use lib.ListN.{getD, length, take};
+ghost use lib.ListN.{getD, take};
 ghost use Rattle.lists.specs.Lists.{sum};
-ghost use Rattle.face_parts.specs.Parts.{faceColumns, partOf};
+ghost use Rattle.store.specs.Store.{useTable, wireTable};
 ghost use Rattle.face_edits.specs.FaceEdits.{nameEdges};
-use edge::backs_of;
-use edge::fronts_of;
-use face::wire_counts;
-use pattern::Pattern;
+ghost use Rattle.face_parts.specs.Parts.{partOf, partSizes, partUses};
+ghost use Rattle.store.specs.Columns.{backTable, faceTable, frontTable};
+use store::Tables;
+use store::backs_in;
+use store::faces_in;
+use store::fronts_in;
+use store::tables_known;
+use store::uses_in;
+use store::wires_in;
 use words::index;
 use words::sum_of;
 
@@ -20,18 +26,14 @@ pub struct FacePart {
     pub uses: usize,
 }
 
-// The ends of the edges, and the wire counts of the faces.
-pub struct FaceColumns {
-    pub fronts: [u16; 1024],
-    pub backs: [u16; 1024],
-    pub counts: [u16; 256],
-}
-
-// The part of face f: `counts` has the faces' numbers of wires, `lens` the wires' lengths.
-pub fn face_part(counts: &[u16], lens: &[u16], f: usize) -> FacePart
-    requires { ⌜ (f < length (now counts)) × (f ≤ 4096) × (sum (take f (now counts)) + getD (now counts) f 0 ≤ length (now lens)) × (length (now lens) ≤ 4096) ⌝ }
-    ensures { λ r. ⌜ r ≡ partOf (now (counts .entry)) (now (lens .entry)) f ⌝ }
+// The part of face f.
+pub fn face_part(t: &Tables, f: usize) -> FacePart
+    requires { ⌜ (f < 256) × (sum (take f (faceTable (now t))) + getD (faceTable (now t)) f 0 ≤ 1024) ⌝ }
+    ensures { λ r. ⌜ r ≡ partOf (faceTable (now (t .entry))) (wireTable (now (t .entry))) f ⌝ }
 {
+    tables_known(t);
+    let counts = faces_in(t);
+    let lens = wires_in(t);
     let wire = sum_of(counts, f);
     let wires = index(counts[f]);
     let at = sum_of(lens, wire);
@@ -42,6 +44,49 @@ pub fn face_part(counts: &[u16], lens: &[u16], f: usize) -> FacePart
         at,
         uses,
     }
+}
+
+// The uses of a face.
+pub fn uses_of(t: &Tables, part: FacePart) -> &[u16]
+    requires { ⌜ part .at + part .uses ≤ 4096 ⌝ }
+    ensures { λ r. ⌜ now r ≡ partUses part (useTable (now (t .entry))) ⌝ }
+{
+    tables_known(t);
+    let all = uses_in(t);
+    let start = part.at;
+    let end = start + part.uses;
+    &all[start..end]
+}
+
+// The lengths of its wires.
+pub fn sizes_of(t: &Tables, part: FacePart) -> &[u16]
+    requires { ⌜ part .wire + part .wires ≤ 1024 ⌝ }
+    ensures { λ r. ⌜ now r ≡ partSizes part (wireTable (now (t .entry))) ⌝ }
+{
+    tables_known(t);
+    let all = wires_in(t);
+    let start = part.wire;
+    let end = start + part.wires;
+    &all[start..end]
+}
+
+// The fronts of the first n edges, and their backs.
+pub fn first_fronts(t: &Tables, n: usize) -> &[u16]
+    requires { ⌜ n ≤ 1024 ⌝ }
+    ensures { λ r. ⌜ now r ≡ take n (frontTable (now (t .entry))) ⌝ }
+{
+    tables_known(t);
+    let all = fronts_in(t);
+    &all[0..n]
+}
+
+pub fn first_backs(t: &Tables, n: usize) -> &[u16]
+    requires { ⌜ n ≤ 1024 ⌝ }
+    ensures { λ r. ⌜ now r ≡ take n (backTable (now (t .entry))) ⌝ }
+{
+    tables_known(t);
+    let all = backs_in(t);
+    &all[0..n]
 }
 
 // Whether each use names an edge.
@@ -56,20 +101,4 @@ pub fn are_uses(wire: &[u16], edges: usize) -> bool
         i += 1;
     }
     true
-}
-
-// The columns of a pattern.
-pub fn face_columns(p: Pattern) -> FaceColumns
-    ensures { λ r. ⌜ r ≡ faceColumns p ⌝ }
-{
-    let edges = p.edges;
-    let fronts = fronts_of(edges);
-    let backs = backs_of(edges);
-    let faces = p.faces;
-    let counts = wire_counts(faces);
-    FaceColumns {
-        fronts,
-        backs,
-        counts,
-    }
 }

@@ -1,1 +1,1 @@
-pub mod ConcatFile
+pub mod JoinedFile

@@ -3,12 +3,12 @@ use Prim.Native.Nat.{ℕ}
 use mathlib.Core.List.{List}
 use Rattle.answers.specs.Values.{joinValues}
 use Rattle.answers.specs.declared.Answer.{Answer}
-use Rattle.edited_file.specs.EditedFile.{joinBytes}
-use Rattle.file_reports.specs.Read.{afterRead, whenRead}
-use Rattle.pattern.specs.declared.Pattern.{Pattern}
-use Rattle.reader.specs.Reading.{reading}
+use Rattle.answers.specs.Read.{afterRead, whenRead}
 use Rattle.shell_edits.specs.Answers.{afterConcat, concatAnswer}
-use Rattle.writer.specs.Writing.{written}
+use Rattle.store_read.specs.Loading.{checkOf, patternOf}
+use Rattle.store_write.specs.Writing.{written}
+use Rattle.file_concat.specs.JoinedFile.{joinBytes}
+use Rattle.pattern.specs.Contents.{Pattern}
 
 -- ---- a pattern that was read
 
@@ -21,7 +21,7 @@ concatFileBytes p u v out = joinBytes (concatAnswer p u v) (afterConcat p u v) o
 -- ---- a file, given by its bytes
 
 abbrev pub fileConcat : List ℕ → ℕ → ℕ → List ℕ → Answer
-fileConcat s u v out = whenRead (reading s .answer) (concatFile (reading s .pattern) u v out)
+fileConcat s u v out = whenRead (checkOf s) (concatFile (patternOf s) u v out)
 
 abbrev pub fileConcatBytes : List ℕ → ℕ → ℕ → List ℕ → List ℕ
-fileConcatBytes s u v out = afterRead (reading s .answer) out (concatFileBytes (reading s .pattern) u v out)
+fileConcatBytes s u v out = afterRead (checkOf s) out (concatFileBytes (patternOf s) u v out)

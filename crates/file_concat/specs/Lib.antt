@@ -1,1 +1,2 @@
 pub mod FileConcat
+pub mod JoinedFile

@@ -1,17 +1,17 @@
 -- The cut of an edge on a pattern file: what is answered, and the lent slice afterwards, which takes the edited file.
 use Prim.Native.Nat.{ℕ}
 use mathlib.Core.List.{List}
+use Rattle.answers.specs.Read.{afterRead, whenRead}
 use Rattle.answers.specs.Values.{cutValues}
 use Rattle.answers.specs.declared.Answer.{Answer}
 use Rattle.curve.specs.Curves.{parameterOf}
 use Rattle.curve.specs.declared.Parameter.{Parameter}
 use Rattle.edit_answers.specs.declared.CutAnswer.the-variants.{Cut, Not as Cut·Not, Refused as Cut·Refused}
 use Rattle.edit_answers.specs.declared.CutAnswer.{CutAnswer}
-use Rattle.file_reports.specs.Read.{afterRead, whenRead}
-use Rattle.pattern.specs.declared.Pattern.{Pattern}
-use Rattle.reader.specs.Reading.{reading}
 use Rattle.shell_edits.specs.Answers.{afterCut, cutAnswer}
-use Rattle.writer.specs.Writing.{written, writtenBytes}
+use Rattle.store_read.specs.Loading.{checkOf, patternOf}
+use Rattle.store_write.specs.Writing.{written, writtenBytes}
+use Rattle.pattern.specs.Contents.{Pattern}
 
 -- the slice after a cut that gave pattern q: its file, if the cut was not refused
 abbrev pub cutBytes : CutAnswer → Pattern → List ℕ → List ℕ
@@ -30,7 +30,7 @@ cutFileBytes p n e v at out = cutBytes (cutAnswer p n e v at) (afterCut p n e v 
 -- ---- a file, given by its bytes
 
 abbrev pub fileCut : List ℕ → ℕ → ℕ → ℕ → ℕ → List ℕ → Answer
-fileCut s n e v bits out = whenRead (reading s .answer) (cutFile (reading s .pattern) n e v (parameterOf bits) out)
+fileCut s n e v bits out = whenRead (checkOf s) (cutFile (patternOf s) n e v (parameterOf bits) out)
 
 abbrev pub fileCutBytes : List ℕ → ℕ → ℕ → ℕ → ℕ → List ℕ → List ℕ
-fileCutBytes s n e v bits out = afterRead (reading s .answer) out (cutFileBytes (reading s .pattern) n e v (parameterOf bits) out)
+fileCutBytes s n e v bits out = afterRead (checkOf s) out (cutFileBytes (patternOf s) n e v (parameterOf bits) out)

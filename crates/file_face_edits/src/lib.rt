@@ -9,10 +9,13 @@ use add_boundary::try_add_boundary;
 use answers::Answer;
 use answers::face_values;
 use answers::unread;
-use cut_face::cut_checked;
+use cut_face::cut_by_edge;
+use cut_face::cut_by_wire;
 use errors::Check;
 use glue::glue_at_boundaries;
-use reader::read;
+use store::SPANS;
+use store::TABLES;
+use store_read::load;
 
 // Adds a wire to face f.
 pub fn file_add(file: &[u8], f: u16, wire: &[u16], uses: &mut [u16], lens: &mut [u16]) -> Answer
@@ -20,14 +23,12 @@ pub fn file_add(file: &[u8], f: u16, wire: &[u16], uses: &mut [u16], lens: &mut 
     ensures { λ _. ⌜ now (uses .exit) ≡ sets (now (uses .entry)) 0 (flat (fileAddOut (now (file .entry)) f (now (wire .entry)) (length (now (uses .entry))) (length (now (lens .entry))))) ⌝ }
     ensures { λ _. ⌜ now (lens .exit) ≡ sets (now (lens .entry)) 0 (map length (fileAddOut (now (file .entry)) f (now (wire .entry)) (length (now (uses .entry))) (length (now (lens .entry))))) ⌝ }
 {
-    let reading = read(file);
-    let checked = reading.answer;
-    match checked {
+    let mut t = [0u16; TABLES];
+    let mut spans = [0.0; SPANS];
+    let table = load(file, &mut t, &mut spans);
+    match table {
         Check::Refused(r) => unread(r),
-        Check::Accepted => {
-            let p = reading.pattern;
-            face_values(try_add_boundary(p, f, wire, uses, lens))
-        }
+        Check::Accepted => face_values(try_add_boundary(&t, &spans, f, wire, uses, lens)),
     }
 }
 
@@ -43,14 +44,12 @@ pub fn file_cut_by_wire(
     ensures { λ _. ⌜ now (uses .exit) ≡ sets (now (uses .entry)) 0 (flat (fileCutFaceOut (now (file .entry)) f (now (wire .entry)) (length (now (uses .entry))) (length (now (lens .entry))))) ⌝ }
     ensures { λ _. ⌜ now (lens .exit) ≡ sets (now (lens .entry)) 0 (map length (fileCutFaceOut (now (file .entry)) f (now (wire .entry)) (length (now (uses .entry))) (length (now (lens .entry))))) ⌝ }
 {
-    let reading = read(file);
-    let checked = reading.answer;
-    match checked {
+    let mut t = [0u16; TABLES];
+    let mut spans = [0.0; SPANS];
+    let table = load(file, &mut t, &mut spans);
+    match table {
         Check::Refused(r) => unread(r),
-        Check::Accepted => {
-            let p = reading.pattern;
-            face_values(cut_checked(p, f, wire, uses, lens))
-        }
+        Check::Accepted => face_values(cut_by_wire(&t, &spans, f, wire, uses, lens)),
     }
 }
 
@@ -60,15 +59,12 @@ pub fn file_cut_by_edge(file: &[u8], f: u16, u: u16, uses: &mut [u16], lens: &mu
     ensures { λ _. ⌜ now (uses .exit) ≡ sets (now (uses .entry)) 0 (flat (fileCutFaceOut (now (file .entry)) f (u ∷ []) (length (now (uses .entry))) (length (now (lens .entry))))) ⌝ }
     ensures { λ _. ⌜ now (lens .exit) ≡ sets (now (lens .entry)) 0 (map length (fileCutFaceOut (now (file .entry)) f (u ∷ []) (length (now (uses .entry))) (length (now (lens .entry))))) ⌝ }
 {
-    let reading = read(file);
-    let checked = reading.answer;
-    match checked {
+    let mut t = [0u16; TABLES];
+    let mut spans = [0.0; SPANS];
+    let table = load(file, &mut t, &mut spans);
+    match table {
         Check::Refused(r) => unread(r),
-        Check::Accepted => {
-            let p = reading.pattern;
-            let wire = [u];
-            face_values(cut_checked(p, f, &wire, uses, lens))
-        }
+        Check::Accepted => face_values(cut_by_edge(&t, &spans, f, u, uses, lens)),
     }
 }
 
@@ -78,13 +74,11 @@ pub fn file_glue(file: &[u8], f: u16, g: u16, uses: &mut [u16], lens: &mut [u16]
     ensures { λ _. ⌜ now (uses .exit) ≡ sets (now (uses .entry)) 0 (flat (fileGlueOut (now (file .entry)) f g (length (now (uses .entry))) (length (now (lens .entry))))) ⌝ }
     ensures { λ _. ⌜ now (lens .exit) ≡ sets (now (lens .entry)) 0 (map length (fileGlueOut (now (file .entry)) f g (length (now (uses .entry))) (length (now (lens .entry))))) ⌝ }
 {
-    let reading = read(file);
-    let checked = reading.answer;
-    match checked {
+    let mut t = [0u16; TABLES];
+    let mut spans = [0.0; SPANS];
+    let table = load(file, &mut t, &mut spans);
+    match table {
         Check::Refused(r) => unread(r),
-        Check::Accepted => {
-            let p = reading.pattern;
-            face_values(glue_at_boundaries(p, f, g, uses, lens))
-        }
+        Check::Accepted => face_values(glue_at_boundaries(&t, &spans, f, g, uses, lens)),
     }
 }

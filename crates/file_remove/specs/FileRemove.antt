@@ -3,12 +3,12 @@ use Prim.Native.Nat.{ℕ}
 use mathlib.Core.List.{List}
 use Rattle.answers.specs.Values.{joinValues}
 use Rattle.answers.specs.declared.Answer.{Answer}
-use Rattle.edited_file.specs.EditedFile.{joinBytes}
-use Rattle.file_reports.specs.Read.{afterRead, whenRead}
-use Rattle.pattern.specs.declared.Pattern.{Pattern}
-use Rattle.reader.specs.Reading.{reading}
+use Rattle.answers.specs.Read.{afterRead, whenRead}
+use Rattle.file_concat.specs.JoinedFile.{joinBytes}
 use Rattle.shell_edits.specs.Answers.{afterRemove, removeAnswer}
-use Rattle.writer.specs.Writing.{written}
+use Rattle.store_read.specs.Loading.{checkOf, patternOf}
+use Rattle.store_write.specs.Writing.{written}
+use Rattle.pattern.specs.Contents.{Pattern}
 
 -- ---- a pattern that was read
 
@@ -21,7 +21,7 @@ removeFileBytes p n v out = joinBytes (removeAnswer p n v) (afterRemove p n v) o
 -- ---- a file, given by its bytes
 
 abbrev pub fileRemove : List ℕ → ℕ → ℕ → List ℕ → Answer
-fileRemove s n v out = whenRead (reading s .answer) (removeFile (reading s .pattern) n v out)
+fileRemove s n v out = whenRead (checkOf s) (removeFile (patternOf s) n v out)
 
 abbrev pub fileRemoveBytes : List ℕ → ℕ → ℕ → List ℕ → List ℕ
-fileRemoveBytes s n v out = afterRead (reading s .answer) out (removeFileBytes (reading s .pattern) n v out)
+fileRemoveBytes s n v out = afterRead (checkOf s) out (removeFileBytes (patternOf s) n v out)

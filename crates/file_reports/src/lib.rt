@@ -16,34 +16,35 @@ use errors::Check;
 use group_calls::connected_components;
 use group_calls::is_connected;
 use group_calls::singular_vertices;
-use pattern::wire_place;
-use reader::read;
 use shell_calls::extract_boundaries;
 use shell_calls::shell_condition;
 use solid_calls::try_new;
-use writer::write;
+use store::SPANS;
+use store::TABLES;
+use store_check::wire_place;
+use store_read::load;
+use store_read::read;
+use store_write::write;
 
 // The reading checks of a file.
 pub fn check_file(file: &[u8]) -> Answer
     ensures { λ r. ⌜ r ≡ fileCheck (now (file .entry)) ⌝ }
 {
-    let reading = read(file);
-    let checked = reading.answer;
-    check_values(checked)
+    let mut t = [0u16; TABLES];
+    let mut spans = [0.0; SPANS];
+    check_values(read(file, &mut t, &mut spans))
 }
 
 // Where the uses of wire w stand in the use list.
 pub fn file_outline(file: &[u8], w: usize) -> Answer
     ensures { λ r. ⌜ r ≡ fileOutline (now (file .entry)) w ⌝ }
 {
-    let reading = read(file);
-    let checked = reading.answer;
-    match checked {
+    let mut t = [0u16; TABLES];
+    let mut spans = [0.0; SPANS];
+    let table = load(file, &mut t, &mut spans);
+    match table {
         Check::Refused(f) => unread(f),
-        Check::Accepted => {
-            let p = reading.pattern;
-            place_values(wire_place(p, w))
-        }
+        Check::Accepted => place_values(wire_place(&t, &spans, w)),
     }
 }
 
@@ -52,14 +53,12 @@ pub fn rewrite_file(file: &[u8], out: &mut [u8]) -> Answer
     ensures { λ r. ⌜ r ≡ fileWritten (now (file .entry)) (now (out .entry)) ⌝ }
     ensures { λ _. ⌜ now (out .exit) ≡ fileWrittenBytes (now (file .entry)) (now (out .entry)) ⌝ }
 {
-    let reading = read(file);
-    let checked = reading.answer;
-    match checked {
+    let mut t = [0u16; TABLES];
+    let mut spans = [0.0; SPANS];
+    let table = load(file, &mut t, &mut spans);
+    match table {
         Check::Refused(f) => unread(f),
-        Check::Accepted => {
-            let p = reading.pattern;
-            written_values(write(p, out))
-        }
+        Check::Accepted => written_values(write(&t, &spans, out)),
     }
 }
 
@@ -67,14 +66,12 @@ pub fn rewrite_file(file: &[u8], out: &mut [u8]) -> Answer
 pub fn file_condition(file: &[u8], n: usize) -> Answer
     ensures { λ r. ⌜ r ≡ fileCondition (now (file .entry)) n ⌝ }
 {
-    let reading = read(file);
-    let checked = reading.answer;
-    match checked {
+    let mut t = [0u16; TABLES];
+    let mut spans = [0.0; SPANS];
+    let table = load(file, &mut t, &mut spans);
+    match table {
         Check::Refused(f) => unread(f),
-        Check::Accepted => {
-            let p = reading.pattern;
-            figure_values(shell_condition(p, n))
-        }
+        Check::Accepted => figure_values(shell_condition(&t, &spans, n)),
     }
 }
 
@@ -84,14 +81,12 @@ pub fn file_openings(file: &[u8], n: usize, out: &mut [u16; 2048], lens: &mut [u
     ensures { λ _. ⌜ now (out .exit) ≡ sets (now (out .entry)) 0 (flat (fileOpeningsOut (now (file .entry)) n)) ⌝ }
     ensures { λ _. ⌜ now (lens .exit) ≡ sets (now (lens .entry)) 0 (map length (fileOpeningsOut (now (file .entry)) n)) ⌝ }
 {
-    let reading = read(file);
-    let checked = reading.answer;
-    match checked {
+    let mut t = [0u16; TABLES];
+    let mut spans = [0.0; SPANS];
+    let table = load(file, &mut t, &mut spans);
+    match table {
         Check::Refused(f) => unread(f),
-        Check::Accepted => {
-            let p = reading.pattern;
-            figure_values(extract_boundaries(p, n, out, lens))
-        }
+        Check::Accepted => figure_values(extract_boundaries(&t, &spans, n, out, lens)),
     }
 }
 
@@ -99,14 +94,12 @@ pub fn file_openings(file: &[u8], n: usize, out: &mut [u16; 2048], lens: &mut [u
 pub fn file_connected(file: &[u8], n: usize) -> Answer
     ensures { λ r. ⌜ r ≡ fileConnected (now (file .entry)) n ⌝ }
 {
-    let reading = read(file);
-    let checked = reading.answer;
-    match checked {
+    let mut t = [0u16; TABLES];
+    let mut spans = [0.0; SPANS];
+    let table = load(file, &mut t, &mut spans);
+    match table {
         Check::Refused(f) => unread(f),
-        Check::Accepted => {
-            let p = reading.pattern;
-            figure_values(is_connected(p, n))
-        }
+        Check::Accepted => figure_values(is_connected(&t, &spans, n)),
     }
 }
 
@@ -116,14 +109,12 @@ pub fn file_components(file: &[u8], n: usize, out: &mut [u16; 512], lens: &mut [
     ensures { λ _. ⌜ now (out .exit) ≡ sets (now (out .entry)) 0 (flat (fileComponentsOut (now (file .entry)) n)) ⌝ }
     ensures { λ _. ⌜ now (lens .exit) ≡ sets (now (lens .entry)) 0 (map length (fileComponentsOut (now (file .entry)) n)) ⌝ }
 {
-    let reading = read(file);
-    let checked = reading.answer;
-    match checked {
+    let mut t = [0u16; TABLES];
+    let mut spans = [0.0; SPANS];
+    let table = load(file, &mut t, &mut spans);
+    match table {
         Check::Refused(f) => unread(f),
-        Check::Accepted => {
-            let p = reading.pattern;
-            figure_values(connected_components(p, n, out, lens))
-        }
+        Check::Accepted => figure_values(connected_components(&t, &spans, n, out, lens)),
     }
 }
 
@@ -132,14 +123,12 @@ pub fn file_singular(file: &[u8], n: usize, out: &mut [u16; 2048]) -> Answer
     ensures { λ r. ⌜ r ≡ fileSingular (now (file .entry)) n ⌝ }
     ensures { λ _. ⌜ now (out .exit) ≡ sets (now (out .entry)) 0 (fileSingularOut (now (file .entry)) n) ⌝ }
 {
-    let reading = read(file);
-    let checked = reading.answer;
-    match checked {
+    let mut t = [0u16; TABLES];
+    let mut spans = [0.0; SPANS];
+    let table = load(file, &mut t, &mut spans);
+    match table {
         Check::Refused(f) => unread(f),
-        Check::Accepted => {
-            let p = reading.pattern;
-            figure_values(singular_vertices(p, n, out))
-        }
+        Check::Accepted => figure_values(singular_vertices(&t, &spans, n, out)),
     }
 }
 
@@ -147,13 +136,11 @@ pub fn file_singular(file: &[u8], n: usize, out: &mut [u16; 2048]) -> Answer
 pub fn file_solid(file: &[u8]) -> Answer
     ensures { λ r. ⌜ r ≡ fileSolid (now (file .entry)) ⌝ }
 {
-    let reading = read(file);
-    let checked = reading.answer;
-    match checked {
+    let mut t = [0u16; TABLES];
+    let mut spans = [0.0; SPANS];
+    let table = load(file, &mut t, &mut spans);
+    match table {
         Check::Refused(f) => unread(f),
-        Check::Accepted => {
-            let p = reading.pattern;
-            solid_values(try_new(p))
-        }
+        Check::Accepted => solid_values(try_new(&t, &spans)),
     }
 }

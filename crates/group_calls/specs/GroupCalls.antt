@@ -6,8 +6,7 @@ use Rattle.calls.specs.Calls.{ifThere, presence, whenThere}
 use Rattle.calls.specs.declared.FigureAnswer.{FigureAnswer}
 use Rattle.calls.specs.declared.ShellFigure.the-variants.{Components, Connected, Singular}
 use Rattle.lists.specs.Lists.{flat}
-use Rattle.pattern.specs.Contents.{content}
-use Rattle.pattern.specs.declared.Pattern.{Pattern}
+use Rattle.pattern.specs.Contents.{Pattern, content}
 use Rattle.shell.specs.Components.{components}
 use Rattle.shell.specs.Connected.{connected}
 use Rattle.shell.specs.Singular.{singularPoints}

@@ -1,46 +1,59 @@
-// The calls on a shell of a pattern in storage that ask for its groups: whether it is connected, its
+// The calls on a shell of a pattern in the store that ask for its groups: whether it is connected, its
 // components, its singular points; each report by itself.
 ghost use mathlib.Core.Path.{_≡_};
 ghost use mathlib.Core.List.{map};
-ghost use lib.ListN.{length};
+ghost use Prim.Native.Nat.{_<_, _≤_};
+ghost use lib.ListN.{getD, length};
 ghost use lib.Seq.{sets};
 ghost use Rattle.lists.specs.Lists.{flat};
+ghost use Rattle.columns.specs.Sound.{Faultless, OfTables};
 ghost use Rattle.pattern.specs.Contents.{content};
-ghost use Rattle.reports.specs.Figures.{groupsFound};
-ghost use Rattle.calls.specs.declared.Presence.the-variants.{There};
-ghost use Rattle.calls.specs.Calls.{presence};
+ghost use Rattle.reports.specs.Figures.{Grouped};
+ghost use Rattle.store.specs.Store.{countTable, held};
 ghost use Rattle.group_calls.specs.GroupCalls.{componentsAnswer, componentsOut, connectedAnswer, singularAnswer, singularOut};
-ghost use Rattle.group_calls.specs.Figures.{GroupsHeld};
 use calls::FigureAnswer;
 use calls::Presence;
 use calls::ShellFigure;
 use calls::find_shell;
-use calls::put_first;
-use columns::columns_of;
-use pattern::Pattern;
-use reports::ShellGroups;
-use reports::shell_groups;
+use columns::put_columns;
+use reports::GroupCounts;
+use reports::put_groups;
+use store::Spans;
+use store::Tables;
 
-// The groups of a shell that is there.
-fn groups_at(p: Pattern, n: usize) -> ShellGroups
-    requires { ⌜ presence p n ≡ There ⌝ }
-    ensures { λ r. ⌜ r ≡ groupsFound (content p) n ⌝ }
-    ensures { λ r. ⌜ GroupsHeld (content p) n r ⌝ }
+// Writes the groups of a shell that is there.
+fn groups_at(
+    t: &Tables,
+    n: usize,
+    out: &mut [u16],
+    sizes: &mut [u16],
+    found: &mut [u16],
+) -> GroupCounts
+    requires { ⌜ Faultless (now t) × (n < getD (countTable (now t)) 5 0) ⌝ }
+    requires { ⌜ (512 ≤ length (now out)) × (512 ≤ length (now sizes)) × (2048 ≤ length (now found)) ⌝ }
+    ensures { λ r. ⌜ OfTables (now (t .entry)) (λ p. Grouped (content p) n (now (out .entry)) (now (sizes .entry)) (now (found .entry)) (now (out .exit)) (now (sizes .exit)) (now (found .exit)) r) ⌝ }
 {
-    let k = columns_of(p);
-    shell_groups(k, n)
+    let mut turned = [0u16; 4096];
+    let mut starts = [0usize; 257];
+    let mut firsts = [0usize; 257];
+    let mut places = [0usize; 257];
+    put_columns(t, &mut turned, &mut starts, &mut firsts, &mut places);
+    put_groups(t, &turned, &starts, &firsts, &places, n, out, sizes, found)
 }
 
 // Whether shell n is connected.
-pub fn is_connected(p: Pattern, n: usize) -> FigureAnswer
-    ensures { λ r. ⌜ r ≡ connectedAnswer p n ⌝ }
+pub fn is_connected(t: &Tables, spans: &Spans, n: usize) -> FigureAnswer
+    ensures { λ r. ⌜ r ≡ connectedAnswer (held (now (t .entry)) (now (spans .entry))) n ⌝ }
 {
-    let found = find_shell(p, n);
+    let found = find_shell(t, spans, n);
     match found {
         Presence::Refused(f) => FigureAnswer::Refused(f),
         Presence::NoShell => FigureAnswer::NoShell,
         Presence::There => {
-            let g = groups_at(p, n);
+            let mut pairs = [0u16; 512];
+            let mut sizes = [0u16; 512];
+            let mut corners = [0u16; 2048];
+            let g = groups_at(t, n, &mut pairs, &mut sizes, &mut corners);
             FigureAnswer::Found(ShellFigure::Connected(g.connected))
         }
     }
@@ -48,40 +61,41 @@ pub fn is_connected(p: Pattern, n: usize) -> FigureAnswer
 
 // The components of shell n: their pairs one after the other, and the length of each.
 pub fn connected_components(
-    p: Pattern,
+    t: &Tables,
+    spans: &Spans,
     n: usize,
     out: &mut [u16; 512],
     lens: &mut [u16; 512],
 ) -> FigureAnswer
-    ensures { λ r. ⌜ r ≡ componentsAnswer p n ⌝ }
-    ensures { λ _. ⌜ now (out .exit) ≡ sets (now (out .entry)) 0 (flat (componentsOut p n)) ⌝ }
-    ensures { λ _. ⌜ now (lens .exit) ≡ sets (now (lens .entry)) 0 (map length (componentsOut p n)) ⌝ }
+    ensures { λ r. ⌜ r ≡ componentsAnswer (held (now (t .entry)) (now (spans .entry))) n ⌝ }
+    ensures { λ _. ⌜ now (out .exit) ≡ sets (now (out .entry)) 0 (flat (componentsOut (held (now (t .entry)) (now (spans .entry))) n)) ⌝ }
+    ensures { λ _. ⌜ now (lens .exit) ≡ sets (now (lens .entry)) 0 (map length (componentsOut (held (now (t .entry)) (now (spans .entry))) n)) ⌝ }
 {
-    let found = find_shell(p, n);
+    let found = find_shell(t, spans, n);
     match found {
         Presence::Refused(f) => FigureAnswer::Refused(f),
         Presence::NoShell => FigureAnswer::NoShell,
         Presence::There => {
-            let g = groups_at(p, n);
-            put_first(out, &g.pairs, g.members);
-            put_first(lens, &g.lens, g.components);
+            let mut corners = [0u16; 2048];
+            let g = groups_at(t, n, out, lens, &mut corners);
             FigureAnswer::Found(ShellFigure::Components(g.components, g.members))
         }
     }
 }
 
 // The singular points of shell n, ascending.
-pub fn singular_vertices(p: Pattern, n: usize, out: &mut [u16; 2048]) -> FigureAnswer
-    ensures { λ r. ⌜ r ≡ singularAnswer p n ⌝ }
-    ensures { λ _. ⌜ now (out .exit) ≡ sets (now (out .entry)) 0 (singularOut p n) ⌝ }
+pub fn singular_vertices(t: &Tables, spans: &Spans, n: usize, out: &mut [u16; 2048]) -> FigureAnswer
+    ensures { λ r. ⌜ r ≡ singularAnswer (held (now (t .entry)) (now (spans .entry))) n ⌝ }
+    ensures { λ _. ⌜ now (out .exit) ≡ sets (now (out .entry)) 0 (singularOut (held (now (t .entry)) (now (spans .entry))) n) ⌝ }
 {
-    let found = find_shell(p, n);
+    let found = find_shell(t, spans, n);
     match found {
         Presence::Refused(f) => FigureAnswer::Refused(f),
         Presence::NoShell => FigureAnswer::NoShell,
         Presence::There => {
-            let g = groups_at(p, n);
-            put_first(out, &g.points, g.singular);
+            let mut pairs = [0u16; 512];
+            let mut sizes = [0u16; 512];
+            let g = groups_at(t, n, &mut pairs, &mut sizes, out);
             FigureAnswer::Found(ShellFigure::Singular(g.singular))
         }
     }

@@ -19,7 +19,7 @@ use Rattle.errors.specs.declared.Check.{Check}
 use Rattle.errors.specs.declared.Check.the-variants.{Accepted as Check·Accepted, Refused as Check·Refused}
 use Rattle.errors.specs.declared.Refusal.{Refusal}
 use Rattle.face_edits.specs.FaceEdits.{addFaults, added, cutFaceFaults, cutInTwo, fits, glueFaults, glued}
-use Rattle.file_reports.specs.Read.{ifRead, whenRead}
+use Rattle.answers.specs.Read.{ifRead, whenRead}
 use Rattle.lists.proofs.Laws.{cases, left-true, right-true}
 use Rattle.lists.proofs.Parts.{split-flat}
 use Rattle.lists.proofs.Sets.{take-sets}
@@ -27,7 +27,7 @@ use Rattle.lists.specs.Lists.{flat, pick, split, sum, unless}
 use Rattle.shell_edits.proofs.Accepted.{sum-lengths}
 use Rattle.pattern.specs.Checks.{patternFaults}
 use Rattle.pattern.specs.Contents.{content}
-use Rattle.reader.specs.Reading.{reading}
+use Rattle.store_read.specs.Loading.{checkOf, patternOf}
 use Rattle.job_edits.specs.JobEdits.{faceAnswer, faceWires, named, wireNamed}
 
 pub record Told (a : Answer) (ws : List (List ℕ)) : Type 0 where
@@ -72,8 +72,8 @@ told-pick false a a′ ws ws′ f g = g
 pub told : (j : ℕ) (vs s : List ℕ) → faceAnswer j vs s .outcome ≡ 0 → Told (faceAnswer j vs s) (faceWires j vs s)
 unfolding faceAnswer faceWires
 told j vs s =
-    let r = reading s .answer in
-    let p = reading s .pattern in
+    let r = checkOf s in
+    let p = patternOf s in
     let c = content p in
     let f = named vs 0 in
     let us = wireNamed vs in

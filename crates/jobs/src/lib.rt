@@ -18,6 +18,7 @@ use job_lines::put_done;
 use job_lines::put_edges;
 use job_lines::put_no_job;
 use output::put_text;
+use pattern::LONGEST;
 use text::trimmed_length;
 
 // Applies job j, an edit of a face, and writes its answer; returns the length of the answer.
@@ -118,7 +119,7 @@ fn apply(line: &[u8], file: &[u8], out: &mut [u8], text: &mut [u8; 65536]) -> Jo
 }
 
 // The same, with room for the longest file.
-pub fn run(line: &[u8], file: &[u8], out: &mut [u8; 41048], text: &mut [u8; 65536]) -> Job
+pub fn run(line: &[u8], file: &[u8], out: &mut [u8; LONGEST], text: &mut [u8; 65536]) -> Job
     ensures { λ r. ⌜ (now (text .exit) ≡ sets (now (text .entry)) 0 (lineText (now (line .entry)) (now (file .entry)) (now (out .entry)))) × (r .text ≡ length (lineText (now (line .entry)) (now (file .entry)) (now (out .entry)))) ⌝ }
     ensures { λ r. ⌜ (now (out .exit) ≡ lineOut (now (line .entry)) (now (file .entry)) (now (out .entry))) × (r .file ≡ lineLength (now (line .entry)) (now (file .entry)) (now (out .entry))) ⌝ }
 {

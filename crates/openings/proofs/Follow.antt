@@ -11,8 +11,8 @@ use Rattle.lists.proofs.Sets.{sets-append}
 use Rattle.openings.proofs.Slots.{found-nothing, found-use, holding-out, kept-le, kept-out, kept-still, slot-none, slot-some, slots-get, slots-set}
 use Rattle.openings.specs.Passes.{Followed}
 use Rattle.openings.specs.Slots.{Holding, answerOf, keptIn, slots}
-use Rattle.openings.specs.declared.Answer.{Answer}
-use Rattle.openings.specs.declared.Answer.the-variants.{Nothing, Use}
+use Rattle.openings.specs.declared.Lookup.{Lookup}
+use Rattle.openings.specs.declared.Lookup.the-variants.{Nothing, Use}
 use Rattle.openings.specs.declared.Step.{Step}
 use Rattle.shell.specs.Openings.{Found, chain}
 
@@ -122,7 +122,7 @@ module _ (fronts backs kept₀ out₀ : List ℕ) (at n₀ : ℕ) where
             }
 
     -- a lookup at q answers a and leaves kept′ and the count n′
-    module _ (a : Answer) (kept′ : List ℕ) (n′ : ℕ) (answers : a ≡ answerOf (getD (slots kept) q none)) (leaves : kept′ ≡ set kept q 65535) (counts : n′ ≡ n + 1) where
+    module _ (a : Lookup) (kept′ : List ℕ) (n′ : ℕ) (answers : a ≡ answerOf (getD (slots kept) q none)) (leaves : kept′ ≡ set kept q 65535) (counts : n′ ≡ n + 1) where
       pub end : a ≡ Nothing → (r : Step) → r .at ≡ m → r .lookups ≡ n′ → Followed f fronts backs kept₀ out₀ at n₀ kept′ out r
       end e r x y = rw leaves (going-end (found-nothing kept q (g .inside) a answers e) r x (y ∙ counts))
 

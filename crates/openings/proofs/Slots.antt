@@ -16,8 +16,8 @@ use Rattle.lists.proofs.Count.{bit}
 use Rattle.lists.proofs.Laws.{cases}
 use Rattle.lists.specs.Lists.{count}
 use Rattle.openings.specs.Slots.{Holding, answerOf, keptIn, slot, slots}
-use Rattle.openings.specs.declared.Answer.{Answer}
-use Rattle.openings.specs.declared.Answer.the-variants.{Nothing, Use}
+use Rattle.openings.specs.declared.Lookup.{Lookup}
+use Rattle.openings.specs.declared.Lookup.the-variants.{Nothing, Use}
 use Rattle.shell.specs.Openings.{Kept}
 
 pub slot-none : (u : ℕ) → u ≡ 65535 → slot u ≡ none
@@ -130,8 +130,8 @@ module _ (kept : List ℕ) (p : ℕ) (l : p < length kept) where
   finds-use n = rw (slots-get kept p l, slot-some (getD kept p 0) n)
 
   -- what is known of the answer
-  pub found-use : (a : Answer) (u : ℕ) → a ≡ answerOf (getD (slots kept) p none) → a ≡ Use u → (getD kept p 0 ≡ u) × (getD kept p 0 ≡ 65535 → ⊥)
+  pub found-use : (a : Lookup) (u : ℕ) → a ≡ answerOf (getD (slots kept) p none) → a ≡ Use u → (getD kept p 0 ≡ u) × (getD kept p 0 ≡ 65535 → ⊥)
   found-use a u e f = answer-use (getD kept p 0) u (rw (slots-get kept p l) at (sym e ∙ f))
 
-  pub found-nothing : (a : Answer) → a ≡ answerOf (getD (slots kept) p none) → a ≡ Nothing → getD kept p 0 ≡ 65535
+  pub found-nothing : (a : Lookup) → a ≡ answerOf (getD (slots kept) p none) → a ≡ Nothing → getD kept p 0 ≡ 65535
   found-nothing a e f = answer-nothing (getD kept p 0) (rw (slots-get kept p l) at (sym e ∙ f))

@@ -9,8 +9,8 @@ use lib.ListN.{getD, length}
 use Rattle.lists.specs.Lists.{count, pick}
 use Rattle.edge.specs.Uses.{backOf, edgeNumber}
 use Rattle.shell.specs.Openings.{Kept}
-use Rattle.openings.specs.declared.Answer.{Answer}
-use Rattle.openings.specs.declared.Answer.the-variants.{Nothing, Use}
+use Rattle.openings.specs.declared.Lookup.{Lookup}
+use Rattle.openings.specs.declared.Lookup.the-variants.{Nothing, Use}
 
 abbrev pub slot : ℕ → Option ℕ
 slot u = pick (eqb u 65535) none (some u)
@@ -19,7 +19,7 @@ unfoldable pub slots : List ℕ → Kept
 slots kept = map slot kept
 
 -- the answer of a lookup
-unfoldable pub answerOf : Option ℕ → Answer
+unfoldable pub answerOf : Option ℕ → Lookup
 answerOf none = Nothing
 answerOf (some u) = Use u
 

@@ -15,14 +15,14 @@ use edge::back_of;
 use edge::front_of;
 
 // What a lookup answers.
-pub enum Answer {
+pub enum Lookup {
     Use(u16),
     Nothing,
 }
 
 // The answer, with the count of lookups.
 pub struct Looked {
-    pub answer: Answer,
+    pub answer: Lookup,
     pub lookups: usize,
 }
 
@@ -53,12 +53,12 @@ pub fn look_up(kept: &mut [u16], p: usize, lookups: usize) -> Looked
     let n = lookups + 1;
     if u == 65535 {
         return Looked {
-            answer: Answer::Nothing,
+            answer: Lookup::Nothing,
             lookups: n,
         };
     }
     Looked {
-        answer: Answer::Use(u),
+        answer: Lookup::Use(u),
         lookups: n,
     }
 }
@@ -85,10 +85,10 @@ pub fn follow_from(
         n = l.lookups;
         let found = l.answer;
         match found {
-            Answer::Nothing => {
+            Lookup::Nothing => {
                 break;
             }
-            Answer::Use(u) => {
+            Lookup::Use(u) => {
                 out[m] = u;
                 m += 1;
                 q = back_of(u, fronts, backs);

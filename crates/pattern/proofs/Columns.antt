@@ -13,7 +13,7 @@ use Rattle.edge.specs.Edges.{backNumber, frontNumber}
 use Rattle.edge.specs.Uses.{edgeNumber, frontOf}
 use Rattle.edge.specs.declared.Edge.{Edge}
 use Rattle.errors.proofs.Laws.{each-record, first-append, none-left, none-right, unless-passes}
-use Rattle.errors.specs.Faults.{andThen, each, first}
+use Rattle.errors.specs.Faults.{each, first}
 use Rattle.errors.specs.declared.Check.{Check}
 use Rattle.errors.specs.declared.Check.the-variants.{Refused}
 use Rattle.errors.specs.declared.Refusal.{Refusal}
@@ -24,10 +24,11 @@ use Rattle.lists.specs.Lists.{split, sum}
 use Rattle.pattern.proofs.Counts.{Full, Limited, edges-counted, points-counted}
 use Rattle.pattern.proofs.Edges.{edge-faults, lists-with, records-are, rule, rule-with}
 use Rattle.pattern.proofs.Named.{back-named, front-named}
-use Rattle.pattern.specs.Checks.{Checkable, columnFaults, contentFaults, edgeFaults, listFaults, nameFaults, recordFaults, sumFaults}
-use Rattle.pattern.specs.Contents.{content}
-use Rattle.pattern.specs.declared.Pattern.{Pattern}
+use Rattle.pattern.specs.Checks.{contentFaults, edgeFaults, nameFaults, recordFaults, sumFaults}
+use Rattle.pattern.specs.Contents.{Pattern, content}
 use Rattle.wire.specs.Wires.{Named}
+use Rattle.pattern.specs.Columns.{Checkable, columnFaults, listFaults}
+use Rattle.errors.specs.Sequence.{andThen}
 
 module _ (edges : ℕ) (uses wires counts shells listings : List ℕ) (ok : listFaults edges uses wires counts shells listings ≡ []) where
   abbrev names : List Refusal

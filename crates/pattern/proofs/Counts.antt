@@ -8,14 +8,15 @@ use lib.ListN.{getD, length, length-map, take}
 use lib.Seq.{length-take-le}
 use borrow.Author.Tests.{leb-true}
 use Rattle.errors.proofs.Laws.{each-record, first-append, unless-passes}
-use Rattle.errors.specs.Faults.{andThen, each, first}
+use Rattle.errors.specs.Faults.{each, first}
 use Rattle.errors.specs.declared.Refusal.{Refusal}
 use Rattle.errors.specs.declared.Refusal.the-variants.{Limit}
 use Rattle.face.specs.Faces.{wireCount}
 use Rattle.lists.proofs.Laws.{map-take}
-use Rattle.pattern.specs.Checks.{countFaults, edgeFaults, limitFaults, listFaults, nameFaults, recordFaults, sumFaults}
-use Rattle.pattern.specs.Contents.{content, layout}
-use Rattle.pattern.specs.declared.Pattern.{Pattern}
+use Rattle.pattern.specs.Checks.{countFaults, edgeFaults, limitFaults, nameFaults, recordFaults, sumFaults}
+use Rattle.pattern.specs.Contents.{Pattern, content, layout}
+use Rattle.pattern.specs.Columns.{listFaults}
+use Rattle.errors.specs.Sequence.{andThen}
 
 pub record Limited (counts : List ℕ) : Type 0 where
   pub points : getD counts 0 0 ≤ 2048

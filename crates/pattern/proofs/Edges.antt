@@ -9,7 +9,7 @@ use Rattle.edge.proofs.Laws.{noEdge}
 use Rattle.edge.specs.Edges.{backNumber, frontNumber}
 use Rattle.edge.specs.declared.Edge.{Edge}
 use Rattle.errors.proofs.Laws.{Passed, passed-start, refused-first, taken-all, taken-next, taken-stop}
-use Rattle.errors.specs.Faults.{andThen, each, first}
+use Rattle.errors.specs.Faults.{each, first}
 use Rattle.errors.specs.declared.Check.{Check}
 use Rattle.errors.specs.declared.Check.the-variants.{Accepted, Refused}
 use Rattle.errors.specs.declared.Refusal.{Refusal}
@@ -18,9 +18,10 @@ use Rattle.lists.proofs.Laws.{Column, column-next, column-start, tabulate-map}
 use Rattle.lists.specs.Lists.{split}
 use Rattle.pattern.proofs.Counts.{Full, Limited, records-first}
 use Rattle.pattern.proofs.Named.{tables-rule}
-use Rattle.pattern.specs.Checks.{contentFaults, edgeFaults, listFaults, outlines, recordFaults}
-use Rattle.pattern.specs.Contents.{content}
-use Rattle.pattern.specs.declared.Pattern.{Pattern}
+use Rattle.pattern.specs.Checks.{contentFaults, edgeFaults, outlines, recordFaults}
+use Rattle.pattern.specs.Contents.{Pattern, content}
+use Rattle.pattern.specs.Columns.{listFaults}
+use Rattle.errors.specs.Sequence.{andThen}
 
 module _ {ℓ ℓ′} {A : Type ℓ} {B : Type ℓ′} (g : A → B) (d : A) where
   -- the part of a column that is written

@@ -5,3 +5,4 @@ pub mod Passed
 pub mod Named
 pub mod Edges
 pub mod Outlines
+pub mod Stored

@@ -20,8 +20,7 @@ use Rattle.lists.specs.Lists.{split, sum, unless}
 use Rattle.pattern.proofs.Counts.{Full, Limited, uses-counted, wires-counted}
 use Rattle.pattern.proofs.Passed.{RecordsPassed, records-passed}
 use Rattle.pattern.specs.Checks.{edgeFaults, nameFaults, outlines, recordFaults}
-use Rattle.pattern.specs.Contents.{Content, content}
-use Rattle.pattern.specs.declared.Pattern.{Pattern}
+use Rattle.pattern.specs.Contents.{Content, Pattern, content}
 use Rattle.wire.specs.Wires.{Named}
 
 module _ (c : Content) (fine : each (edgeFaults (length (c .points))) 0 (c .edges) ≡ []) where

@@ -15,9 +15,8 @@ use Rattle.lists.specs.Lists.{split, sum}
 use Rattle.pattern.proofs.Counts.{Full, Limited, wires-counted}
 use Rattle.pattern.proofs.Named.{wires-summed}
 use Rattle.pattern.specs.Checks.{patternFaults, recordFaults}
-use Rattle.pattern.specs.Contents.{Content, content}
+use Rattle.pattern.specs.Contents.{Content, Pattern, content}
 use Rattle.pattern.specs.Outlines.{placeOf, wirePlace}
-use Rattle.pattern.specs.declared.Pattern.{Pattern}
 use Rattle.errors.specs.declared.Check.the-variants.{Refused as Check·Refused}
 use Rattle.pattern.specs.declared.WirePlace.the-variants.{At, NoWire, Refused}
 use Rattle.wire.specs.Wires.{outlineOf}

@@ -8,8 +8,7 @@ use Rattle.errors.specs.Faults.{each}
 use Rattle.errors.specs.declared.Refusal.{Refusal}
 use Rattle.face.specs.Faces.{faceRule, wireCount}
 use Rattle.pattern.specs.Checks.{contentFaults, countFaults, edgeFaults, nameFaults, outlines, patternFaults, recordFaults, sumFaults}
-use Rattle.pattern.specs.Contents.{Content, content}
-use Rattle.pattern.specs.declared.Pattern.{Pattern}
+use Rattle.pattern.specs.Contents.{Content, Pattern, content}
 
 -- the checks of a stored pattern
 pub record PatternPassed (p : Pattern) : Type 0 where

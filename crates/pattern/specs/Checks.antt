@@ -1,5 +1,5 @@
 -- The reading checks, in sequence, from the counts on.
-use Prim.Native.Nat.{ℕ, _%_, _<_, _≤_}
+use Prim.Native.Nat.{ℕ, _%_}
 use mathlib.Core.Bool.{not, _&&_}
 use mathlib.Core.List.{List, _++_, map}
 use lib.Dec.{eqb, leb, ltb}
@@ -11,8 +11,7 @@ use Rattle.errors.specs.Faults.{each}
 use Rattle.edge.specs.declared.Edge.{Edge}
 use Rattle.edge.specs.Edges.{backNumber, frontNumber, isSpan}
 use Rattle.face.specs.Faces.{faceRule, wireCount}
-use Rattle.pattern.specs.declared.Pattern.{Pattern}
-use Rattle.pattern.specs.Contents.{Content, content, layout}
+use Rattle.pattern.specs.Contents.{Content, Pattern, content, layout}
 
 -- counts in body order (2)
 abbrev pub limitFaults : ℕ → ℕ → List Refusal
@@ -44,35 +43,6 @@ recordFaults c =
     ++ sumFaults 4 (map wireCount (c .faces)) (length (c .wires))
     ++ sumFaults 5 (c .shells) (length (c .listings))
     ++ each (nameFaults 6 (length (c .faces))) 0 (c .listings)
-
--- the records after the edges, of which there are so many; the faces are given by their numbers of wires
-abbrev pub listFaults : ℕ → List ℕ → List ℕ → List ℕ → List ℕ → List ℕ → List Refusal
-listFaults edges uses wires counts shells listings =
-    each (nameFaults 2 edges) 0 uses
-    ++ sumFaults 3 wires (length uses)
-    ++ sumFaults 4 counts (length wires)
-    ++ sumFaults 5 shells (length listings)
-    ++ each (nameFaults 6 (length counts)) 0 listings
-
--- the same with the face rule; the edges are given by their ends
-abbrev pub columnFaults : List ℕ → List ℕ → List ℕ → List ℕ → List ℕ → List ℕ → List ℕ → List Refusal
-columnFaults fronts backs uses wires counts shells listings =
-    listFaults (length fronts) uses wires counts shells listings ++ faceRule fronts backs 0 (split counts (split wires uses))
-
--- columns with so many numbers, of edges that name points
-pub record Checkable (counts fronts backs uses wires faces shells listings : List ℕ) : Type 0 where
-  pub fronts-long : getD counts 1 0 ≤ length fronts
-  pub backs-long : getD counts 1 0 ≤ length backs
-  pub uses-long : getD counts 2 0 ≤ length uses
-  pub wires-long : getD counts 3 0 ≤ length wires
-  pub wires-few : getD counts 3 0 ≤ 1024
-  pub faces-long : getD counts 4 0 ≤ length faces
-  pub faces-few : getD counts 4 0 ≤ 256
-  pub shells-long : getD counts 5 0 ≤ length shells
-  pub shells-few : getD counts 5 0 ≤ 16
-  pub listings-long : getD counts 6 0 ≤ length listings
-  pub front-named : (e : ℕ) → e < getD counts 1 0 → getD fronts e 0 < 2048
-  pub back-named : (e : ℕ) → e < getD counts 1 0 → getD backs e 0 < 2048
 
 -- the outlines of each face
 abbrev pub outlines : Content → List (List (List ℕ))

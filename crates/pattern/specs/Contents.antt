@@ -3,12 +3,16 @@ use Prim.Native.Nat.{ℕ}
 use mathlib.Core.List.{List, [], _∷_}
 use lib.Ieee.{binary64, ofBits}
 use lib.ListN.{getD, length, take}
+use lib.Seq.{sets}
 use Rattle.edge.specs.Edges.{edge}
 use Rattle.edge.specs.declared.Edge.{Edge}
 use Rattle.face.specs.declared.Face.{Face}
 use Rattle.lists.specs.Lists.{padded}
 use Rattle.pattern.specs.declared.Layout.{Layout}
-use Rattle.pattern.specs.declared.Pattern.{Pattern}
+
+-- how many bodies there are
+abbrev pub bodies : ℕ
+bodies = 7
 
 -- the first offset of a file, and for each body the bytes of a record and the limit
 abbrev pub layout : Layout
@@ -33,7 +37,18 @@ pub record Content : Type 0 where
 abbrev pub countsOf : Content → List ℕ
 countsOf c = length (c .points) ∷ length (c .edges) ∷ length (c .uses) ∷ length (c .wires) ∷ length (c .faces) ∷ length (c .shells) ∷ length (c .listings) ∷ []
 
--- a stored pattern means the first records of each body
+-- a pattern in storage: every table in full, and how many records of each count
+pub record Pattern : Type 0 where
+  pub counts : List ℕ
+  pub points : List ℕ
+  pub edges : List Edge
+  pub uses : List ℕ
+  pub wires : List ℕ
+  pub faces : List Face
+  pub shells : List ℕ
+  pub listings : List ℕ
+
+-- it means the first records of each body
 abbrev pub content : Pattern → Content
 content p = record {
   points = take (getD (p .counts) 0 0) (p .points);
@@ -52,6 +67,7 @@ zeroEdge = edge (record { 0 = 0 }) (record { 0 = 0 }) (record { t0 = ofBits bina
 abbrev pub zeroFace : Face
 zeroFace = record { wires = 0; surface = 0 }
 
+-- a content in storage that holds nothing else
 abbrev pub stored : Content → Pattern
 stored c = record {
   counts = countsOf c;
@@ -62,4 +78,17 @@ stored c = record {
   faces = padded 256 zeroFace (c .faces);
   shells = padded 16 0 (c .shells);
   listings = padded 512 0 (c .listings);
+}
+
+-- a content in the storage of p: places past a count keep what they held
+abbrev pub storedIn : Pattern → Content → Pattern
+storedIn p c = record {
+  counts = countsOf c;
+  points = sets (p .points) 0 (c .points);
+  edges = sets (p .edges) 0 (c .edges);
+  uses = sets (p .uses) 0 (c .uses);
+  wires = sets (p .wires) 0 (c .wires);
+  faces = sets (p .faces) 0 (c .faces);
+  shells = sets (p .shells) 0 (c .shells);
+  listings = sets (p .listings) 0 (c .listings);
 }

@@ -1,3 +1,4 @@
 pub mod Contents
 pub mod Checks
 pub mod Outlines
+pub mod Columns

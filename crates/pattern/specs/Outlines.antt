@@ -6,8 +6,7 @@ use lib.ListN.{getD, length, take}
 use Rattle.errors.specs.declared.Refusal.{Refusal}
 use Rattle.lists.specs.Lists.{pick, sum}
 use Rattle.pattern.specs.Checks.{patternFaults}
-use Rattle.pattern.specs.Contents.{Content, content}
-use Rattle.pattern.specs.declared.Pattern.{Pattern}
+use Rattle.pattern.specs.Contents.{Content, Pattern, content}
 use Rattle.pattern.specs.declared.WirePlace.{WirePlace}
 use Rattle.pattern.specs.declared.WirePlace.the-variants.{At, NoWire, Refused}
 

@@ -1,29 +1,36 @@
 // The pattern in storage, and the reading checks from the counts on.
 ghost use mathlib.Core.Path.{_≡_};
-ghost use mathlib.Core.List.{[]};
 ghost use Prim.Native.Nat.{_+_, _<_, _≤_};
 ghost use lib.ListN.{length, getD, take};
 ghost use Rattle.lists.specs.Lists.{split, sum};
 ghost use Rattle.errors.specs.Faults.{first as firstFault, each};
 ghost use Rattle.wire.specs.Wires.{Named};
 ghost use Rattle.face.specs.Faces.{faceRule};
-ghost use Rattle.pattern.specs.Contents.{layout, content};
-ghost use Rattle.pattern.specs.Checks.{Checkable, countFaults, edgeFaults, nameFaults, sumFaults, listFaults, columnFaults, contentFaults, patternFaults};
-ghost use Rattle.pattern.specs.Outlines.{wirePlace};
+ghost use Rattle.pattern.specs.Contents.{layout};
+ghost use Rattle.pattern.specs.Checks.{countFaults, edgeFaults, nameFaults, sumFaults};
+ghost use Rattle.pattern.specs.Columns.{Checkable, columnFaults, listFaults};
 use edge::Edge;
 use errors::Check;
 use errors::Refusal;
-use face::Face;
 use face::check_faces;
-use face::wire_counts;
 use words::index;
 use words::sum_of;
+
+// How many bodies a file has, and how many bytes the longest file.
+pub const BODIES: usize = 7;
+
+pub const LONGEST: usize = 41048;
+
+// How many records each body has; where each begins, and where the file ends.
+pub type Counts = [usize; BODIES];
+
+pub type Starts = [usize; BODIES + 1];
 
 // The layout of a file: the first offset, and for each body the bytes of a record and the limit.
 pub struct Layout {
     pub first: usize,
-    pub sizes: [usize; 7],
-    pub limits: [usize; 7],
+    pub sizes: Counts,
+    pub limits: Counts,
 }
 
 pub fn file_layout() -> Layout
@@ -36,26 +43,13 @@ pub fn file_layout() -> Layout
     }
 }
 
-// A pattern with its tables in full. Of each body the first `counts` records count.
-#[repr(C)]
-pub struct Pattern {
-    pub counts: [usize; 7],
-    pub points: [u32; 2048],
-    pub edges: [Edge; 1024],
-    pub uses: [u16; 4096],
-    pub wires: [u16; 1024],
-    pub faces: [Face; 256],
-    pub shells: [u16; 16],
-    pub listings: [u16; 512],
-}
-
 // Counts in body order: 2.
-pub fn check_counts(counts: [usize; 7]) -> Check
+pub fn check_counts(counts: Counts) -> Check
     ensures { λ r. ⌜ r ≡ firstFault (countFaults counts) ⌝ }
 {
     let lay = file_layout();
     let mut b: usize = 0;
-    while b < 7 {
+    while b < BODIES {
         if counts[b] > lay.limits[b] {
             return Check::Refused(Refusal::Limit(b));
         }
@@ -168,7 +162,7 @@ fn check_tables<'a>(
 // The reading checks after those of the edges, on columns: the other records, the face rule. Of each
 // column the first numbers count; `faces` has the faces' numbers of wires.
 pub fn check_columns<'a>(
-    counts: [usize; 7],
+    counts: Counts,
     fronts: &'a [u16],
     backs: &'a [u16],
     uses: &'a [u16],
@@ -215,79 +209,10 @@ pub fn check_columns<'a>(
     }
 }
 
-// The reading checks after the counts: edges, other records, the face rule. The edges are read in
-// place, and their ends kept.
-pub fn check_content(p: Pattern) -> Check
-    requires { ⌜ countFaults (p .counts) ≡ [] ⌝ }
-    ensures { λ r. ⌜ r ≡ firstFault (contentFaults (content p)) ⌝ }
-{
-    let mut fronts = [0u16; 1024];
-    let mut backs = [0u16; 1024];
-    let points = p.counts[0];
-    let ecount = p.counts[1];
-    let mut k: usize = 0;
-    while k < ecount {
-        let e = p.edges[k];
-        let answer = check_edge(e, k, points);
-        match answer {
-            Check::Refused(f) => {
-                return Check::Refused(f);
-            }
-            Check::Accepted => {}
-        }
-        fronts[k] = e.front.0;
-        backs[k] = e.back.0;
-        k += 1;
-    }
-    let counts = p.counts;
-    let faces = p.faces;
-    let wire_numbers = wire_counts(faces);
-    check_columns(
-        counts,
-        &fronts,
-        &backs,
-        &p.uses,
-        &p.wires,
-        &wire_numbers,
-        &p.shells,
-        &p.listings,
-    )
-}
-
-// The reading checks of a pattern in storage, which every call on a pattern makes first.
-pub fn check(p: Pattern) -> Check
-    ensures { λ r. ⌜ r ≡ firstFault (patternFaults p) ⌝ }
-{
-    let counts = p.counts;
-    let answer = check_counts(counts);
-    match answer {
-        Check::Refused(f) => Check::Refused(f),
-        Check::Accepted => check_content(p),
-    }
-}
-
 // Where the uses of a wire stand in the use list: their start and their number; or the refusal of
 // the reading checks; or no such wire (3).
 pub enum WirePlace {
     At(usize, usize),
     Refused(Refusal),
     NoWire,
-}
-
-// The place of an outline: `wire::outline` hands back that part of the use list.
-pub fn wire_place(p: Pattern, w: usize) -> WirePlace
-    ensures { λ r. ⌜ r ≡ wirePlace p w ⌝ }
-{
-    let answer = check(p);
-    match answer {
-        Check::Refused(f) => {
-            return WirePlace::Refused(f);
-        }
-        Check::Accepted => {}
-    }
-    let wires = p.counts[3];
-    if w >= wires {
-        return WirePlace::NoWire;
-    }
-    WirePlace::At(sum_of(&p.wires, w), index(p.wires[w]))
 }

@@ -13,7 +13,7 @@ use Rattle.errors.specs.Faults.{each}
 use Rattle.edge.specs.declared.Edge.{Edge}
 use Rattle.edge.specs.Edges.{edge}
 use Rattle.face.specs.declared.Face.{Face}
-use Rattle.pattern.specs.Contents.{Content, countsOf, layout}
+use Rattle.pattern.specs.Contents.{Content, bodies, countsOf, layout}
 use Rattle.pattern.specs.Checks.{contentFaults, countFaults}
 
 -- ---- layout
@@ -24,7 +24,7 @@ bodyLengths [] ns = []
 bodyLengths (size ∷ sizes) [] = []
 bodyLengths (size ∷ sizes) (n ∷ ns) = size * n ∷ bodyLengths sizes ns
 
--- where body b begins in a file with these counts; for b = 7, where the file ends
+-- where body b begins in a file with these counts; for the number of bodies, where the file ends
 unfoldable pub startOf : List ℕ → ℕ → ℕ
 startOf counts b = layout .first + sum (take b (bodyLengths (layout .sizes) counts))
 
@@ -38,7 +38,7 @@ abbrev pub countAt : List ℕ → ℕ → ℕ
 countAt s b = le32 s (8 * b + 4)
 
 abbrev pub fileCounts : List ℕ → List ℕ
-fileCounts s = tabulate 7 (countAt s)
+fileCounts s = tabulate bodies (countAt s)
 
 abbrev pub edgeAt : List ℕ → ℕ → Edge
 edgeAt s at = edge (record { 0 = le16 s at }) (record { 0 = le16 s (at + 2) }) (record { t0 = ofBits binary64 (le64 s (at + 4)); t1 = ofBits binary64 (le64 s (at + 12)) })
@@ -63,13 +63,13 @@ fileContent s = record {
 
 -- length under 56 or over 41,048 (1, body 0)
 abbrev pub lengthFaults : List ℕ → List Refusal
-lengthFaults s = unless (leb (layout .first) (length s) && leb (length s) (startOf (layout .limits) 7)) (Layout 0)
+lengthFaults s = unless (leb (layout .first) (length s) && leb (length s) (startOf (layout .limits) bodies)) (Layout 0)
 
 -- offsets in body order (1), then the end of file (1, body 6)
 abbrev pub offsetFaults : List ℕ → List Refusal
 offsetFaults s =
-    each (λ (b : ℕ) (offset : ℕ). unless (eqb offset (startOf (fileCounts s) b)) (Layout b)) 0 (tabulate 7 (offsetAt s))
-    ++ unless (eqb (length s) (startOf (fileCounts s) 7)) (Layout 6)
+    each (λ (b : ℕ) (offset : ℕ). unless (eqb offset (startOf (fileCounts s) b)) (Layout b)) 0 (tabulate bodies (offsetAt s))
+    ++ unless (eqb (length s) (startOf (fileCounts s) bodies)) (Layout 6)
 
 abbrev pub tableFaults : List ℕ → List Refusal
 tableFaults s = lengthFaults s ++ countFaults (fileCounts s) ++ offsetFaults s
@@ -86,7 +86,7 @@ abbrev pub faceBytes : Face → List ℕ
 faceBytes f = bytes16 (f .wires) ++ bytes16 (f .surface)
 
 abbrev pub tableBytes : List ℕ → List ℕ
-tableBytes counts = flat (tabulate 7 (λ (b : ℕ). bytes32 (startOf counts b) ++ bytes32 (getD counts b 0)))
+tableBytes counts = flat (tabulate bodies (λ (b : ℕ). bytes32 (startOf counts b) ++ bytes32 (getD counts b 0)))
 
 -- the file of a pattern
 abbrev pub fileBytes : Content → List ℕ

@@ -11,8 +11,8 @@ use lib.ListN.{List·getD-eq-default, getD, length}
 use borrow.Author.Tests.{le-leb, le-ltb, lt-leb, lt-ltb, ltb-true, ltb-false}
 use Rattle.concat.specs.Joins.{joint}
 use Rattle.concat.specs.declared.Joint.the-variants.{Not as Joint·Not, Whole}
-use Rattle.corners.specs.Corners.{fit}
-use Rattle.corners.specs.declared.Corner.{Corner}
+use Rattle.remove_vertex_corners.specs.Corners.{fit}
+use Rattle.remove_vertex_corners.specs.declared.Corner.{Corner}
 use Rattle.edge.specs.declared.Edge.{Edge}
 use Rattle.edit_answers.specs.declared.EditError.{EditError}
 use Rattle.edit_answers.specs.declared.EditError.the-variants.{NotOneOrTwoWires, SharedFace, Unmatched, Unnamed}
@@ -21,9 +21,9 @@ use Rattle.lists.proofs.Laws.{cases}
 use Rattle.lists.proofs.Parts.{all-place}
 use Rattle.lists.specs.Lists.{has, only, unless}
 use Rattle.pattern.specs.Contents.{Content}
-use Rattle.corners.specs.Endings.{endingOf, endsAt}
+use Rattle.remove_vertex_corners.specs.Endings.{endingOf, endsAt}
 use Rattle.remove_vertex.specs.Removals.{OfEdges, nearFaults, pairing, removal}
-use Rattle.corners.specs.declared.Ending.{Ending}
+use Rattle.remove_vertex_corners.specs.declared.Ending.{Ending}
 use Rattle.remove_vertex.specs.declared.Pairing.{Pairing}
 use Rattle.remove_vertex.specs.declared.Pairing.the-variants.{Found, Not as Pair·Not}
 use Rattle.remove_vertex.specs.declared.Removal.the-variants.{Joins, Not}

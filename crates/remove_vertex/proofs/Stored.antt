@@ -1,20 +1,28 @@
 -- What the reading checks say of the tables; the storage after a removal.
-use Prim.Native.Nat.{_+_, _<_, _≤_, suc, ℕ}
-use mathlib.Core.Bool.{_&&_, _||_, false, not, true≢false}
-use mathlib.Core.List.{List, [], _++_, _∷_, map}
-use mathlib.Core.Path.{_∙_, _≡_, ap, sym}
+use native.Mathlib.Nat.{sub-zero}
 use native.Mathlib.Omega.{arith}
+use Prim.Native.Nat.{_+_, _-_, _<_, suc, ℕ, _≤_}
 use lib.Dec.{eqb, leb, ltb}
-use lib.ListN.{getD, length, length-map, set, take}
+use lib.Ieee.{Float}
+use lib.ListN.{getD, length, length-map, length-replicate, replicate, set, take}
 use lib.Seq.{sets}
-use Rattle.concat.proofs.Judged.{edge-read, joined-is, joins-are, room-there}
+use mathlib.Core.Bool.{_&&_, false, not, true≢false, _||_}
+use mathlib.Core.List.{_++_, [], List, map, _∷_}
+use mathlib.Core.Path.{ap, refl, sym, _∙_, _≡_}
+use Rattle.concat.proofs.Judged.{joined-is, joins-are, room-there}
 use Rattle.concat.specs.Joins.{appended, endFaults, joinedEnds}
-use Rattle.edge.proofs.Laws.{noEdge}
+use Rattle.remove_vertex_corners.proofs.Places.{part-long}
+use Rattle.remove_vertex_corners.proofs.Wires.{length-each}
+use Rattle.remove_vertex_corners.specs.Corners.{fit, removedWire}
+use Rattle.remove_vertex_corners.specs.Endings.{endingOf, endsAt}
+use Rattle.remove_vertex_corners.specs.Tables.{TwoUses, WireTables}
+use Rattle.remove_vertex_corners.specs.declared.Corner.{Corner}
+use Rattle.remove_vertex_corners.specs.declared.Ending.{Ending}
+use Rattle.edge.specs.Edges.{backNumber, frontNumber}
+use Rattle.edge.specs.Uses.{backOf, frontOf}
+use Rattle.edge.specs.declared.Edge.{Edge}
 use Rattle.edit_answers.specs.declared.EditError.{EditError}
 use Rattle.edit_answers.specs.declared.EditError.the-variants.{NotOneOrTwoWires, SharedFace, Unmatched, Unnamed}
-use Rattle.edge.specs.Edges.{backNumber, frontNumber}
-use Rattle.edge.specs.Uses.{backOf, edgeNumber, frontOf}
-use Rattle.edge.specs.declared.Edge.{Edge}
 use Rattle.errors.proofs.Laws.{none-left, none-right}
 use Rattle.errors.specs.Faults.{each}
 use Rattle.face.proofs.Laws.{none-mapped}
@@ -22,34 +30,30 @@ use Rattle.face.specs.Faces.{faceFaults, faceRule, outlineFaults, sharedFaults,
 use Rattle.lists.proofs.Count.{All, all-each, all-split}
 use Rattle.lists.proofs.Laws.{eqb-sym, length-split, map-take}
 use Rattle.lists.proofs.Parts.{all-flat, all-place, flat-split}
+use Rattle.lists.proofs.Sets.{take-sets}
 use Rattle.lists.specs.Lists.{flat, only, split, unless}
 use Rattle.pattern.proofs.Counts.{edges-counted, points-counted, shells-counted, wires-counted}
 use Rattle.pattern.proofs.Named.{ends-apart, faces-summed, use-named, wires-summed}
 use Rattle.pattern.proofs.Passed.{content-passed, pattern-passed}
-use Rattle.pattern.specs.Checks.{contentFaults, outlines, recordFaults}
-use Rattle.pattern.specs.Contents.{Content, content}
-use Rattle.pattern.specs.declared.Pattern.{Pattern}
-use Rattle.corners.specs.Tables.{Paired, Tables}
-use Rattle.corners.specs.Corners.{fit, removedWire}
-use Rattle.corners.specs.Endings.{endingOf, endsAt}
-use Rattle.corners.specs.declared.Corner.{Corner}
+use Rattle.pattern.specs.Checks.{contentFaults, outlines, patternFaults, recordFaults}
+use Rattle.pattern.specs.Contents.{Content, Pattern, content}
+use Rattle.shell.specs.Shells.{listingsOf}
+use Rattle.shell_edits.proofs.Storage.{seven-are}
+use Rattle.shell_edits.specs.Edits.{eachWire, edgeOf, endingWires, endUse, firstWire, joinedEdge, joinFaults, lastWire, listedWires, matched, nextUse, removeFaults, sharesFace, wiresIn, wiresOf}
+use Rattle.shell_wires.proofs.Facts.{Fine, stored-edited}
+use Rattle.shell_wires.proofs.Made.{ends-named, ends-room, lent-fine, uses-room, wires-room}
+use Rattle.shell_wires.specs.Lent.{Lent}
+use Rattle.store.proofs.View.{held-backs, held-fronts, held-full, held-seven, held-wire-counts}
+use Rattle.store.specs.Store.{countTable, held, listingTable, shellTable, useTable, wireTable}
+use Rattle.wire.proofs.Laws.{faultless-sound}
+use Rattle.wire.specs.Wires.{closed, points, runs, wireFaults}
 use Rattle.remove_vertex.proofs.Removals.{ending-inside, pairing-found, pairing-not}
-use Rattle.remove_vertex.specs.Removals.{cornerIn, cornerLent, nearFaults, pairEdge, pairStored, pairWires, pairing, removal}
+use Rattle.remove_vertex.specs.Removals.{cornerIn, cornerLent, nearFaults, pairEdge, pairing, pairStored, pairWires, removal, removedIn}
 use Rattle.remove_vertex.specs.declared.Pairing.{Pairing}
 use Rattle.remove_vertex.specs.declared.Pairing.the-variants.{Found, Not as Pair·Not}
 use Rattle.remove_vertex.specs.declared.Removal.{Removal}
 use Rattle.remove_vertex.specs.declared.Removal.the-variants.{Not}
-use Rattle.corners.specs.declared.Ending.{Ending}
-use Rattle.corners.proofs.Wires.{length-each}
-use Rattle.shell.specs.Shells.{listingsOf}
-use Rattle.shell_edits.proofs.Storage.{seven-are}
-use Rattle.shell_edits.specs.Edits.{eachWire, edgeOf, endUse, endingWires, firstWire, joinFaults, joinedEdge, lastWire, listedWires, matched, nextUse, removeFaults, sharesFace, wiresIn, wiresOf}
-use Rattle.shell_wires.proofs.Facts.{Fine, stored-edited}
-use Rattle.shell_wires.proofs.Made.{ends-named, ends-room, lent-fine, uses-room, wires-room}
-use Rattle.shell_wires.specs.Lent.{Lent}
-use Rattle.wire.proofs.Laws.{faultless-sound}
-use Rattle.wire.specs.Wires.{closed, points, runs, wireFaults}
-use Rattle.corners.proofs.Places.{part-long}
+use Rattle.store.specs.Columns.{backTable, faceTable, frontTable, withCounts, withUses, withWires}
 
 -- ---- every wire has two uses or more
 module _ (fronts backs : List ℕ) where
@@ -94,7 +98,7 @@ module _ (c : Content) (ok : contentFaults c ≡ []) where
   records : recordFaults c ≡ []
   records = content-passed c ok .records
 
-  pub wires-paired : Paired (c .wires)
+  wires-paired : TwoUses (c .wires)
   wires-paired w h =
       let xs = split (c .wires) (c .uses) in
       let counts = map wireCount (c .faces) in
@@ -121,7 +125,7 @@ module _ (p : Pattern) (counts fronts backs uses wires faces shells listings : L
   content-fine : contentFaults (content p) ≡ []
   content-fine = pattern-passed p (s .ok) .content
 
-  pub tables : Tables uses (getD counts 2 0) wires (getD counts 3 0) fronts backs (getD counts 1 0)
+  pub tables : WireTables uses (getD counts 2 0) wires (getD counts 3 0) fronts backs (getD counts 1 0)
   tables = record {
     uses-in = uses-room p counts fronts backs uses wires faces shells listings l .1;
     few-uses = uses-room p counts fronts backs uses wires faces shells listings l .0;
@@ -209,34 +213,67 @@ module _ (p : Pattern) (counts fronts backs uses wires faces shells listings : L
       ∙ ap (λ (x : Corner). removal (joinFaults c (x .ending) (x .next)) (joinedEdge c (x .ending) (x .next)) g) (parts .2)
       ∙ ap (λ (es : List EditError). removal (es ++ joinFaults c (endUse c v (g .last)) (nextUse c v (g .last))) (pairEdge c v g) g) (sym (parts .0))
 
-module _ (p : Pattern) (s : Fine p) where
-  -- an edge as the code reads it
-  pub edge-is : (u i : ℕ) → i ≡ edgeNumber u → edgeNumber u < getD (p .counts) 1 0 → getD (p .edges) i noEdge ≡ edgeOf (content p) u
-  edge-is u i e h = rw e (edge-read (p .edges) (getD (p .counts) 1 0) (edgeNumber u) (omega (arith, s .limits .edges, s .full .edges)) h)
+module _ (p : Pattern) (s : Fine p) (v : ℕ) (e : Ending) where
+  abbrev made : List (List ℕ)
+  made = pairWires (content p) v e
 
-  pub pairs-long : (v : ℕ) (e : Ending) → length (map length (pairWires (content p) v e)) ≡ getD (p .counts) 3 0
-  pairs-long v e =
-      length-map (pairWires (content p) v e) length
+  pairs-long : length (map length made) ≡ getD (p .counts) 3 0
+  pairs-long =
+      length-map made length
       ∙ length-each (removedWire (map frontNumber (content p .edges)) (map backNumber (content p .edges)) v e (length (content p .edges))) 0 (wiresIn (content p))
       ∙ length-split (content p .wires) (content p .uses) ∙ wires-counted p (s .limits) (s .full)
 
   -- the storage
-  pub stored-pair : (v : ℕ) (e : Ending) (d : Edge) {used : ℕ} {out lens : List ℕ} (q : Pattern) (xss : List (List ℕ)) → xss ≡ pairWires (content p) v e → q ≡ appended p d
-      → out ≡ sets (p .uses) 0 (flat xss) → lens ≡ sets (p .wires) 0 (map length xss) → used ≡ length (flat xss)
-      → record { counts = set (q .counts) 2 used; points = q .points; edges = q .edges; uses = out; wires = lens; faces = q .faces; shells = q .shells; listings = q .listings } ≡ pairStored p v e d
-  stored-pair v e d {used} {out} {lens} q xss ex eq fo fl fu =
-      let ws = pairWires (content p) v e in
-      let eo : out ≡ sets (p .uses) 0 (flat ws) = rw ex at fo in
-      let el : lens ≡ sets (p .wires) 0 (map length ws) = rw ex at fl in
-      let eu : used ≡ length (flat ws) = rw ex at fu in
+  stored-pair : (d : Edge) (used : ℕ) (us ws : List ℕ) (p₁ p₂ p₃ p₄ : Pattern) → used ≡ length (flat made) → us ≡ flat made → ws ≡ map length made
+      → p₁ ≡ appended p d → p₂ ≡ withUses p₁ (sets (p₁ .uses) 0 us) → p₃ ≡ withWires p₂ (sets (p₂ .wires) 0 ws) → p₄ ≡ withCounts p₃ (set (p₃ .counts) 2 used)
+      → p₄ ≡ pairStored p v e d
+  stored-pair d used us ws p₁ p₂ p₃ p₄ eu eo el x₁ x₂ x₃ x₄ =
       let counts = p .counts in
-      let same : set (set counts 1 (getD counts 1 0 + 1)) 2 used ≡ set (set (set counts 1 (getD counts 1 0 + 1)) 2 (length (flat ws))) 3 (length (map length ws)) =
-      rw (pairs-long v e, ← eu) (third counts (getD counts 1 0 + 1) used (s .seven)) in
-      rw (eq, eo, el, same) (sym (stored-edited p s (d ∷ []) (flat ws) (map length ws)))
+      let same : set (set counts 1 (getD counts 1 0 + 1)) 2 used ≡ set (set (set counts 1 (getD counts 1 0 + 1)) 2 (length (flat made))) 3 (length (map length made)) =
+      rw (pairs-long, ← eu) (third counts (getD counts 1 0 + 1) used (s .seven)) in
+      x₄ ∙ rw (x₃, x₂, x₁, eo, el, same) (sym (stored-edited p s (d ∷ []) (flat made) (map length made)))
     where
       third : (ns : List ℕ) (a b : ℕ) → length ns ≡ 7 → set (set ns 1 a) 2 b ≡ set (set (set ns 1 a) 2 b) 3 (getD ns 3 0)
       third ns a b l =
           ap (λ (ms : List ℕ). set (set ms 1 a) 2 b) (sym (seven-are ns l)) ∙ ap (λ (ms : List ℕ). set (set (set ms 1 a) 2 b) 3 (getD ns 3 0)) (seven-are ns l)
+
+  -- the same, where the uses and the wires are the first of two arrays of zeros that were written to
+  pub stored-written : (xss : List (List ℕ)) → xss ≡ made → (d : Edge) (used wired : ℕ) (uses wires : List ℕ) (p₁ p₂ p₃ p₄ : Pattern)
+      → used ≡ length (flat xss) → used ≤ 4096 → wired ≡ getD (p .counts) 3 0 → uses ≡ sets (replicate 4096 0) 0 (flat xss) → wires ≡ sets (replicate 1024 0) 0 (map length xss)
+      → p₁ ≡ appended p d → p₂ ≡ withUses p₁ (sets (p₁ .uses) 0 (take (used - 0) uses)) → p₃ ≡ withWires p₂ (sets (p₂ .wires) 0 (take (wired - 0) wires)) → p₄ ≡ withCounts p₃ (set (p₃ .counts) 2 used)
+      → p₄ ≡ pairStored p v e d
+  stored-written xss ex d used wired uses wires p₁ p₂ p₃ p₄ fu few fw fo fl x₁ x₂ x₃ x₄ =
+      let eu : used ≡ length (flat made) = rw ex at fu in
+      let eo : uses ≡ sets (replicate 4096 0) 0 (flat made) = rw ex at fo in
+      let el : wires ≡ sets (replicate 1024 0) 0 (map length made) = rw ex at fl in
+      let us : take (used - 0) uses ≡ flat made = rw (sub-zero used, eo) (take-sets (replicate 4096 0) (flat made) used (sym eu) (omega (arith, length-replicate {A = ℕ} 4096 0))) in
+      let ws : take (wired - 0) wires ≡ map length made = rw (sub-zero wired, el) (take-sets (replicate 1024 0) (map length made) wired (pairs-long ∙ sym fw) (omega (arith, s .limits .wires, length-replicate {A = ℕ} 1024 0))) in
+      stored-pair d used _ _ p₁ p₂ p₃ p₄ eu us ws x₁ x₂ x₃ x₄
+
+-- ---- the tables of a store that holds a pattern without fault
+module _ (t : List ℕ) (spans : List Float) (long : length t ≡ 12312) (ok : patternFaults (held t spans) ≡ []) where
+  pub held-lent : Lent (held t spans) (countTable t) (frontTable t) (backTable t) (useTable t) (wireTable t) (faceTable t) (shellTable t) (listingTable t)
+  held-lent = record {
+    listed = record {
+      ok = ok;
+      seven = held-seven t spans long;
+      full = held-full t spans long;
+      counts-are = refl;
+      faces-are = held-wire-counts t spans long;
+      shells-are = refl;
+      listings-are = refl;
+    };
+    fronts-are = held-fronts t spans long;
+    backs-are = held-backs t spans long;
+    uses-are = refl;
+    wires-are = refl;
+  }
+
+  pub held-tables : WireTables (useTable t) (getD (countTable t) 2 0) (wireTable t) (getD (countTable t) 3 0) (frontTable t) (backTable t) (getD (countTable t) 1 0)
+  held-tables = tables (held t spans) (countTable t) (frontTable t) (backTable t) (useTable t) (wireTable t) (faceTable t) (shellTable t) (listingTable t) held-lent
+
+  pub held-removed : (v : ℕ) (e : Ending) → removedIn t v e ≡ pairWires (content (held t spans)) v e
+  held-removed = pairs-are (held t spans) (countTable t) (frontTable t) (backTable t) (useTable t) (wireTable t) (faceTable t) (shellTable t) (listingTable t) held-lent
 
 -- where nothing is refused, there is room
 pub removal-room : (c : Content) (n v : ℕ) → removeFaults c n v ≡ [] → length (c .edges) < 1024

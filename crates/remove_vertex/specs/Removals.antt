@@ -2,7 +2,7 @@
 use Prim.Native.Nat.{_<_, ℕ}
 use mathlib.Core.List.{List, [], map, _∷_, _++_}
 use lib.ListN.{getD, length, take}
-use Rattle.corners.specs.declared.Ending.{Ending}
+use Rattle.remove_vertex_corners.specs.declared.Ending.{Ending}
 use mathlib.Core.Bool.{_&&_, _||_, not}
 use mathlib.Core.Path.{_≡_}
 use lib.Dec.{leb, ltb}
@@ -10,18 +10,18 @@ use Rattle.lists.specs.Lists.{flat, split, unless}
 use Rattle.edge.specs.Edges.{backNumber, frontNumber}
 use Rattle.edge.specs.Uses.{edgeNumber}
 use Rattle.edge.specs.declared.Edge.{Edge}
-use Rattle.pattern.specs.Contents.{Content, content}
-use Rattle.pattern.specs.declared.Pattern.{Pattern}
+use Rattle.pattern.specs.Contents.{Content, Pattern, content, storedIn}
 use Rattle.edit_answers.specs.declared.EditError.{EditError}
 use Rattle.edit_answers.specs.declared.EditError.the-variants.{NotOneOrTwoWires, SharedFace, Unmatched, Unnamed}
-use Rattle.shell_edits.specs.Answers.{storedIn}
 use Rattle.shell_edits.specs.Edits.{eachWire, edited, endUse, endingWires, firstWire, joinedEdge, lastWire, matched, nextUse, sharesFace, wiresIn}
-use Rattle.corners.specs.Corners.{cornerOf, removedWire}
-use Rattle.corners.specs.declared.Corner.{Corner}
+use Rattle.remove_vertex_corners.specs.Corners.{cornerOf, removedWire}
+use Rattle.remove_vertex_corners.specs.declared.Corner.{Corner}
+use Rattle.store.specs.Store.{countTable, useTable, wireTable}
 use Rattle.remove_vertex.specs.declared.Pairing.{Pairing}
 use Rattle.remove_vertex.specs.declared.Pairing.the-variants.{Found, Not}
 use Rattle.remove_vertex.specs.declared.Removal.{Removal}
 use Rattle.remove_vertex.specs.declared.Removal.the-variants.{Joins, Not as Rmv·Not}
+use Rattle.store.specs.Columns.{backTable, frontTable}
 
 -- the refusals before the edges are joined: 3, 27, 23, 24
 abbrev pub nearFaults : Content → ℕ → ℕ → List EditError
@@ -67,3 +67,9 @@ pairWires c v e = eachWire (removedWire (map frontNumber (c .edges)) (map backNu
 -- the pattern with edge d and these wires
 abbrev pub pairStored : Pattern → ℕ → Ending → Edge → Pattern
 pairStored p v e d = storedIn p (edited (content p) (d ∷ []) (flat (pairWires (content p) v e)) (map length (pairWires (content p) v e)))
+
+-- the same wires, from the tables of a store
+abbrev pub removedIn : List ℕ → ℕ → Ending → List (List ℕ)
+removedIn t v e =
+    let m = getD (countTable t) 1 0 in
+    eachWire (removedWire (take m (frontTable t)) (take m (backTable t)) v e m) 0 (split (take (getD (countTable t) 3 0) (wireTable t)) (take (getD (countTable t) 2 0) (useTable t)))

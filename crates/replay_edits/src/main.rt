@@ -2,6 +2,7 @@
 // in pairs. Prints for each pair the pattern file's name, and for each line the line, the answer of `edit`,
 // and after a `done` what changed in the pattern as text. recorded/README.md has the words.
 use libc::STDOUT_FILENO;
+use pattern::LONGEST;
 use text::line_end;
 use text::name_of;
 
@@ -12,7 +13,7 @@ const REPORT: u64 = 0x17265706f7274;
 
 // A pattern file: the first bytes.
 struct File {
-    bytes: [u8; 41048],
+    bytes: [u8; LONGEST],
     length: usize,
 }
 
@@ -62,16 +63,16 @@ fn print_differences(before: &[u8; 262144], n: usize, after: &[u8; 262144], m: u
 }
 
 // Writes the text of the pattern file in the first n bytes, and returns its length.
-fn show(bytes: &[u8; 41048], n: usize, text: &mut [u8; 262144]) -> usize {
+fn show(bytes: &[u8; LONGEST], n: usize, text: &mut [u8; 262144]) -> usize {
     let file: &[u8] = bytes;
     if n > file.len() {
         return 0;
     }
-    pattern_text::show(&file[0..n], text)
+    show_text::show(&file[0..n], text)
 }
 
 // Prints what changed from one pattern file to another, of which the first n and m bytes count.
-fn print_changes(old: &[u8; 41048], n: usize, new: &[u8; 41048], m: usize) {
+fn print_changes(old: &[u8; LONGEST], n: usize, new: &[u8; LONGEST], m: usize) {
     let mut before = [0u8; 262144];
     let mut after = [0u8; 262144];
     let b = show(old, n, &mut before);
@@ -81,7 +82,7 @@ fn print_changes(old: &[u8; 41048], n: usize, new: &[u8; 41048], m: usize) {
 
 // Applies the job of a line to the pattern file in the first n bytes, and prints the answer. Returns the
 // length of the edited file; 0 where there is none.
-fn run_job(line: &[u8], bytes: &[u8; 41048], n: usize, out: &mut [u8; 41048]) -> usize {
+fn run_job(line: &[u8], bytes: &[u8; LONGEST], n: usize, out: &mut [u8; LONGEST]) -> usize {
     let file: &[u8] = bytes;
     if n > file.len() {
         return 0;
@@ -96,7 +97,7 @@ fn run_job(line: &[u8], bytes: &[u8; 41048], n: usize, out: &mut [u8; 41048]) ->
 fn replay_job(file: File, line: &[u8]) -> File {
     let bytes = file.bytes;
     let n = file.length;
-    let mut out = [0u8; 41048];
+    let mut out = [0u8; LONGEST];
     let m = run_job(line, &bytes, n, &mut out);
     if m == 0 {
         return file;
@@ -109,7 +110,7 @@ fn replay_job(file: File, line: &[u8]) -> File {
 }
 
 // Prints the report of the pattern file in the first n bytes.
-fn print_report(bytes: &[u8; 41048], n: usize) {
+fn print_report(bytes: &[u8; LONGEST], n: usize) {
     let file: &[u8] = bytes;
     if n > file.len() {
         return;
@@ -147,7 +148,7 @@ fn replay_lines(read: File, lines: &[u8]) {
 // Replays the lines of the file that argument `e` names on the pattern file that argument `k` names.
 fn replay(k: usize, e: usize) {
     console::print_file_line(STDOUT_FILENO, k);
-    let mut bytes = [0u8; 41048];
+    let mut bytes = [0u8; LONGEST];
     let mut lines = [0u8; 16384];
     let n = console::read_argument(k, &mut bytes);
     let m = console::read_argument(e, &mut lines);

@@ -2,16 +2,20 @@
 // written back and compared with the file.
 use errors::Check;
 use libc::STDOUT_FILENO;
-use pattern::Pattern;
-use writer::Written;
+use pattern::LONGEST;
+use store::SPANS;
+use store::Spans;
+use store::TABLES;
+use store::Tables;
+use store_write::Written;
 
 // Whether the file of a pattern is just these bytes.
-fn written_back(p: Pattern, bytes: &[u8]) -> bool {
-    let mut file = [0u8; 41048];
-    let answer = writer::write(p, &mut file);
+fn written_back(t: &Tables, spans: &Spans, bytes: &[u8]) -> bool {
+    let mut file = [0u8; LONGEST];
+    let answer = store_write::write(t, spans, &mut file);
     match answer {
         Written::Length(n) => {
-            if n <= 41048 {
+            if n <= LONGEST {
                 check::same(&file[0..n], bytes)
             } else {
                 false
@@ -23,15 +27,15 @@ fn written_back(p: Pattern, bytes: &[u8]) -> bool {
 }
 
 fn answer(bytes: &[u8]) {
-    let reading = reader::read(bytes);
-    let answer = reading.answer;
+    let mut t = [0u16; TABLES];
+    let mut spans = [0.0; SPANS];
+    let answer = store_read::read(bytes, &mut t, &mut spans);
     match answer {
         Check::Refused(f) => {
             console::print_refusal(STDOUT_FILENO, f);
         }
         Check::Accepted => {
-            let p = reading.pattern;
-            if written_back(p, bytes) {
+            if written_back(&t, &spans, bytes) {
                 io::write_all(STDOUT_FILENO, b"accepted\n");
             } else {
                 io::write_all(STDOUT_FILENO, b"accepted, written back otherwise\n");
@@ -49,7 +53,7 @@ fn replay(k: usize) {
         return;
     }
     // One byte more than the longest file.
-    let mut bytes = [0u8; 41049];
+    let mut bytes = [0u8; LONGEST + 1];
     let n = io::read_full(fd, &mut bytes);
     libc::close(fd);
     answer(&bytes[..n]);

@@ -1,11 +1,12 @@
 // For each file that the arguments name, prints a line with its name, and then: `back`, for a pattern file
 // whose text makes the same file; else what its making as a text gives: `length` and the length of the file, or
 // the line that says what is wrong.
+use draft_text::Made;
 use libc::STDOUT_FILENO;
-use text_pattern::Made;
+use pattern::LONGEST;
 
 // Whether the first n bytes of two lists are the same.
-fn same(a: &[u8], b: &[u8; 41048], n: usize) -> bool {
+fn same(a: &[u8], b: &[u8; LONGEST], n: usize) -> bool {
     let other: &[u8] = b;
     let mut i: usize = 0;
     while i < n {
@@ -29,8 +30,8 @@ fn makes(text: &[u8; 262144], n: usize, bytes: &[u8]) -> bool {
     if n > whole.len() {
         return false;
     }
-    let mut file = [0u8; 41048];
-    let made = text_pattern::make(&whole[0..n], &mut file);
+    let mut file = [0u8; LONGEST];
+    let made = draft_text::make(&whole[0..n], &mut file);
     match made {
         Made::Length(length) => same(bytes, &file, length),
         other => false,
@@ -39,13 +40,13 @@ fn makes(text: &[u8; 262144], n: usize, bytes: &[u8]) -> bool {
 
 fn told(bytes: &[u8]) {
     let mut text = [0u8; 262144];
-    let n = pattern_text::show(bytes, &mut text);
+    let n = show_text::show(bytes, &mut text);
     if makes(&text, n, bytes) {
         io::write_all(STDOUT_FILENO, b"back\n");
         return;
     }
-    let mut file = [0u8; 41048];
-    let made = text_pattern::make(bytes, &mut file);
+    let mut file = [0u8; LONGEST];
+    let made = draft_text::make(bytes, &mut file);
     match made {
         Made::Length(length) => {
             io::write_all(STDOUT_FILENO, b"length ");
@@ -54,7 +55,7 @@ fn told(bytes: &[u8]) {
         }
         other => {
             let mut line = [0u8; 256];
-            let length = fault_lines::put_made(other, &mut line);
+            let length = draft_faults::put_made(other, &mut line);
             print(&line, length);
         }
     }

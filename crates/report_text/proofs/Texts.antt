@@ -1,62 +1,65 @@
 -- The lines of a shell from its figures; the text shell by shell; the text of a file.
-use Prim.Native.Nat.{_*_, _+_, _-_, _<_, _≤_, suc, ℕ}
+use Prim.Native.Nat.{_*_, _+_, _<_, _≤_, ℕ}
 use mathlib.Core.List.{List, [], _++_, _∷_, map}
 use mathlib.Core.Path.{_∙_, _≡_, ap, refl, sym}
 use native.Mathlib.Numerals.{add-one}
 use native.Mathlib.Omega.{arith}
-use lib.ListN.{drop, getD, length, length-drop, length-map, length-take, replicate, take}
-use lib.Seq.{sets, take-append-seam}
-use Rattle.columns.proofs.Made.{columns-made, summed}
-use Rattle.columns.proofs.Shells.{listings-are, listings-inside}
-use Rattle.columns.specs.Columns.{Made, Summed, columnsIn}
-use Rattle.columns.specs.Sound.{Sound}
-use Rattle.columns.specs.declared.Columns.{Columns}
-use Rattle.errors.proofs.Laws.{accepted-none, none-both, refused-first}
+use lib.ListN.{getD, length, length-map, length-replicate, replicate, take}
+use lib.Seq.{length-sets, sets}
+use Rattle.columns.specs.Columns.{Made}
+use Rattle.columns.specs.Sound.{OfTables, Sound}
+use Rattle.errors.proofs.Laws.{accepted-none, none-left}
 use Rattle.errors.specs.Faults.{first}
 use Rattle.errors.specs.declared.Check.the-variants.{Accepted as Check·Accepted, Refused as Check·Refused}
 use Rattle.errors.specs.declared.Refusal.{Refusal}
 use Rattle.lines.specs.Lines.{shellLines}
 use Rattle.lines.specs.Parts.{Fits}
 use Rattle.lists.proofs.Parts.{flat-numbers, split-flat}
-use Rattle.lists.proofs.Sets.{put-then}
-use Rattle.lists.specs.Lists.{flat, numbers, padded, tabulate}
+use Rattle.lists.proofs.Sets.{put-then, take-sets}
+use Rattle.lists.specs.Lists.{flat, numbers, tabulate}
 use Rattle.output.specs.Text.{refusalLine}
-use Rattle.pattern.proofs.Counts.{Full, Limited, shells-counted}
-use Rattle.pattern.proofs.Passed.{content-passed, pattern-passed}
-use Rattle.pattern.specs.Checks.{contentFaults, patternFaults, recordFaults}
-use Rattle.pattern.specs.Contents.{Content, content, stored}
-use Rattle.pattern.specs.declared.Pattern.{Pattern}
+use Rattle.pattern.proofs.Counts.{shells-counted}
+use Rattle.pattern.specs.Checks.{contentFaults, patternFaults}
+use Rattle.pattern.specs.Contents.{Content, Pattern, content}
 use Rattle.pattern_file.proofs.RoundTrip.{content-of-stored}
-use Rattle.pattern_file.specs.File.{fileContent, fileCounts, fileFaults, tableFaults}
-use Rattle.file_table.proofs.Laws.{counts-of-content, full, limits}
-use Rattle.reader.proofs.Laws.{stored-passes}
-use Rattle.file_columns.specs.Columns.{Tables}
+use Rattle.pattern_file.specs.File.{fileContent, fileFaults, tableFaults}
 use Rattle.report_text.specs.Report.{reportOf, reportText, shellReport, solidText, textFor}
-use Rattle.report_text.specs.Texts.{Shelled, Tabled, arrayLines}
+use Rattle.report_text.specs.Texts.{Shelled, arrayLines}
 use Rattle.report_text.specs.declared.ShellText.{ShellText}
-use Rattle.reports.proofs.Groups.{components-bound, first-in, members-are, pairs-bound, singular-bound, sum-lengths}
-use Rattle.reports.specs.Figures.{Columned, OfAll, Patterned, groupsFound, lent, openingsFound}
-use Rattle.reports.specs.declared.ShellGroups.{ShellGroups}
-use Rattle.reports.specs.declared.ShellOpenings.{ShellOpenings}
+use Rattle.reports.proofs.Groups.{components-bound, pairs-bound, singular-bound, sum-lengths}
+use Rattle.reports.specs.Figures.{Grouped, Opened}
+use Rattle.reports.specs.declared.GroupCounts.{GroupCounts}
+use Rattle.reports.specs.declared.OpeningCounts.{OpeningCounts}
 use Rattle.shell.specs.Components.{components}
 use Rattle.shell.specs.Openings.{shellWalk}
 use Rattle.shell.specs.Shells.{listingsOf}
 use Rattle.shell.specs.Singular.{singularPoints}
 use Rattle.solid.proofs.Laws.{solid-next}
-use Rattle.solid.specs.Solid.{andThen, errorsOf, firstError, firstOfSolid, inShell, inSolid, reasonNumber, shellErrors, solidErrors, solidShell}
+use Rattle.solid.specs.Solid.{errorsOf, firstOfSolid, inShell, reasonNumber, shellErrors, solidErrors, solidShell}
 use Rattle.solid.specs.declared.ShellCheck.{ShellCheck}
 use Rattle.solid.specs.declared.ShellCheck.the-variants.{Fine, Wrong}
 use Rattle.solid.specs.declared.ShellError.{ShellError}
 use Rattle.solid.specs.declared.ShellError.the-variants.{EmptyShell, NotClosedShell, NotConnected, NotManifold}
 use Rattle.solid.specs.declared.SolidCheck.{SolidCheck}
 use Rattle.solid.specs.declared.SolidCheck.the-variants.{Accepted, Refused}
+use Rattle.store.specs.Store.{countTable, held}
+use Rattle.store_read.proofs.Fresh.{blank, fresh-faults, fresh-pattern}
+use Rattle.store_read.specs.Loading.{loaded, patternOf}
+use Rattle.solid.specs.Sequence.{andThen, firstError, inSolid}
 
 -- ---- the lines of one shell
-first-of : (m : ℕ) (xs ys : List ℕ) (k : ℕ) → ys ≡ padded m 0 xs → k ≡ length xs → take k ys ≡ xs
-first-of m xs ys k e h = rw (e, h) (take-append-seam xs (replicate (m - length xs) 0))
 
-module _ (p : Pattern) (s : Sound p) (n : ℕ) (here : n < getD (p .counts) 5 0) (o : ShellOpenings) (g : ShellGroups)
-    (eo : o ≡ openingsFound (content p) n) (eg : g ≡ groupsFound (content p) n) (few : (o .used ≤ 2048) × (o .openings ≤ 2048) × (o .lookups ≤ 1000000)) where
+-- a list that was written to the front of zeros
+module _ (m : ℕ) (xs ys : List ℕ) (k : ℕ) (few : length xs ≤ m) (e : ys ≡ sets (replicate m 0) 0 xs) (h : k ≡ length xs) where
+  first-of : take k ys ≡ xs
+  first-of = rw e (take-sets (replicate m 0) xs k (sym h) (omega (arith, few, length-replicate {A = ℕ} m 0)))
+
+  first-in : k ≤ length ys
+  first-in = omega (arith, few, ap length e, length-sets (replicate m 0) 0 xs, length-replicate {A = ℕ} m 0)
+
+module _ (p : Pattern) (s : Sound p) (n : ℕ) (here : n < getD (p .counts) 5 0) {o : OpeningCounts} {g : GroupCounts} {walked lens pairs sizes corners : List ℕ}
+    (eo : Opened (content p) n (replicate 2048 0) (replicate 2048 0) walked lens o) (eg : Grouped (content p) n (replicate 512 0) (replicate 512 0) (replicate 2048 0) pairs sizes corners g)
+    (few : (o .used ≤ 2048) × (o .openings ≤ 2048) × (o .lookups ≤ 1000000)) where
   abbrev O : List (List ℕ)
   O = shellWalk (content p) n .openings
 
@@ -64,96 +67,82 @@ module _ (p : Pattern) (s : Sound p) (n : ℕ) (here : n < getD (p .counts) 5 0)
   C = components (content p) n
 
   used-is : o .used ≡ length (flat O)
-  used-is = rw eo
+  used-is = rw (eo .counts)
 
   openings-is : o .openings ≡ length (map length O)
-  openings-is = ap (λ (r : ShellOpenings). r .openings) eo ∙ sym (length-map O length)
+  openings-is = ap (λ (r : OpeningCounts). r .openings) (eo .counts) ∙ sym (length-map O length)
 
   members-is : g .members ≡ length (flat C)
-  members-is = ap (λ (r : ShellGroups). r .members) eg ∙ sym (members-are p s n here)
+  members-is = rw (eg .counts)
 
   components-is : g .components ≡ length (map length C)
-  components-is = ap (λ (r : ShellGroups). r .components) eg ∙ sym (length-map C length)
+  components-is = ap (λ (r : GroupCounts). r .components) (eg .counts) ∙ sym (length-map C length)
 
   singular-is : g .singular ≡ length (singularPoints (content p) n)
-  singular-is = rw eg
+  singular-is = rw (eg .counts)
 
-  uses-of : o .uses ≡ padded 2048 0 (flat O)
-  uses-of = rw eo
+  few-uses : length (flat O) ≤ 2048
+  few-uses = omega (arith, used-is, few .0)
 
-  lens-of : o .lens ≡ padded 2048 0 (map length O)
-  lens-of = rw eo
+  few-openings : length (map length O) ≤ 2048
+  few-openings = omega (arith, openings-is, few .1)
 
-  pairs-of : g .pairs ≡ padded 512 0 (flat C)
-  pairs-of = rw eg
+  few-components : length (map length C) ≤ 512
+  few-components = omega (arith, length-map C length, components-bound p s n here)
 
-  plens-of : g .lens ≡ padded 512 0 (map length C)
-  plens-of = rw eg
-
-  points-of : g .points ≡ padded 2048 0 (singularPoints (content p) n)
-  points-of = rw eg
-
-  pub figures-inside : (o .used ≤ length (o .uses)) × (o .openings ≤ length (o .lens)) × (g .members ≤ length (g .pairs)) × (g .components ≤ length (g .lens)) × (g .singular ≤ length (g .points))
+  pub figures-inside : (o .used ≤ length walked) × (o .openings ≤ length lens) × (g .members ≤ length pairs) × (g .components ≤ length sizes) × (g .singular ≤ length corners)
   figures-inside = (
-    first-in 2048 (flat O) (o .uses) (o .used) uses-of used-is,
-    first-in 2048 (map length O) (o .lens) (o .openings) lens-of openings-is,
-    first-in 512 (flat C) (g .pairs) (g .members) pairs-of members-is,
-    first-in 512 (map length C) (g .lens) (g .components) plens-of components-is,
-    first-in 2048 (singularPoints (content p) n) (g .points) (g .singular) points-of singular-is,
+    first-in 2048 (flat O) walked (o .used) few-uses (eo .uses) used-is,
+    first-in 2048 (map length O) lens (o .openings) few-openings (eo .lengths) openings-is,
+    first-in 512 (flat C) pairs (g .members) (pairs-bound p s n here) (eg .pairs) members-is,
+    first-in 512 (map length C) sizes (g .components) few-components (eg .lengths) components-is,
+    first-in 2048 (singularPoints (content p) n) corners (g .singular) (singular-bound p s n here) (eg .points) singular-is,
   )
 
-  uses-first : take (o .used) (o .uses) ≡ flat O
-  uses-first = first-of 2048 (flat O) (o .uses) (o .used) uses-of used-is
+  uses-first : take (o .used) walked ≡ flat O
+  uses-first = first-of 2048 (flat O) walked (o .used) few-uses (eo .uses) used-is
 
-  lens-first : take (o .openings) (o .lens) ≡ map length O
-  lens-first = first-of 2048 (map length O) (o .lens) (o .openings) lens-of openings-is
+  lens-first : take (o .openings) lens ≡ map length O
+  lens-first = first-of 2048 (map length O) lens (o .openings) few-openings (eo .lengths) openings-is
 
-  pairs-first : take (g .members) (g .pairs) ≡ flat C
-  pairs-first = first-of 512 (flat C) (g .pairs) (g .members) pairs-of members-is
+  pairs-first : take (g .members) pairs ≡ flat C
+  pairs-first = first-of 512 (flat C) pairs (g .members) (pairs-bound p s n here) (eg .pairs) members-is
 
-  plens-first : take (g .components) (g .lens) ≡ map length C
-  plens-first = first-of 512 (map length C) (g .lens) (g .components) plens-of components-is
+  sizes-first : take (g .components) sizes ≡ map length C
+  sizes-first = first-of 512 (map length C) sizes (g .components) few-components (eg .lengths) components-is
 
-  points-first : take (g .singular) (g .points) ≡ singularPoints (content p) n
-  points-first = first-of 2048 (singularPoints (content p) n) (g .points) (g .singular) points-of singular-is
+  points-first : take (g .singular) corners ≡ singularPoints (content p) n
+  points-first = first-of 2048 (singularPoints (content p) n) corners (g .singular) (singular-bound p s n here) (eg .points) singular-is
 
-  pub figures-fit : (out : List ℕ) (at : ℕ) → n < 100 → at + 70300 ≤ length out
-      → Fits out at n (o .lookups) (take (o .used) (o .uses)) (take (o .openings) (o .lens)) (take (g .members) (g .pairs)) (take (g .components) (g .lens)) (take (g .singular) (g .points))
-  figures-fit out at small room = rw (uses-first, lens-first, pairs-first, plens-first, points-first) (record {
+  pub figures-fit : (out : List ℕ) (at : ℕ) → at + 70300 ≤ length out
+      → Fits out at n (o .lookups) (take (o .used) walked) (take (o .openings) lens) (take (g .members) pairs) (take (g .components) sizes) (take (g .singular) corners)
+  figures-fit out at room = rw (uses-first, lens-first, pairs-first, sizes-first, points-first) (record {
     room = room;
-    number = small;
+    number = omega (arith, here, s .limits .shells);
     counted = omega (arith, few .2);
-    few-uses = omega (arith, few .0, used-is);
-    few-openings = omega (arith, few .1, openings-is);
+    few-uses = few-uses;
+    few-openings = few-openings;
     all-uses = sum-lengths O;
-    few-pairs = omega (arith, members-are p s n here, pairs-bound p s n here);
-    few-components = omega (arith, length-map C length, components-bound p s n here);
+    few-pairs = pairs-bound p s n here;
+    few-components = few-components;
     all-pairs = sum-lengths C;
     few-points = singular-bound p s n here;
   })
 
-  lines-are : arrayLines n (o .condition) (g .connected) (take (o .used) (o .uses)) (take (o .openings) (o .lens)) (o .lookups) (take (g .members) (g .pairs)) (take (g .components) (g .lens)) (take (g .singular) (g .points))
-      ≡ shellLines n (shellReport (content p) n)
-  lines-are = rw (uses-first, lens-first, pairs-first, plens-first, points-first, split-flat O, split-flat C, eo, eg)
+  abbrev written : List ℕ
+  written = arrayLines n (o .condition) (g .connected) (take (o .used) walked) (take (o .openings) lens) (o .lookups) (take (g .members) pairs) (take (g .components) sizes) (take (g .singular) corners)
 
-  -- how many listings the shell has
-  pub listings-count : (k : Columns) → k ≡ columnsIn p → getD (k .places) (n + 1) 0 - getD (k .places) n 0 ≡ length (listingsOf (content p) n)
-  listings-count k e =
-      let a = getD (columnsIn p .places) n 0 in
-      let b = getD (columnsIn p .places) (suc n) 0 in
-      let i = listings-inside p s n here in
-      rw (e, add-one, ← listings-are p s n here) (omega (arith, i .0, i .1, length-take (b - a) (drop a (p .listings)), length-drop a (p .listings), s .full .listings))
+  lines-are : written ≡ shellLines n (shellReport (content p) n)
+  lines-are = rw (uses-first, lens-first, pairs-first, sizes-first, points-first, split-flat O, split-flat C, eo .counts, eg .counts)
 
-  pub shelled : (k : Columns) → k ≡ columnsIn p → (out₀ out : List ℕ) (at after : ℕ) (check : ShellCheck)
-      → (out ≡ sets out₀ at (arrayLines n (o .condition) (g .connected) (take (o .used) (o .uses)) (take (o .openings) (o .lens)) (o .lookups) (take (g .members) (g .pairs)) (take (g .components) (g .lens)) (take (g .singular) (g .points))))
-      × (after ≡ at + length (arrayLines n (o .condition) (g .connected) (take (o .used) (o .uses)) (take (o .openings) (o .lens)) (o .lookups) (take (g .members) (g .pairs)) (take (g .components) (g .lens)) (take (g .singular) (g .points))))
-      × (after ≤ at + 70300)
-      → check ≡ firstError (errorsOf (getD (k .places) (n + 1) 0 - getD (k .places) n 0) (g .connected) (o .condition) (g .singular))
+  pub shelled : {listings : ℕ} → listings ≡ length (listingsOf (content p) n) → (out₀ out : List ℕ) (at after : ℕ) (check : ShellCheck)
+      → (out ≡ sets out₀ at written) × (after ≡ at + length written) × (after ≤ at + 70300)
+      → check ≡ firstError (errorsOf listings (g .connected) (o .condition) (g .singular))
       → Shelled (content p) n out₀ at out (record { at = after; check = check })
-  shelled k e out₀ out at after check w c = record {
+  shelled l out₀ out at after check w c = record {
     written = w .0 ∙ ap (sets out₀ at) lines-are;
     place = w .1 ∙ ap (λ (t : List ℕ). at + length t) lines-are;
-    wrong = c ∙ rw (listings-count k e, eo, eg);
+    wrong = c ∙ rw (l, eo .counts, eg .counts);
   }
 
 -- ---- shell by shell
@@ -163,59 +152,59 @@ linesTo c n = flat (map (λ (i : ℕ). shellLines i (shellReport c i)) (numbers 
 abbrev pub wrongTo : Content → ℕ → SolidCheck
 wrongTo c n = firstOfSolid (flat (map (λ (i : ℕ). inShell i (shellErrors c i)) (numbers n)))
 
-pub record Writing (k : Columns) (shells : ℕ) (out₀ out : List ℕ) (solid : SolidCheck) (at n : ℕ) : Type 0 where
+pub record Writing (t : List ℕ) (shells : ℕ) (out₀ out : List ℕ) (solid : SolidCheck) (at n : ℕ) : Type 0 where
   pub low : n ≤ shells
   pub room : at ≤ 70300 * n
   pub long : length out ≡ length out₀
   pub shell : solidShell solid ≤ n
-  pub each : OfAll k shells (λ p. (out ≡ sets out₀ 0 (linesTo (content p) n)) × (at ≡ 0 + length (linesTo (content p) n)) × (solid ≡ wrongTo (content p) n))
+  pub each : OfTables t (λ p. (out ≡ sets out₀ 0 (linesTo (content p) n)) × (at ≡ 0 + length (linesTo (content p) n)) × (solid ≡ wrongTo (content p) n))
 
 shell-low : (a : SolidCheck) (n : ℕ) (w : ShellCheck) → solidShell a ≤ n → solidShell (andThen a (inSolid n w)) ≤ n
 shell-low Accepted n Fine h = omega arith
 shell-low Accepted n (Wrong e) h = omega arith
 shell-low (Refused e) n w h = h
 
-module _ {k : Columns} {shells : ℕ} {out₀ : List ℕ} where
-  pub writing-start : Writing k shells out₀ out₀ Accepted 0 0
+-- a pattern has few shells
+pub shells-few : {t turned starts firsts places : List ℕ} → Made t turned starts firsts places → getD (countTable t) 5 0 ≤ 16
+shells-few m = m .all (m .faultless .spans) (m .faultless .ok) .0 .limits .shells
+
+module _ {t : List ℕ} {shells : ℕ} {out₀ : List ℕ} where
+  pub writing-start : Writing t shells out₀ out₀ Accepted 0 0
   unfolding flat tabulate
-  writing-start = record { low = omega arith; room = omega arith; long = refl; shell = omega arith; each = λ p s e h. (refl, refl, refl) }
+  writing-start = record { low = omega arith; room = omega arith; long = refl; shell = omega arith; each = λ spans ok. (refl, refl, refl) }
 
-  module _ {out : List ℕ} {solid : SolidCheck} {at n : ℕ} (v : Writing k shells out₀ out solid at n) (w : Patterned k shells) where
-    few-shells : shells ≤ 16
-    few-shells = omega (arith, w .count, w .sound .limits .shells)
-
-    -- the shell whose turn it is
-    pub writing-here : n < shells → Columned k n
-    writing-here l = record { pattern = w .pattern; sound = w .sound; columns = w .columns; here = omega (arith, w .count) }
-
-    pub writing-room : 1126400 ≤ length out₀ → n < shells → (n < 100) × (at + 70300 ≤ length out)
-    writing-room r l = (omega (arith, few-shells), omega (arith, v .room, v .long, few-shells))
+  module _ {out : List ℕ} {solid : SolidCheck} {at n : ℕ} (v : Writing t shells out₀ out solid at n) (few : shells ≤ 16) where
+    pub writing-room : 1126400 ≤ length out₀ → n < shells → at + 70300 ≤ length out
+    writing-room r l = omega (arith, v .room, v .long, few)
 
     pub writing-end : 1126400 ≤ length out₀ → (solidShell solid < 100) × (at + 64 ≤ length out)
-    writing-end r = (omega (arith, v .shell, v .low, few-shells), omega (arith, v .room, v .long, v .low, few-shells))
+    writing-end r = (omega (arith, v .shell, v .low, few), omega (arith, v .room, v .long, v .low, few))
 
     pub writing-next : n < shells → (out′ : List ℕ) (r : ShellText) (solid′ : SolidCheck) → length out′ ≡ length out
-        → ((p : Pattern) → Sound p → k ≡ columnsIn p → n < getD (p .counts) 5 0 → Shelled (content p) n out at out′ r) → r .at ≤ at + 70300
-        → solid′ ≡ andThen solid (inSolid n (r .check)) → Writing k shells out₀ out′ solid′ (r .at) (n + 1)
+        → OfTables t (λ p. Shelled (content p) n out at out′ r) → r .at ≤ at + 70300
+        → solid′ ≡ andThen solid (inSolid n (r .check)) → Writing t shells out₀ out′ solid′ (r .at) (n + 1)
     writing-next l out′ r solid′ long h low is = record {
       low = omega arith;
       room = omega (arith, v .room, low);
       long = long ∙ v .long;
       shell = rw (is, add-one) (omega (arith, shell-low solid n (r .check) (v .shell)));
-      each = λ p s e c.
-          let t = h p s e (omega (arith, c)) in
-          let b = v .each p s e c in
-          let lines : ℕ → List ℕ = λ (i : ℕ). shellLines i (shellReport (content p) i) in
-          let put = put-then out₀ 0 (linesTo (content p) n) (lines n) out out′ at (r .at) (b .0, b .1) (t .written, t .place) in
-          rw (add-one) (rw (flat-numbers lines n) (put .0, put .1, is ∙ rw (b .2, t .wrong) (sym (solid-next (shellErrors (content p)) n))));
+      each = λ spans ok.
+          let c = content (held t spans) in
+          let w = h spans ok in
+          let b = v .each spans ok in
+          let lines : ℕ → List ℕ = λ (i : ℕ). shellLines i (shellReport c i) in
+          let put = put-then out₀ 0 (linesTo c n) (lines n) out out′ at (r .at) (b .0, b .1) (w .written, w .place) in
+          rw (add-one) (rw (flat-numbers lines n) (put .0, put .1, is ∙ rw (b .2, w .wrong) (sym (solid-next (shellErrors c) n))));
     }
 
-    pub writing-all : shells ≤ n → (out′ : List ℕ) (r : ℕ) → (out′ ≡ sets out at (solidText solid)) × (r ≡ at + length (solidText solid))
-        → OfAll k shells (λ p. (out′ ≡ sets out₀ 0 (reportText (content p))) × (r ≡ length (reportText (content p))))
+    pub writing-all : shells ≡ getD (countTable t) 5 0 → OfTables t Sound → shells ≤ n → (out′ : List ℕ) (r : ℕ) → (out′ ≡ sets out at (solidText solid)) × (r ≡ at + length (solidText solid))
+        → OfTables t (λ p. (out′ ≡ sets out₀ 0 (reportText (content p))) × (r ≡ length (reportText (content p))))
     unfolding reportText solidErrors
-    writing-all l out′ r h p s e c =
-        let b = v .each p s e c in
-        let m : n ≡ length (content p .shells) = omega (arith, v .low, c, shells-counted p (s .limits) (s .full)) in
+    writing-all count sound l out′ r h spans ok =
+        let p = held t spans in
+        let s = sound spans ok in
+        let b = v .each spans ok in
+        let m : n ≡ length (content p .shells) = omega (arith, v .low, count, shells-counted p (s .limits) (s .full)) in
         let put = put-then out₀ 0 (linesTo (content p) n) (solidText (wrongTo (content p) n)) out out′ at r (b .0, b .1) (rw (b .2) at h) in
         let done : (out′ ≡ sets out₀ 0 (linesTo (content p) (length (content p .shells)) ++ solidText (wrongTo (content p) (length (content p .shells))))) × (r ≡ 0 + length (linesTo (content p) (length (content p .shells)) ++ solidText (wrongTo (content p) (length (content p .shells))))) = rw m at put in
         (done .0, omega (arith, done .1))
@@ -227,72 +216,29 @@ reason-low NotConnected = omega arith
 reason-low NotClosedShell = omega arith
 reason-low NotManifold = omega arith
 
--- ---- the tables of a pattern
-records-fine : (p : Pattern) → patternFaults p ≡ [] → recordFaults (content p) ≡ []
-records-fine p ok = content-passed (content p) (pattern-passed p ok .content) .records
-
-module _ {counts fronts backs uses wires faces shells listings : List ℕ} where
-  pub tabled-summed : Tabled counts fronts backs uses wires faces shells listings → Summed counts uses wires faces shells
-  tabled-summed t =
-      rw (t .counted, t .tables .uses-are, t .tables .wires-are, t .tables .shells-are)
-      (summed (t .pattern) (t .limits) (t .full) (records-fine (t .pattern) (t .ok)) faces (t .tables .faces-are))
-
-  module _ {turned starts firsts places : List ℕ} (m : Made counts uses wires faces shells turned starts firsts places) (small : (k : ℕ) → (getD uses k 0 < 65536) × (getD listings k 0 < 65536)) where
-    module _ (p : Pattern) (ok : patternFaults p ≡ []) (l : Limited (p .counts)) (f : Full p) (e : counts ≡ p .counts) (t : Tables p fronts backs uses wires faces shells listings) where
-      pub tables-sound : Sound p
-      tables-sound = record { ok = ok; limits = l; full = f; uses = λ k. rw (t .uses-are) at (small k .0); listings = λ k. rw (t .listings-are) at (small k .1) }
-
-      pub tables-columns : lent (getD counts 0 0) (getD counts 1 0) uses turned starts wires firsts fronts backs places listings ≡ columnsIn p
-      tables-columns =
-          rw (e, t .uses-are, t .wires-are, t .listings-are)
-          (columns-made p faces turned starts firsts places fronts backs (t .faces-are) (rw (e, t .uses-are, t .wires-are, t .shells-are) at m) (t .fronts-are) (t .backs-are))
-
-    pub tabled-patterned : Tabled counts fronts backs uses wires faces shells listings
-        → Patterned (lent (getD counts 0 0) (getD counts 1 0) uses turned starts wires firsts fronts backs places listings) (getD counts 5 0)
-    tabled-patterned t = record {
-      pattern = t .pattern;
-      sound = tables-sound (t .pattern) (t .ok) (t .limits) (t .full) (t .counted) (t .tables);
-      columns = tables-columns (t .pattern) (t .ok) (t .limits) (t .full) (t .counted) (t .tables);
-      count = ap (λ (l : List ℕ). getD l 5 0) (t .counted);
-    }
-
 -- ---- a file
 text-refused : (fs : List Refusal) (c : Content) (f : Refusal) → first fs ≡ Check·Refused f → refusalLine f ≡ textFor fs c
 text-refused [] c f h = cc
 text-refused (g ∷ fs) c f h = let e : f ≡ g = cc in ap refusalLine e
 
-module _ (s : List ℕ) where
-  pub table-refused : (f : Refusal) → first (tableFaults s) ≡ Check·Refused f → refusalLine f ≡ reportOf s
+pub file-refused : (s : List ℕ) (f : Refusal) → first (fileFaults s) ≡ Check·Refused f → refusalLine f ≡ reportOf s
+unfolding reportOf
+file-refused s f h = text-refused (fileFaults s) (fileContent s) f h
+
+-- a file without fault was read into a store of zeros
+module _ (s : List ℕ) (q : Pattern) (done : q ≡ loaded blank s) (right : first (fileFaults s) ≡ Check·Accepted) where
+  none : fileFaults s ≡ []
+  none = accepted-none (fileFaults s) right
+
+  table : first (tableFaults s) ≡ Check·Accepted
+  table = rw (none-left (tableFaults s) (contentFaults (fileContent s)) none)
+
+  pub file-pattern : q ≡ patternOf s
+  file-pattern = fresh-pattern s q done table
+
+  pub file-passes : patternFaults q ≡ []
+  file-passes = ap patternFaults file-pattern ∙ fresh-faults s q done table ∙ none
+
+  pub file-accepted : reportText (content q) ≡ reportOf s
   unfolding reportOf
-  table-refused f h = text-refused (fileFaults s) (fileContent s) f (refused-first (tableFaults s) (contentFaults (fileContent s)) f h)
-
-  module _ (ok : tableFaults s ≡ []) where
-    pub content-refused : (f : Refusal) → first (contentFaults (fileContent s)) ≡ Check·Refused f → refusalLine f ≡ reportOf s
-    unfolding reportOf
-    content-refused f h = text-refused (fileFaults s) (fileContent s) f (rw ok h)
-
-    module _ (right : first (contentFaults (fileContent s)) ≡ Check·Accepted) where
-      none : contentFaults (fileContent s) ≡ []
-      none = accepted-none (contentFaults (fileContent s)) right
-
-      all-none : fileFaults s ≡ []
-      all-none = none-both (tableFaults s) (contentFaults (fileContent s)) ok none
-
-      pub content-passes : patternFaults (stored (fileContent s)) ≡ []
-      content-passes = stored-passes s all-none
-
-      pub content-accepted : reportText (content (stored (fileContent s))) ≡ reportOf s
-      unfolding reportOf
-      content-accepted = rw (all-none, content-of-stored (fileContent s))
-
-      -- the columns that were read
-      pub file-tabled : (counts fronts backs uses wires faces shells listings : List ℕ) → counts ≡ fileCounts s → Tables (stored (fileContent s)) fronts backs uses wires faces shells listings
-          → Tabled counts fronts backs uses wires faces shells listings
-      file-tabled counts fronts backs uses wires faces shells listings e t = record {
-        pattern = stored (fileContent s);
-        ok = content-passes;
-        limits = limits s ok;
-        full = full s ok;
-        counted = e ∙ counts-of-content s;
-        tables = t;
-      }
+  file-accepted = rw (none, file-pattern, content-of-stored (fileContent s))

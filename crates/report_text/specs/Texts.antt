@@ -1,20 +1,17 @@
--- The lines of a shell as the code has its figures, and the tables that the code writes from.
+-- The lines of a shell as the code has its figures.
 use Prim.Native.Nat.{ℕ, _+_}
 use mathlib.Core.Bool.{Bool}
-use mathlib.Core.List.{List, []}
+use mathlib.Core.List.{List}
 use mathlib.Core.Path.{_≡_}
 use lib.ListN.{length}
 use lib.Seq.{sets}
 use Rattle.lists.specs.Lists.{split}
 use Rattle.lines.specs.Lines.{shellLines}
-use Rattle.pattern.proofs.Counts.{Full, Limited}
-use Rattle.pattern.specs.Checks.{patternFaults}
 use Rattle.pattern.specs.Contents.{Content}
-use Rattle.pattern.specs.declared.Pattern.{Pattern}
-use Rattle.file_columns.specs.Columns.{Tables}
 use Rattle.report_text.specs.Report.{shellReport}
 use Rattle.report_text.specs.declared.ShellText.{ShellText}
-use Rattle.solid.specs.Solid.{firstError, shellErrors}
+use Rattle.solid.specs.Solid.{shellErrors}
+use Rattle.solid.specs.Sequence.{firstError}
 
 abbrev pub arrayLines : ℕ → ℕ → Bool → List ℕ → List ℕ → ℕ → List ℕ → List ℕ → List ℕ → List ℕ
 arrayLines n condition connected uses lens lookups pairs plens points = shellLines n (record {
@@ -31,17 +28,3 @@ pub record Shelled (c : Content) (n : ℕ) (out₀ : List ℕ) (at : ℕ) (out :
   pub written : out ≡ sets out₀ at (shellLines n (shellReport c n))
   pub place : r .at ≡ at + length (shellLines n (shellReport c n))
   pub wrong : r .check ≡ firstError (shellErrors c n)
-
--- the tables are those of a pattern without fault
-pub record Tabled (counts fronts backs uses wires faces shells listings : List ℕ) : Type 0 where
-  pub pattern : Pattern
-  pub ok : patternFaults pattern ≡ []
-  pub limits : Limited (pattern .counts)
-  pub full : Full pattern
-  pub counted : counts ≡ pattern .counts
-  pub tables : Tables pattern fronts backs uses wires faces shells listings
-
--- what holds of that pattern
-abbrev pub OfTables : List ℕ → List ℕ → List ℕ → List ℕ → List ℕ → List ℕ → List ℕ → List ℕ → (Pattern → Type 0) → Type 0
-OfTables counts fronts backs uses wires faces shells listings P =
-    (p : Pattern) → patternFaults p ≡ [] → Limited (p .counts) → Full p → counts ≡ p .counts → Tables p fronts backs uses wires faces shells listings → P p

@@ -1,22 +1,18 @@
 // What `report` prints, as bytes: for every file its whole text.
 ghost use mathlib.Core.Path.{_≡_};
-ghost use mathlib.Core.List.{[]};
 ghost use Prim.Native.Nat.{_+_, _<_, _≤_};
-ghost use lib.ListN.{length, take};
+ghost use lib.ListN.{getD, length, take};
 ghost use lib.Seq.{sets};
+ghost use Rattle.columns.specs.Columns.{Made};
+ghost use Rattle.columns.specs.Sound.{Faultless, OfTables};
 ghost use Rattle.lines.specs.Parts.{Fits};
 ghost use Rattle.pattern.specs.Contents.{content};
-ghost use Rattle.pattern_file.specs.File.{tableFaults};
-ghost use Rattle.reports.specs.Figures.{Columned, lent, Of, OfAll, Patterned};
 ghost use Rattle.solid.specs.Solid.{solidShell};
+ghost use Rattle.store.specs.Store.{countTable};
 ghost use Rattle.report_text.specs.Report.{reportOf, reportText, solidText};
-ghost use Rattle.report_text.specs.Texts.{arrayLines, OfTables, Shelled, Tabled};
+ghost use Rattle.report_text.specs.Texts.{arrayLines, Shelled};
 use columns::put_columns;
 use errors::Check;
-use file_columns::check_file;
-use file_columns::read_columns;
-use file_table::check_table;
-use file_table::counts_of;
 use lines::put_shell;
 use lines::put_solid;
 use output::put_refusal;
@@ -26,6 +22,11 @@ use solid::ShellCheck;
 use solid::SolidCheck;
 use solid::check_shell;
 use solid::reason_number;
+use store::SPANS;
+use store::TABLES;
+use store::Tables;
+use store::counts_in;
+use store_read::read;
 
 // The place after the lines of a shell, and what is wrong with it.
 pub struct ShellText {
@@ -71,27 +72,19 @@ fn put_figures<'a>(
     )
 }
 
-// Writes the lines of shell n from `at` on. The columns are lent one by one: a struct given by value
-// would be copied.
+// Writes the lines of shell n from `at` on.
 fn shell_text<'a>(
-    points: usize,
-    edges: usize,
-    uses: &'a [u16],
+    t: &'a Tables,
     turned: &'a [u16],
     starts: &'a [usize],
-    wires: &'a [u16],
     firsts: &'a [usize],
-    fronts: &'a [u16],
-    backs: &'a [u16],
     places: &'a [usize],
-    listings: &'a [u16],
     n: usize,
     out: &mut [u8],
     at: usize,
 ) -> ShellText
-    requires { ⌜ Columned (lent points edges (now uses) (now turned) (now starts) (now wires) (now firsts) (now fronts) (now backs) (now places) (now listings)) n ⌝ }
-    requires { ⌜ (n < 100) × (at + 70300 ≤ length (now out)) ⌝ }
-    ensures { λ r. ⌜ Of (lent points edges (now (uses .entry)) (now (turned .entry)) (now (starts .entry)) (now (wires .entry)) (now (firsts .entry)) (now (fronts .entry)) (now (backs .entry)) (now (places .entry)) (now (listings .entry))) n (λ p. Shelled (content p) n (now (out .entry)) at (now (out .exit)) r) ⌝ }
+    requires { ⌜ Made (now t) (now turned) (now starts) (now firsts) (now places) × (n < getD (countTable (now t)) 5 0) × (at + 70300 ≤ length (now out)) ⌝ }
+    ensures { λ r. ⌜ OfTables (now (t .entry)) (λ p. Shelled (content p) n (now (out .entry)) at (now (out .exit)) r) ⌝ }
     ensures { λ r. ⌜ r .at ≤ at + 70300 ⌝ }
 {
     let first = places[n];
@@ -101,34 +94,13 @@ fn shell_text<'a>(
     let mut pairs = [0u16; 512];
     let mut sizes = [0u16; 512];
     let mut corners = [0u16; 2048];
-    let o = put_openings(
-        points,
-        edges,
-        uses,
-        turned,
-        starts,
-        wires,
-        firsts,
-        fronts,
-        backs,
-        places,
-        listings,
-        n,
-        &mut walked,
-        &mut lens,
-    );
+    let o = put_openings(t, turned, starts, firsts, places, n, &mut walked, &mut lens);
     let g = put_groups(
-        points,
-        edges,
-        uses,
+        t,
         turned,
         starts,
-        wires,
         firsts,
-        fronts,
-        backs,
         places,
-        listings,
         n,
         &mut pairs,
         &mut sizes,
@@ -175,45 +147,25 @@ fn solid_text(out: &mut [u8], at: usize, a: SolidCheck) -> usize
     }
 }
 
-// Writes the text of a pattern with these columns and so many shells.
+// Writes the text of a pattern with these columns.
 fn columns_text<'a>(
-    points: usize,
-    edges: usize,
-    uses: &'a [u16],
+    t: &'a Tables,
     turned: &'a [u16],
     starts: &'a [usize],
-    wires: &'a [u16],
     firsts: &'a [usize],
-    fronts: &'a [u16],
-    backs: &'a [u16],
     places: &'a [usize],
-    listings: &'a [u16],
-    shells: usize,
     out: &mut [u8],
 ) -> usize
-    requires { ⌜ Patterned (lent points edges (now uses) (now turned) (now starts) (now wires) (now firsts) (now fronts) (now backs) (now places) (now listings)) shells × (1126400 ≤ length (now out)) ⌝ }
-    ensures { λ r. ⌜ OfAll (lent points edges (now (uses .entry)) (now (turned .entry)) (now (starts .entry)) (now (wires .entry)) (now (firsts .entry)) (now (fronts .entry)) (now (backs .entry)) (now (places .entry)) (now (listings .entry))) shells (λ p. (now (out .exit) ≡ sets (now (out .entry)) 0 (reportText (content p))) × (r ≡ length (reportText (content p)))) ⌝ }
+    requires { ⌜ Made (now t) (now turned) (now starts) (now firsts) (now places) × (1126400 ≤ length (now out)) ⌝ }
+    ensures { λ r. ⌜ OfTables (now (t .entry)) (λ p. (now (out .exit) ≡ sets (now (out .entry)) 0 (reportText (content p))) × (r ≡ length (reportText (content p)))) ⌝ }
 {
+    let counts = counts_in(t);
+    let shells = counts[5];
     let mut solid = SolidCheck::Accepted;
     let mut at: usize = 0;
     let mut n: usize = 0;
     while n < shells {
-        let s = shell_text(
-            points,
-            edges,
-            uses,
-            turned,
-            starts,
-            wires,
-            firsts,
-            fronts,
-            backs,
-            places,
-            listings,
-            n,
-            out,
-            at,
-        );
+        let s = shell_text(t, turned, starts, firsts, places, n, out, at);
         at = s.at;
         let check = s.check;
         solid = solid.and_shell(n, check);
@@ -222,101 +174,17 @@ fn columns_text<'a>(
     solid_text(out, at, solid)
 }
 
-// Writes the text of a pattern without fault that has these tables, lent as columns.
-fn pattern_text<'a>(
-    counts: [usize; 7],
-    fronts: &'a [u16],
-    backs: &'a [u16],
-    uses: &'a [u16],
-    wires: &'a [u16],
-    faces: &'a [u16],
-    shells: &'a [u16],
-    listings: &'a [u16],
-    out: &mut [u8],
-) -> usize
-    requires { ⌜ Tabled counts (now fronts) (now backs) (now uses) (now wires) (now faces) (now shells) (now listings) × (1126400 ≤ length (now out)) ⌝ }
-    ensures { λ r. ⌜ OfTables counts (now (fronts .entry)) (now (backs .entry)) (now (uses .entry)) (now (wires .entry)) (now (faces .entry)) (now (shells .entry)) (now (listings .entry)) (λ p. (now (out .exit) ≡ sets (now (out .entry)) 0 (reportText (content p))) × (r ≡ length (reportText (content p)))) ⌝ }
+// Writes the text of a pattern without fault.
+fn pattern_text(t: &Tables, out: &mut [u8]) -> usize
+    requires { ⌜ Faultless (now t) × (1126400 ≤ length (now out)) ⌝ }
+    ensures { λ r. ⌜ OfTables (now (t .entry)) (λ p. (now (out .exit) ≡ sets (now (out .entry)) 0 (reportText (content p))) × (r ≡ length (reportText (content p)))) ⌝ }
 {
     let mut turned = [0u16; 4096];
     let mut starts = [0usize; 257];
     let mut firsts = [0usize; 257];
     let mut places = [0usize; 257];
-    put_columns(
-        counts,
-        uses,
-        wires,
-        faces,
-        shells,
-        listings,
-        &mut turned,
-        &mut starts,
-        &mut firsts,
-        &mut places,
-    );
-    columns_text(
-        counts[0],
-        counts[1],
-        uses,
-        &turned,
-        &starts,
-        wires,
-        &firsts,
-        fronts,
-        backs,
-        &places,
-        listings,
-        counts[5],
-        out,
-    )
-}
-
-// Writes the text of a file whose contents table is right. Its tables are read as columns: a pattern
-// would be copied at each call.
-fn file_text(bytes: &[u8], out: &mut [u8]) -> usize
-    requires { ⌜ (tableFaults (now bytes) ≡ []) × (1126400 ≤ length (now out)) ⌝ }
-    ensures { λ r. ⌜ (now (out .exit) ≡ sets (now (out .entry)) 0 (reportOf (now (bytes .entry)))) × (r ≡ length (reportOf (now (bytes .entry)))) ⌝ }
-{
-    let mut fronts = [0u16; 1024];
-    let mut backs = [0u16; 1024];
-    let mut uses = [0u16; 4096];
-    let mut wires = [0u16; 1024];
-    let mut faces = [0u16; 256];
-    let mut shells = [0u16; 16];
-    let mut listings = [0u16; 512];
-    read_columns(
-        bytes,
-        &mut fronts,
-        &mut backs,
-        &mut uses,
-        &mut wires,
-        &mut faces,
-        &mut shells,
-        &mut listings,
-    );
-    let answer = check_file(
-        bytes,
-        &fronts,
-        &backs,
-        &uses,
-        &wires,
-        &faces,
-        &shells,
-        &listings,
-    );
-    match answer {
-        Check::Refused(f) => put_refusal(f, out),
-        Check::Accepted => pattern_text(
-            counts_of(bytes),
-            &fronts,
-            &backs,
-            &uses,
-            &wires,
-            &faces,
-            &shells,
-            &listings,
-            out,
-        ),
-    }
+    put_columns(t, &mut turned, &mut starts, &mut firsts, &mut places);
+    columns_text(t, &turned, &starts, &firsts, &places, out)
 }
 
 // Writes all that `report` prints for a file, from the first place on, and returns its length. The
@@ -324,9 +192,11 @@ fn file_text(bytes: &[u8], out: &mut [u8]) -> usize
 pub fn report(bytes: &[u8], out: &mut [u8; 1126400]) -> usize
     ensures { λ r. ⌜ (now (out .exit) ≡ sets (now (out .entry)) 0 (reportOf (now (bytes .entry)))) × (r ≡ length (reportOf (now (bytes .entry)))) ⌝ }
 {
-    let table = check_table(bytes);
-    match table {
+    let mut t = [0u16; TABLES];
+    let mut spans = [0.0; SPANS];
+    let answer = read(bytes, &mut t, &mut spans);
+    match answer {
         Check::Refused(f) => put_refusal(f, out),
-        Check::Accepted => file_text(bytes, out),
+        Check::Accepted => pattern_text(&t, out),
     }
 }

@@ -1,33 +1,47 @@
 -- The columns in the code's hands are those of a sound pattern: what the functions ask of them, and what they find.
 use Prim.Native.Nat.{_+_, _-_, _<_, _≤_, suc, ℕ}
-use mathlib.Core.Bool.{Bool}
 use mathlib.Core.List.{List, map}
-use mathlib.Core.Path.{_∙_, _≡_, sym}
+use mathlib.Core.Path.{_∙_, _≡_, ap, sym}
 use native.Mathlib.Numerals.{add-one}
 use native.Mathlib.Omega.{arith}
-use lib.ListN.{getD, length, length-append, length-map, replicate, take}
-use lib.Seq.{sets}
+use lib.ListN.{drop, getD, length, length-append, length-drop, length-map, length-take, replicate, take}
 use Rattle.columns.proofs.Shells.{listings-are, listings-inside}
-use Rattle.columns.specs.Columns.{columnsIn, firstListing}
-use Rattle.columns.specs.Sound.{Sound}
-use Rattle.columns.specs.declared.Columns.{Columns}
-use Rattle.components.specs.Pairs.{Paired}
+use Rattle.columns.specs.Columns.{Columns, Made, columnsIn, firstListing, lent}
+use Rattle.columns.specs.Sound.{OfTables, Sound}
 use Rattle.edge.specs.Edges.{backNumber, frontNumber}
-use Rattle.edge.specs.Uses.{backOf, frontOf}
 use Rattle.listing.specs.Parts.{between}
 use Rattle.lists.proofs.Laws.{length-tabulate, map-take}
-use Rattle.lists.specs.Lists.{flat, split, tabulate}
+use Rattle.lists.specs.Lists.{tabulate}
 use Rattle.pairs.specs.Pairs.{Pairs, Showing, pairsOf}
 use Rattle.pattern.proofs.Counts.{points-counted}
-use Rattle.pattern.specs.Contents.{content}
-use Rattle.pattern.specs.declared.Pattern.{Pattern}
+use Rattle.pattern.specs.Contents.{Pattern, content}
+use Rattle.shell.specs.Shells.{listingsOf}
+use Rattle.store.specs.Store.{countTable, held, listingTable, useTable, wireTable}
 use Rattle.reports.proofs.Groups.{figured, groups-found, showing}
-use Rattle.reports.specs.Figures.{Figured, figuresOf, groupsFound}
-use Rattle.reports.specs.declared.ShellGroups.{ShellGroups}
-use Rattle.singular.specs.Ends.{Cornered}
-use Rattle.shell.specs.Components.{componentsOf}
-use Rattle.shell.specs.Connected.{connectedOf}
-use Rattle.shell.specs.Singular.{singularOf}
+use Rattle.reports.specs.Figures.{Counted, Figured, Grouped}
+use Rattle.reports.specs.declared.GroupCounts.{GroupCounts}
+use Rattle.store.specs.Columns.{backTable, frontTable}
+
+-- the columns in the hands of a function that has each table by itself
+abbrev pub inHand : List ℕ → List ℕ → List ℕ → List ℕ → List ℕ → List ℕ → List ℕ → List ℕ → List ℕ → List ℕ → Columns
+inHand counts uses turned starts wires firsts fronts backs places listings = record {
+  points = getD counts 0 0;
+  edges = getD counts 1 0;
+  uses = uses;
+  turned = turned;
+  starts = starts;
+  wires = wires;
+  firsts = firsts;
+  fronts = fronts;
+  backs = backs;
+  places = places;
+  listings = listings;
+}
+
+pub in-hand : {t counts uses wires fronts backs listings turned starts firsts places : List ℕ} → Made t turned starts firsts places
+    → counts ≡ countTable t → uses ≡ useTable t → wires ≡ wireTable t → fronts ≡ frontTable t → backs ≡ backTable t → listings ≡ listingTable t
+    → OfTables t (λ p. Sound p × (inHand counts uses turned starts wires firsts fronts backs places listings ≡ columnsIn p))
+in-hand m a b c d e f spans ok = (m .all spans ok .0, rw (a, b, c, d, e, f) (m .all spans ok .1))
 
 -- the listings of shell n in the columns
 abbrev pub listingsIn : Columns → ℕ → List ℕ
@@ -65,40 +79,35 @@ module _ (k : Columns) (n : ℕ) (p : Pattern) (s : Sound p) (e : k ≡ columnsI
     pairs-of : g ≡ pairsOf (between (p .listings) (getD (columnsIn p .places) n 0) (getD (columnsIn p .places) (n + 1) 0)) (p .uses) (columnsIn p .turned) (columnsIn p .starts) (p .wires) (columnsIn p .firsts)
     pairs-of = rw e at f
 
-    pub k-figured : Figured g (take (k .edges) (k .fronts)) (take (k .edges) (k .backs)) (k .points)
-    k-figured =
+    pub k-figured : (out sizes found : List ℕ) → 512 ≤ length out → 512 ≤ length sizes → 2048 ≤ length found
+        → Figured g (take (k .edges) (k .fronts)) (take (k .edges) (k .backs)) (k .points) out sizes found
+    k-figured out sizes found x y z =
         rw (fronts-are, backs-are, points-are)
-        (figured p s n here g (rw (add-one, listings-are p s n here) at pairs-of))
+        (figured p s n here g (rw (add-one, listings-are p s n here) at pairs-of) out sizes found x y z)
 
-    pub k-groups : (r : ShellGroups) → r ≡ figuresOf g (take (k .edges) (k .fronts)) (take (k .edges) (k .backs)) (k .points) → r ≡ groupsFound (content p) n
-    k-groups r h =
-        (rw (fronts-are, backs-are, points-are) at h)
-        ∙ groups-found p s n here g (rw (add-one, listings-are p s n here) at pairs-of)
+    pub k-groups : {out₀ sizes₀ found₀ out sizes found : List ℕ} {r : GroupCounts}
+        → Counted g (take (k .edges) (k .fronts)) (take (k .edges) (k .backs)) (k .points) out₀ sizes₀ found₀ out sizes found r
+        → Grouped (content p) n out₀ sizes₀ found₀ out sizes found r
+    k-groups h = groups-found p s n here g (rw (add-one, listings-are p s n here) at pairs-of) (rw (fronts-are, backs-are, points-are) at h)
 
--- ---- the struct that the groups stand in
-module _ (g : Pairs) (fronts backs : List ℕ) (points : ℕ) where
-  abbrev wiresOf : List (List ℕ)
-  wiresOf = split (take (g .wires) (g .lens)) (take (g .uses) (g .shown))
+-- ---- where the listings of a shell stand
+module _ {t turned starts firsts places : List ℕ} (m : Made t turned starts firsts places) {n : ℕ} (here : n < getD (countTable t) 5 0) where
+  abbrev own : Sound (held t (m .faultless .spans)) × (lent t turned starts firsts places ≡ columnsIn (held t (m .faultless .spans)))
+  own = m .all (m .faultless .spans) (m .faultless .ok)
 
-  abbrev groupsOfPairs : List (List ℕ)
-  groupsOfPairs = componentsOf (take (g .number) (g .pairs)) (split (take (g .number) (g .spans)) (take (g .uses) (g .shown)))
+  pub shell-inside : (n < 16) × (n + 1 < length places)
+  shell-inside = (omega (arith, here, own .0 .limits .shells), places-inside (lent t turned starts firsts places) n _ (own .0) (own .1) here)
 
-  abbrev singularOfPairs : List ℕ
-  singularOfPairs = singularOf (frontOf fronts backs) (backOf fronts backs) (length fronts) points wiresOf
+  pub shell-listed : getD places n 0 ≤ getD places (n + 1) 0
+  shell-listed = in-places (lent t turned starts firsts places) n _ (own .0) (own .1) here .0
 
-  pub figures-made : (c : Bool) (n m : ℕ) (ps₀ ls₀ ss₀ ps ls ss : List ℕ) → ps₀ ≡ replicate 512 0 → ls₀ ≡ replicate 512 0 → ss₀ ≡ replicate 2048 0
-      → c ≡ connectedOf (frontOf fronts backs) (backOf fronts backs) points (split (take (g .number) (g .counts)) wiresOf)
-      → ps ≡ sets ps₀ 0 (flat groupsOfPairs) → ls ≡ sets ls₀ 0 (map length groupsOfPairs) → n ≡ length groupsOfPairs
-      → ss ≡ sets ss₀ 0 singularOfPairs → m ≡ length singularOfPairs
-      → record { connected = c; components = n; members = g .number; singular = m; pairs = ps; lens = ls; points = ss } ≡ figuresOf g fronts backs points
-  unfolding figuresOf
-  figures-made c n m ps₀ ls₀ ss₀ ps ls ss x y z a b d e f h = rw (a, b, d, e, f, h, x, y, z)
-
-  -- columns with nothing written may be written into
-  pub paired-into : (out lens : List ℕ) → Figured g fronts backs points → out ≡ replicate 512 0 → lens ≡ replicate 512 0
-      → Paired (take (g .number) (g .pairs)) (take (g .number) (g .spans)) (take (g .uses) (g .shown)) (length fronts) out lens
-  paired-into out lens f x y = rw (x, y) (f .paired)
-
-  pub cornered-into : (out : List ℕ) → Figured g fronts backs points → out ≡ replicate 2048 0
-      → Cornered (take (g .uses) (g .shown)) (take (g .wires) (g .lens)) fronts backs points out
-  cornered-into out f x = rw x (f .cornered)
+  -- how many they are
+  pub listings-count : OfTables t (λ p. getD places (n + 1) 0 - getD places n 0 ≡ length (listingsOf (content p) n))
+  listings-count spans ok =
+      let p = held t spans in
+      let s = m .all spans ok .0 in
+      let e = m .all spans ok .1 in
+      let k = lent t turned starts firsts places in
+      let i = in-places k n p s e here in
+      let same : listingsIn k n ≡ listingsOf (content p) n = ap (λ (c : Columns). listingsIn c n) e ∙ rw add-one (listings-are p s n here) in
+      omega (arith, i .0, i .1, ap length same, length-take (getD places (n + 1) 0 - getD places n 0) (drop (getD places n 0) (k .listings)), length-drop (getD places n 0) (k .listings))

@@ -25,8 +25,7 @@ use Rattle.pairs.specs.Pairs.{hasWiresAt, lensAt, pairsIn}
 use Rattle.pattern.proofs.Counts.{faces-counted, wires-counted}
 use Rattle.pattern.proofs.Named.{faces-summed, wires-summed}
 use Rattle.pattern.specs.Checks.{outlines}
-use Rattle.pattern.specs.Contents.{content}
-use Rattle.pattern.specs.declared.Pattern.{Pattern}
+use Rattle.pattern.specs.Contents.{Pattern, content}
 use Rattle.shell.specs.Components.{hasWires, shellPairs}
 use Rattle.shell.specs.Shells.{faceNumber, listingsOf, shownWire, shownWires}
 

@@ -6,7 +6,7 @@ use mathlib.Core.Logic.{⊎-elim}
 use mathlib.Core.Path.{_∙_, _≡_, ap, refl, sym}
 use native.Mathlib.Omega.{arith}
 use lib.ListN.{drop, getD, length, length-append, length-map, length-replicate, length-take, replicate, take}
-use lib.Seq.{getD-drop, getD-take, take-append-seam}
+use lib.Seq.{getD-drop, getD-take, sets, take-append-seam}
 use Rattle.columns.proofs.Shells.{first-is, firsts-long, listings-are, listings-inside, records-fine, shell-named, start-is, starts-long, turned-full}
 use Rattle.columns.specs.Columns.{columnsIn, firstUse, firstWire}
 use Rattle.columns.specs.Sound.{Sound}
@@ -24,17 +24,17 @@ use Rattle.lists.proofs.Parts.{all-place, length-only, split-flat}
 use Rattle.lists.proofs.Count.{All, all-flat-map, all-map, all-weaker}
 use Rattle.lists.proofs.Laws.{length-tabulate, sum-next, sum-take-drop}
 use Rattle.lists.specs.Lists.{flat, numbers, only, padded, split, sum}
-use Rattle.pairs.proofs.Columns.{lens-room, sets-padded, showing-few, uses-room}
+use Rattle.pairs.proofs.Columns.{lens-room, showing-few, uses-room}
 use Rattle.pairs.specs.Pairs.{Pairs, Rows, Showing, lensAt, pairsIn, pairsOf}
 use Rattle.pattern.proofs.Counts.{edges-counted, faces-counted, points-counted, uses-counted, wires-counted}
 use Rattle.pattern.proofs.Named.{faces-summed, wires-summed}
 use Rattle.pattern.specs.Checks.{outlines}
-use Rattle.pattern.specs.Contents.{content}
-use Rattle.pattern.specs.declared.Pattern.{Pattern}
+use Rattle.pattern.specs.Contents.{Pattern, content}
 use Rattle.reports.proofs.Alike.{flat-only, in-once, no-wires, of-once}
 use Rattle.reports.proofs.Faces.{Held, flat-lengths, flat-uses, held-parts, held-wires, pair-lens, pair-parts, pairFaces, pairs-are, pairs-named}
 use Rattle.reports.proofs.Ready.{Some, listing-some, listings-placed, use-back, use-edge, use-front}
-use Rattle.reports.specs.Figures.{Figured, figuresOf, groupsFound}
+use Rattle.reports.specs.Figures.{Counted, Figured, Grouped, pairGroups, pairSingular, pairWires}
+use Rattle.reports.specs.declared.GroupCounts.{GroupCounts}
 use Rattle.shell.specs.Components.{components, componentsOf, hasWires, shellPairs}
 use Rattle.shell.specs.Connected.{connected, connectedOf, faceLinks}
 use Rattle.shell.specs.Shells.{faceNumber, listingsOf, shellFaces, shellWires, shownWires}
@@ -250,8 +250,8 @@ module _ (p : Pattern) (s : Sound p) where
       spans-long : length spansOf ≡ length P
       spans-long = length-map F (λ (wires : List (List ℕ)). length (flat wires)) ∙ length-map P (shownWires (outlines (content p)))
 
-      faces-paired : Paired P spansOf (flat (flat F)) (length fs) (replicate 512 0) (replicate 512 0)
-      faces-paired = record {
+      faces-paired : (out sizes : List ℕ) → 512 ≤ length out → 512 ≤ length sizes → Paired P spansOf (flat (flat F)) (length fs) out sizes
+      faces-paired out sizes room₁ room₂ = record {
         alike = spans-long;
         shown = record {
           few = omega (arith, spans-long, pairs-few);
@@ -260,30 +260,30 @@ module _ (p : Pattern) (s : Sound p) where
           low = omega (arith, edges-long, edges-few);
           within = edge-named;
         };
-        members = omega (arith, pairs-few, length-replicate {A = ℕ} 512 0);
-        groups = omega (arith, pairs-few, length-replicate {A = ℕ} 512 0);
+        members = omega (arith, pairs-few);
+        groups = omega (arith, pairs-few);
       }
 
-      faces-cornered : Cornered (flat (flat F)) (map length (flat F)) fs bs (length (content p .points)) (replicate 2048 0)
-      faces-cornered = record {
+      faces-cornered : (found : List ℕ) → 2048 ≤ length found → Cornered (flat (flat F)) (map length (flat F)) fs bs (length (content p .points)) found
+      faces-cornered found room = record {
         wired = record { summed = summed; few-uses = uses-few; few-edges = omega (arith, edges-long, edges-few); edge = edge-named };
         alike = alike;
         few-points = points-few;
-        room = omega (arith, points-few, length-replicate {A = ℕ} 2048 0);
+        room = omega (arith, points-few);
         front = use-front p s (flat (flat F)) all-placed;
         back = use-back p s (flat (flat F)) all-placed;
       }
 
-      pub figured : Figured g fs bs (length (content p .points))
-      figured = record {
+      pub figured : (out sizes found : List ℕ) → 512 ≤ length out → 512 ≤ length sizes → 2048 ≤ length found → Figured g fs bs (length (content p .points)) out sizes found
+      figured out sizes found x y z = record {
         pairs = first-in 512 P (g .pairs) (g .number) pairs-hold number-is;
         counts = first-in 512 (map length F) (g .counts) (g .number) counts-hold (number-is ∙ sym (length-map F length ∙ length-map P (shownWires (outlines (content p)))));
         spans = first-in 512 spansOf (g .spans) (g .number) spans-hold (number-is ∙ sym spans-long);
         lens = first-in 2048 (map length (flat F)) (g .lens) (g .wires) lens-hold wires-is;
         shown = first-in 8192 (flat (flat F)) (g .shown) (g .uses) shown-hold uses-is;
         wired = rw (held .uses-are, held .lens-are, held .counts-are) faces-wired;
-        paired = rw (pairs-first, held .spans-are, held .uses-are) faces-paired;
-        cornered = rw (held .uses-are, held .lens-are) faces-cornered;
+        paired = rw (pairs-first, held .spans-are, held .uses-are) (faces-paired out sizes x y);
+        cornered = rw (held .uses-are, held .lens-are) (faces-cornered found z);
       }
 
       -- ---- what is found
@@ -352,11 +352,14 @@ module _ (p : Pattern) (s : Sound p) where
       components-is : componentsOf P (map flat F) ≡ components (content p) n
       components-is = rw (map-map flat (shownWires (outlines (content p))) P)
 
+      abbrev room : Paired P spansOf (flat (flat F)) (length fs) (replicate 512 0) (replicate 512 0)
+      room = faces-paired (replicate 512 0) (replicate 512 0) (omega (arith, length-replicate {A = ℕ} 512 0)) (omega (arith, length-replicate {A = ℕ} 512 0))
+
       groups-long : length (flat (componentsOf P (split spansOf (flat (flat F))))) ≡ length P
-      groups-long = components-long spansOf (flat (flat F)) (length fs) (faces-paired .shown) P (replicate 512 0) (replicate 512 0) faces-paired
+      groups-long = components-long spansOf (flat (flat F)) (length fs) (room .shown) P (replicate 512 0) (replicate 512 0) room
 
       groups-few : length (componentsOf P (split spansOf (flat (flat F)))) ≤ length P
-      groups-few = components-few spansOf (flat (flat F)) (length fs) (faces-paired .shown) P (replicate 512 0) (replicate 512 0) faces-paired
+      groups-few = components-few spansOf (flat (flat F)) (length fs) (room .shown) P (replicate 512 0) (replicate 512 0) room
 
       held-now : Held F (map length F) spansOf (map length (flat F)) (flat (flat F))
       held-now = record { counts-are = refl; spans-are = refl; lens-are = refl; uses-are = refl }
@@ -366,52 +369,45 @@ module _ (p : Pattern) (s : Sound p) where
       singular-few =
           omega (arith, length-only (isSingular (frontIn (content p)) (backIn (content p)) (length (content p .edges)) (shellWires (content p) n)) (numbers points), length-tabulate points (λ (k : ℕ). k), points-few)
 
-      pub groups-found : figuresOf g fs bs points ≡ groupsFound (content p) n
-      unfolding figuresOf
-      groups-found =
-          let parts : split spansOf (flat (flat F)) ≡ map flat F = held-parts held-now in
-          let cs : componentsOf P (split spansOf (flat (flat F))) ≡ components (content p) n = rw parts components-is in
-          let long : length (flat (components (content p) n)) ≤ 512 = omega (arith, ap (λ (r : List (List ℕ)). length (flat r)) cs, groups-long, pairs-few) in
-          let few : length (map length (components (content p) n)) ≤ 512 =
-          omega (arith, length-map (components (content p) n) length, ap length cs, groups-few, pairs-few) in
-          let singular : length (singularPoints (content p) n) ≤ 2048 = singular-few in
-          rw (
-            held .uses-are,
-            held .lens-are,
-            held .counts-are,
-            held .spans-are,
-            pairs-first,
-            held-wires held-now,
-            split-flat F,
-            cs,
-            connected-is,
-            singular-is,
-            number-is,
-            sets-padded 512 (flat (components (content p) n)) long,
-            sets-padded 512 (map length (components (content p) n)) few,
-            sets-padded 2048 (singularPoints (content p) n) singular,
-          )
+      parts-are : componentsOf P (split spansOf (flat (flat F))) ≡ components (content p) n
+      parts-are = rw (held-parts held-now) components-is
+
+      groups-are : pairGroups g ≡ components (content p) n
+      groups-are = rw (pairs-first, held .spans-are, held .uses-are) parts-are
+
+      corners-are : pairSingular g fs bs points ≡ singularPoints (content p) n
+      corners-are = rw (held .uses-are, held .lens-are, held-wires held-now) singular-is
+
+      linked-are : connectedOf front back points (split (take (g .number) (g .counts)) (pairWires g)) ≡ connected (content p) n
+      linked-are = rw (held .uses-are, held .lens-are, held .counts-are, held-wires held-now, split-flat F) connected-is
+
+      pub members-are : length (flat (components (content p) n)) ≡ length P
+      members-are = rw (← parts-are) groups-long
+
+      pub groups-found : {out₀ sizes₀ found₀ out sizes found : List ℕ} {r : GroupCounts} → Counted g fs bs points out₀ sizes₀ found₀ out sizes found r
+          → Grouped (content p) n out₀ sizes₀ found₀ out sizes found r
+      groups-found {out₀} {sizes₀} {found₀} {out} {sizes} {found} {r} c = record {
+        counts = λ i. record {
+          connected = (c .connected ∙ linked-are) i;
+          components = (c .components ∙ ap length groups-are) i;
+          members = (c .members ∙ number-is ∙ sym members-are) i;
+          singular = (c .singular ∙ ap length corners-are) i;
+        };
+        pairs = c .pairs ∙ ap (λ (cs : List (List ℕ)). sets out₀ 0 (flat cs)) groups-are;
+        lengths = c .lengths ∙ ap (λ (cs : List (List ℕ)). sets sizes₀ 0 (map length cs)) groups-are;
+        points = c .corners ∙ ap (sets found₀ 0) corners-are;
+      }
 
 -- ---- how many there are of each
 module _ (p : Pattern) (s : Sound p) (n : ℕ) (here : n < getD (p .counts) 5 0) where
   abbrev own : Pairs
   own = pairsOf (listingsOf (content p) n) (p .uses) (columnsIn p .turned) (columnsIn p .starts) (p .wires) (columnsIn p .firsts)
 
-  abbrev parts : List (List ℕ)
-  parts = split (spansOf p s n here own refl) (flat (flat (pairFaces p s n)))
-
-  groups-are : componentsOf (shellPairs (content p) n) parts ≡ components (content p) n
-  groups-are = rw (held-parts (held-now p s n here own refl)) (components-is p s n here own refl)
-
-  pub pairs-bound : length (shellPairs (content p) n) ≤ 512
-  pairs-bound = pairs-few p s n here own refl
-
-  -- every pair is in one component
-  pub members-are : length (flat (components (content p) n)) ≡ length (shellPairs (content p) n)
-  members-are = rw (← groups-are) (groups-long p s n here own refl)
+  pub pairs-bound : length (flat (components (content p) n)) ≤ 512
+  pairs-bound = omega (arith, members-are p s n here own refl, pairs-few p s n here own refl)
 
   pub components-bound : length (components (content p) n) ≤ 512
-  components-bound = rw (← groups-are) (omega (arith, groups-few p s n here own refl, pairs-bound))
+  components-bound = rw (← parts-are p s n here own refl) (omega (arith, groups-few p s n here own refl, pairs-few p s n here own refl))
 
   pub singular-bound : length (singularPoints (content p) n) ≤ 2048
   singular-bound = singular-few p s n here own refl

@@ -6,9 +6,8 @@ use native.Mathlib.Numerals.{add-one}
 use native.Mathlib.Omega.{arith}
 use lib.ListN.{getD, length, length-append, length-map, length-replicate, replicate, take}
 use Rattle.columns.proofs.Shells.{listings-are}
-use Rattle.columns.specs.Columns.{columnsIn}
+use Rattle.columns.specs.Columns.{Columns, columnsIn}
 use Rattle.columns.specs.Sound.{Sound}
-use Rattle.columns.specs.declared.Columns.{Columns}
 use Rattle.condition.proofs.Laws.{tallied-none, tallied-part}
 use Rattle.condition.proofs.Theorem.{tally-condition}
 use Rattle.condition.specs.Tallies.{Tallied, conditionIn, insertedAll, oddsIn, stateOf}
@@ -22,13 +21,11 @@ use Rattle.listing.specs.Parts.{partsOf}
 use Rattle.lists.proofs.Count.{All, all-weaker}
 use Rattle.lists.specs.Lists.{flat, tabulate}
 use Rattle.openings.specs.declared.Walked.{Walked}
-use Rattle.pairs.proofs.Columns.{sets-padded}
 use Rattle.pattern.proofs.Counts.{edges-counted, points-counted}
-use Rattle.pattern.specs.Contents.{content}
-use Rattle.pattern.specs.declared.Pattern.{Pattern}
+use Rattle.pattern.specs.Contents.{Pattern, content}
 use Rattle.reports.proofs.Columned.{backs-are, fronts-are, listingsIn, points-are}
 use Rattle.reports.proofs.Ready.{all-tally, all-walk, shell-placed, use-front, uses-are}
-use Rattle.reports.specs.Figures.{openingsFound}
+use Rattle.reports.specs.Figures.{Opened}
 use Rattle.shell.proofs.Closed.{closed-walk}
 use Rattle.shell.proofs.Level.{IsUse}
 use Rattle.shell.specs.Conditions.{condition}
@@ -77,7 +74,7 @@ module _ (k : Columns) (n : ℕ) (p : Pattern) (s : Sound p) (e : k ≡ columnsI
     tallied : Tallied us t
     tallied = rw made-of (tallied-part [] us noUses (tallied-none noUses refl refl) wide)
 
-    pub k-extractable : (odd out lens : List ℕ) → odd ≡ oddsIn t (k .edges) → length out ≡ 2048 → length lens ≡ 2048
+    pub k-extractable : (odd out lens : List ℕ) → odd ≡ oddsIn t (k .edges) → 2048 ≤ length out → 2048 ≤ length lens
         → Extractable (usesIn k n) odd (take (k .edges) (k .fronts)) (take (k .edges) (k .backs)) (k .points) out lens
     k-extractable odd out lens o a b =
         let fs = map frontNumber (content p .edges) in
@@ -89,8 +86,8 @@ module _ (k : Columns) (n : ℕ) (p : Pattern) (s : Sound p) (e : k ≡ columnsI
           places = omega (arith, points-counted p (s .limits) (s .full), s .limits .points);
           inside = use-front p s us (shell-placed p s n);
           free = λ i l. tally-free us t (k .edges) made-of named edges-few i l;
-          uses = omega (arith, a);
-          lengths = omega (arith, b);
+          uses = a;
+          lengths = b;
         })
 
     k-condition : conditionIn t (k .edges) ≡ condition us
@@ -113,24 +110,13 @@ module _ (k : Columns) (n : ℕ) (p : Pattern) (s : Sound p) (e : k ≡ columnsI
         rw (closed-walk front back (k .points) (usesIn k n) (ap condition k-uses ∙ sym k-condition ∙ sym is ∙ closed))
         (record { uses = refl; lengths = refl; place = refl; number = refl; asked = refl; few = (omega arith, omega arith, omega arith) })
 
-    module _ (w : ℕ) (is : w ≡ conditionIn t (k .edges)) (out₀ lens₀ : List ℕ) (a : out₀ ≡ replicate 2048 0) (b : lens₀ ≡ replicate 2048 0) (out lens : List ℕ) (r : Walked)
-        (h : Written walked out₀ lens₀ out lens r) where
-      walk-is : Written (shellWalk (content p) n) (replicate 2048 0) (replicate 2048 0) out lens r
-      walk-is = rw (k-uses, fronts-are k n p s e here, backs-are k n p s e here, points-are k n p s e here, a, b) at h
+    module _ (w : ℕ) (is : w ≡ conditionIn t (k .edges)) {out₀ lens₀ out lens : List ℕ} {r : Walked} (h : Written walked out₀ lens₀ out lens r) where
+      walk-is : Written (shellWalk (content p) n) out₀ lens₀ out lens r
+      walk-is = rw (k-uses, fronts-are k n p s e here, backs-are k n p s e here, points-are k n p s e here) at h
 
-      pub k-openings : record { condition = w; openings = r .openings; used = r .at; lookups = r .lookups; uses = out; lens = lens } ≡ openingsFound (content p) n
-      k-openings =
-          let o = shellWalk (content p) n .openings in
-          let long : length (flat o) ≤ 2048 = omega (arith, walk-is .place, walk-is .few .0) in
-          let few : length (map length o) ≤ 2048 = omega (arith, length-map o length, walk-is .number, walk-is .few .1) in
-          rw (
-            is,
-            k-condition,
-            walk-is .number,
-            walk-is .place,
-            walk-is .asked,
-            walk-is .uses,
-            walk-is .lengths,
-            sets-padded 2048 (flat o) long,
-            sets-padded 2048 (map length o) few,
-          )
+      pub k-openings : Opened (content p) n out₀ lens₀ out lens (record { condition = w; openings = r .openings; used = r .at; lookups = r .lookups })
+      k-openings = record {
+        counts = rw (is, k-condition, walk-is .number, walk-is .place, walk-is .asked);
+        uses = walk-is .uses;
+        lengths = walk-is .lengths;
+      }

@@ -9,7 +9,7 @@ use Rattle.columns.proofs.Shells.{content-fine, part-fine, part-is, parts-are, 
 use Rattle.columns.specs.Columns.{columnsIn}
 use Rattle.columns.specs.Sound.{Sound}
 use Rattle.edge.specs.Edges.{backNumber, frontNumber}
-use Rattle.edge.specs.Uses.{EdgesBelow, backOf, edgeNumber, frontOf}
+use Rattle.edge.specs.Uses.{backOf, edgeNumber, frontOf}
 use Rattle.errors.proofs.Laws.{none-left, none-right}
 use Rattle.errors.specs.Faults.{each}
 use Rattle.extract.specs.Listings.{AllTally, AllWalk}
@@ -23,11 +23,11 @@ use Rattle.lists.specs.Lists.{flat}
 use Rattle.pattern.proofs.Counts.{edges-counted, points-counted}
 use Rattle.pattern.proofs.Passed.{content-passed}
 use Rattle.pattern.specs.Checks.{outlines}
-use Rattle.pattern.specs.Contents.{content}
-use Rattle.pattern.specs.declared.Pattern.{Pattern}
+use Rattle.pattern.specs.Contents.{Pattern, content}
 use Rattle.shell.specs.Shells.{faceNumber, listingsOf, shellUses, shellWires, shownWire, shownWires}
 use Rattle.wire.proofs.Laws.{faultless-sound}
 use Rattle.wire.specs.Wires.{Named, wireFaults}
+use Rattle.edge.specs.Below.{EdgesBelow}
 
 -- ---- a face without fault has no wire without uses
 abbrev pub Some : List ℕ → Type 0

@@ -1,66 +1,55 @@
--- The figures of a shell, in arrays: its condition and openings, its groups.
-use Prim.Native.Nat.{ℕ, _<_, _≤_}
+-- The figures of a shell: its condition and openings, its groups; what is written of them.
+use Prim.Native.Nat.{ℕ, _≤_}
 use mathlib.Core.List.{List, map}
 use mathlib.Core.Path.{_≡_}
-use lib.ListN.{getD, length, replicate, take}
+use lib.ListN.{length, take}
 use lib.Seq.{sets}
-use Rattle.lists.specs.Lists.{flat, padded, split}
+use Rattle.lists.specs.Lists.{flat, split}
 use Rattle.edge.specs.Uses.{backOf, frontOf}
-use Rattle.columns.specs.Columns.{columnsIn}
-use Rattle.columns.specs.Sound.{Sound}
-use Rattle.columns.specs.declared.Columns.{Columns}
 use Rattle.components.specs.Pairs.{Paired}
 use Rattle.connected.specs.Wired.{Wired}
 use Rattle.singular.specs.Ends.{Cornered}
 use Rattle.pairs.specs.Pairs.{Pairs}
 use Rattle.pattern.specs.Contents.{Content}
-use Rattle.pattern.specs.declared.Pattern.{Pattern}
 use Rattle.reports.specs.declared.GroupCounts.{GroupCounts}
 use Rattle.reports.specs.declared.OpeningCounts.{OpeningCounts}
-use Rattle.reports.specs.declared.ShellGroups.{ShellGroups}
-use Rattle.reports.specs.declared.ShellOpenings.{ShellOpenings}
-use Rattle.shell.specs.Components.{components, componentsOf, shellPairs}
+use Rattle.shell.specs.Components.{components, componentsOf}
 use Rattle.shell.specs.Conditions.{condition}
 use Rattle.shell.specs.Connected.{connected, connectedOf}
 use Rattle.shell.specs.Openings.{shellWalk}
 use Rattle.shell.specs.Shells.{shellUses}
 use Rattle.shell.specs.Singular.{singularOf, singularPoints}
 
-abbrev pub openingsFound : Content → ℕ → ShellOpenings
-openingsFound c n = record {
+abbrev pub openingCounts : Content → ℕ → OpeningCounts
+openingCounts c n = record {
   condition = condition (shellUses c n);
   openings = length (shellWalk c n .openings);
   used = length (flat (shellWalk c n .openings));
   lookups = shellWalk c n .lookups;
-  uses = padded 2048 0 (flat (shellWalk c n .openings));
-  lens = padded 2048 0 (map length (shellWalk c n .openings));
 }
 
-abbrev pub groupsFound : Content → ℕ → ShellGroups
-groupsFound c n = record {
+abbrev pub groupCounts : Content → ℕ → GroupCounts
+groupCounts c n = record {
   connected = connected c n;
   components = length (components c n);
-  members = length (shellPairs c n);
+  members = length (flat (components c n));
   singular = length (singularPoints c n);
-  pairs = padded 512 0 (flat (components c n));
-  lens = padded 512 0 (map length (components c n));
-  points = padded 2048 0 (singularPoints c n);
 }
 
--- figures and arrays that stand apart
-abbrev pub openingsWith : OpeningCounts → List ℕ → List ℕ → ShellOpenings
-openingsWith r uses lens = record { condition = r .condition; openings = r .openings; used = r .used; lookups = r .lookups; uses = uses; lens = lens }
+-- the openings of shell n are written to two lists
+pub record Opened (c : Content) (n : ℕ) (out₀ lens₀ out lens : List ℕ) (r : OpeningCounts) : Type 0 where
+  pub counts : r ≡ openingCounts c n
+  pub uses : out ≡ sets out₀ 0 (flat (shellWalk c n .openings))
+  pub lengths : lens ≡ sets lens₀ 0 (map length (shellWalk c n .openings))
 
-abbrev pub groupsWith : GroupCounts → List ℕ → List ℕ → List ℕ → ShellGroups
-groupsWith r pairs lens points = record {
-  connected = r .connected;
-  components = r .components;
-  members = r .members;
-  singular = r .singular;
-  pairs = pairs;
-  lens = lens;
-  points = points;
-}
+-- the components and the singular points of shell n are written to three lists
+pub record Grouped (c : Content) (n : ℕ) (out₀ sizes₀ found₀ out sizes found : List ℕ) (r : GroupCounts) : Type 0 where
+  pub counts : r ≡ groupCounts c n
+  pub pairs : out ≡ sets out₀ 0 (flat (components c n))
+  pub lengths : sizes ≡ sets sizes₀ 0 (map length (components c n))
+  pub points : found ≡ sets found₀ 0 (singularPoints c n)
+
+-- ---- the groups from the columns of the pairs
 
 -- columns of pairs that stand apart
 abbrev pub pairsLent : ℕ → ℕ → ℕ → List ℕ → List ℕ → List ℕ → List ℕ → List ℕ → Pairs
@@ -75,69 +64,32 @@ pairsLent number wires uses pairs counts spans lens shown = record {
   shown = shown;
 }
 
--- columns of a pattern that stand apart
-abbrev pub lent : ℕ → ℕ → List ℕ → List ℕ → List ℕ → List ℕ → List ℕ → List ℕ → List ℕ → List ℕ → List ℕ → Columns
-lent points edges uses turned starts wires firsts fronts backs places listings = record {
-  points = points;
-  edges = edges;
-  uses = uses;
-  turned = turned;
-  starts = starts;
-  wires = wires;
-  firsts = firsts;
-  fronts = fronts;
-  backs = backs;
-  places = places;
-  listings = listings;
-}
+abbrev pub pairWires : Pairs → List (List ℕ)
+pairWires g = split (take (g .wires) (g .lens)) (take (g .uses) (g .shown))
 
--- the groups of a shell from the columns of the pairs
-unfoldable pub figuresOf : Pairs → List ℕ → List ℕ → ℕ → ShellGroups
-figuresOf g fronts backs points =
-    let front = frontOf fronts backs in
-    let back = backOf fronts backs in
-    let wires = split (take (g .wires) (g .lens)) (take (g .uses) (g .shown)) in
-    let groups = componentsOf (take (g .number) (g .pairs)) (split (take (g .number) (g .spans)) (take (g .uses) (g .shown))) in
-    let singular = singularOf front back (length fronts) points wires in
-    record {
-      connected = connectedOf front back points (split (take (g .number) (g .counts)) wires);
-      components = length groups;
-      members = g .number;
-      singular = length singular;
-      pairs = sets (replicate 512 0) 0 (flat groups);
-      lens = sets (replicate 512 0) 0 (map length groups);
-      points = sets (replicate 2048 0) 0 singular;
-    }
+abbrev pub pairGroups : Pairs → List (List ℕ)
+pairGroups g = componentsOf (take (g .number) (g .pairs)) (split (take (g .number) (g .spans)) (take (g .uses) (g .shown)))
 
--- columns of pairs that the reports on groups can work on
-pub record Figured (g : Pairs) (fronts backs : List ℕ) (points : ℕ) : Type 0 where
+abbrev pub pairSingular : Pairs → List ℕ → List ℕ → ℕ → List ℕ
+pairSingular g fronts backs points = singularOf (frontOf fronts backs) (backOf fronts backs) (length fronts) points (pairWires g)
+
+-- columns of pairs that the reports on groups can work on, with room for what they write
+pub record Figured (g : Pairs) (fronts backs : List ℕ) (points : ℕ) (out sizes found : List ℕ) : Type 0 where
   pub pairs : g .number ≤ length (g .pairs)
   pub counts : g .number ≤ length (g .counts)
   pub spans : g .number ≤ length (g .spans)
   pub lens : g .wires ≤ length (g .lens)
   pub shown : g .uses ≤ length (g .shown)
   pub wired : Wired (take (g .uses) (g .shown)) (take (g .wires) (g .lens)) (take (g .number) (g .counts)) fronts backs points
-  pub paired : Paired (take (g .number) (g .pairs)) (take (g .number) (g .spans)) (take (g .uses) (g .shown)) (length fronts) (replicate 512 0) (replicate 512 0)
-  pub cornered : Cornered (take (g .uses) (g .shown)) (take (g .wires) (g .lens)) fronts backs points (replicate 2048 0)
+  pub paired : Paired (take (g .number) (g .pairs)) (take (g .number) (g .spans)) (take (g .uses) (g .shown)) (length fronts) out sizes
+  pub cornered : Cornered (take (g .uses) (g .shown)) (take (g .wires) (g .lens)) fronts backs points found
 
--- the columns are those of a pattern without fault that has a shell n
-pub record Columned (k : Columns) (n : ℕ) : Type 0 where
-  pub pattern : Pattern
-  pub sound : Sound pattern
-  pub columns : k ≡ columnsIn pattern
-  pub here : n < getD (pattern .counts) 5 0
-
--- what holds of the pattern that has these columns, and a shell n
-abbrev pub Of : Columns → ℕ → (Pattern → Type 0) → Type 0
-Of k n P = (p : Pattern) → Sound p → k ≡ columnsIn p → n < getD (p .counts) 5 0 → P p
-
--- the columns are those of a pattern without fault that has so many shells
-pub record Patterned (k : Columns) (shells : ℕ) : Type 0 where
-  pub pattern : Pattern
-  pub sound : Sound pattern
-  pub columns : k ≡ columnsIn pattern
-  pub count : shells ≡ getD (pattern .counts) 5 0
-
--- what holds of that pattern
-abbrev pub OfAll : Columns → ℕ → (Pattern → Type 0) → Type 0
-OfAll k shells P = (p : Pattern) → Sound p → k ≡ columnsIn p → shells ≡ getD (p .counts) 5 0 → P p
+-- what they count and write
+pub record Counted (g : Pairs) (fronts backs : List ℕ) (points : ℕ) (out₀ sizes₀ found₀ out sizes found : List ℕ) (r : GroupCounts) : Type 0 where
+  pub connected : r .connected ≡ connectedOf (frontOf fronts backs) (backOf fronts backs) points (split (take (g .number) (g .counts)) (pairWires g))
+  pub components : r .components ≡ length (pairGroups g)
+  pub members : r .members ≡ g .number
+  pub singular : r .singular ≡ length (pairSingular g fronts backs points)
+  pub pairs : out ≡ sets out₀ 0 (flat (pairGroups g))
+  pub lengths : sizes ≡ sets sizes₀ 0 (map length (pairGroups g))
+  pub corners : found ≡ sets found₀ 0 (pairSingular g fronts backs points)

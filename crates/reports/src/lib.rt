@@ -1,12 +1,14 @@
-// The figures of a shell, from the columns of its pattern: its condition and openings; whether it is
-// connected, its components and its singular points.
+// The figures of a shell of a pattern in the store: its condition and openings; whether it is connected,
+// its components and its singular points.
 ghost use mathlib.Core.Path.{_≡_};
 ghost use mathlib.Core.List.{map};
-ghost use Prim.Native.Nat.{_≤_};
-ghost use lib.ListN.{length, replicate, take};
+ghost use Prim.Native.Nat.{_<_, _≤_};
+ghost use lib.ListN.{getD, length, take};
 ghost use lib.Seq.{sets};
 ghost use Rattle.lists.specs.Lists.{flat, split};
 ghost use Rattle.edge.specs.Uses.{backOf, frontOf};
+ghost use Rattle.columns.specs.Columns.{Made};
+ghost use Rattle.columns.specs.Sound.{OfTables};
 ghost use Rattle.condition.specs.Tallies.{insertedAll};
 ghost use Rattle.extract.specs.Listings.{AllTally, AllWalk, Extractable, noUses, Written};
 ghost use Rattle.listing.specs.Parts.{between, partsOf};
@@ -18,8 +20,8 @@ ghost use Rattle.shell.specs.Components.{componentsOf};
 ghost use Rattle.shell.specs.Connected.{connectedOf};
 ghost use Rattle.shell.specs.Openings.{walkOf};
 ghost use Rattle.shell.specs.Singular.{singularOf};
-ghost use Rattle.reports.specs.Figures.{Columned, Figured, figuresOf, groupsFound, groupsWith, lent, Of, openingsFound, openingsWith, pairsLent};
-use columns::Columns;
+ghost use Rattle.store.specs.Store.{countTable};
+ghost use Rattle.reports.specs.Figures.{Counted, Figured, Grouped, Opened, pairsLent};
 use components::components_of;
 use condition::Tally;
 use condition::condition_of;
@@ -30,31 +32,15 @@ use extract::tally_listings;
 use openings::Walked;
 use pairs::shell_pairs;
 use singular::singular_of;
+use store::Tables;
+use store::backs_in;
+use store::counts_in;
+use store::fronts_in;
+use store::listings_in;
+use store::uses_in;
+use store::wires_in;
 
-// The condition of a shell, and its openings: of `openings` of them the lengths, and their uses one
-// after the other, `used` in all.
-pub struct ShellOpenings {
-    pub condition: u8,
-    pub openings: usize,
-    pub used: usize,
-    pub lookups: usize,
-    pub uses: [u16; 2048],
-    pub lens: [u16; 2048],
-}
-
-// Whether a shell is connected; of its components the numbers of pairs, and their pairs one after
-// the other, `members` in all; its singular points.
-pub struct ShellGroups {
-    pub connected: bool,
-    pub components: usize,
-    pub members: usize,
-    pub singular: usize,
-    pub pairs: [u16; 512],
-    pub lens: [u16; 512],
-    pub points: [u16; 2048],
-}
-
-// The figures of `ShellOpenings` without its arrays.
+// The condition of a shell; how many openings it has, their uses in all, the lookups.
 pub struct OpeningCounts {
     pub condition: u8,
     pub openings: usize,
@@ -62,7 +48,7 @@ pub struct OpeningCounts {
     pub lookups: usize,
 }
 
-// The figures of `ShellGroups` without its arrays.
+// Whether a shell is connected; how many components it has, their pairs in all; its singular points.
 pub struct GroupCounts {
     pub connected: bool,
     pub components: usize,
@@ -120,33 +106,33 @@ fn openings_between<'a>(
     )
 }
 
-// Finds the condition of shell n and writes its openings. The columns are lent one by one: a struct
-// given by value would be copied.
+// Finds the condition of shell n and writes its openings: their uses one after the other, and the
+// length of each.
 pub fn put_openings<'a>(
-    points: usize,
-    edges: usize,
-    uses: &'a [u16],
+    t: &'a Tables,
     turned: &'a [u16],
     starts: &'a [usize],
-    wires: &'a [u16],
     firsts: &'a [usize],
-    fronts: &'a [u16],
-    backs: &'a [u16],
     places: &'a [usize],
-    listings: &'a [u16],
     n: usize,
     out: &mut [u16],
     lens: &mut [u16],
 ) -> OpeningCounts
-    requires { ⌜ Columned (lent points edges (now uses) (now turned) (now starts) (now wires) (now firsts) (now fronts) (now backs) (now places) (now listings)) n ⌝ }
-    requires { ⌜ (now out ≡ replicate 2048 0) × (now lens ≡ replicate 2048 0) ⌝ }
-    ensures { λ r. ⌜ Of (lent points edges (now (uses .entry)) (now (turned .entry)) (now (starts .entry)) (now (wires .entry)) (now (firsts .entry)) (now (fronts .entry)) (now (backs .entry)) (now (places .entry)) (now (listings .entry))) n (λ p. openingsWith r (now (out .exit)) (now (lens .exit)) ≡ openingsFound (content p) n) ⌝ }
+    requires { ⌜ Made (now t) (now turned) (now starts) (now firsts) (now places) × (n < getD (countTable (now t)) 5 0) ⌝ }
+    requires { ⌜ (2048 ≤ length (now out)) × (2048 ≤ length (now lens)) ⌝ }
+    ensures { λ r. ⌜ OfTables (now (t .entry)) (λ p. Opened (content p) n (now (out .entry)) (now (lens .entry)) (now (out .exit)) (now (lens .exit)) r) ⌝ }
     ensures { λ r. ⌜ (r .used ≤ 2048) × (r .openings ≤ 2048) × (r .lookups ≤ 1000000) ⌝ }
 {
+    let counts = counts_in(t);
+    let uses = uses_in(t);
+    let fronts = fronts_in(t);
+    let backs = backs_in(t);
+    let listings = listings_in(t);
+    let edges = counts[1];
     let first = places[n];
     let end = places[n + 1];
-    let t = tally_between(listings, first, end, uses, turned, starts);
-    let condition = condition_of(t, edges);
+    let tally = tally_between(listings, first, end, uses, turned, starts);
+    let condition = condition_of(tally, edges);
     if condition.0 == 3 {
         // a Closed shell has no openings
         return OpeningCounts {
@@ -156,7 +142,7 @@ pub fn put_openings<'a>(
             lookups: 0,
         };
     }
-    let odd = odd_of(t, edges);
+    let odd = odd_of(tally, edges);
     let w = openings_between(
         listings,
         first,
@@ -168,7 +154,7 @@ pub fn put_openings<'a>(
         fronts,
         backs,
         edges,
-        points,
+        counts[0],
         out,
         lens,
     );
@@ -177,40 +163,6 @@ pub fn put_openings<'a>(
         openings: w.openings,
         used: w.at,
         lookups: w.lookups,
-    }
-}
-
-// The condition and the openings of shell n.
-pub fn shell_openings(k: Columns, n: usize) -> ShellOpenings
-    requires { ⌜ Columned k n ⌝ }
-    ensures { λ r. ⌜ Of k n (λ p. r ≡ openingsFound (content p) n) ⌝ }
-    ensures { λ r. ⌜ (r .used ≤ 2048) × (r .openings ≤ 2048) × (r .lookups ≤ 1000000) ⌝ }
-{
-    let mut uses = [0u16; 2048];
-    let mut lens = [0u16; 2048];
-    let w = put_openings(
-        k.points,
-        k.edges,
-        &k.uses,
-        &k.turned,
-        &k.starts,
-        &k.wires,
-        &k.firsts,
-        &k.fronts,
-        &k.backs,
-        &k.places,
-        &k.listings,
-        n,
-        &mut uses,
-        &mut lens,
-    );
-    ShellOpenings {
-        condition: w.condition,
-        openings: w.openings,
-        used: w.used,
-        lookups: w.lookups,
-        uses,
-        lens,
     }
 }
 
@@ -302,9 +254,8 @@ fn put_figures<'a>(
     sizes: &mut [u16],
     found: &mut [u16],
 ) -> GroupCounts
-    requires { ⌜ Figured (pairsLent number wires uses (now pairs) (now counts) (now spans) (now lens) (now shown)) (now fronts) (now backs) points ⌝ }
-    requires { ⌜ (now out ≡ replicate 512 0) × (now sizes ≡ replicate 512 0) × (now found ≡ replicate 2048 0) ⌝ }
-    ensures { λ r. ⌜ groupsWith r (now (out .exit)) (now (sizes .exit)) (now (found .exit)) ≡ figuresOf (pairsLent number wires uses (now (pairs .entry)) (now (counts .entry)) (now (spans .entry)) (now (lens .entry)) (now (shown .entry))) (now (fronts .entry)) (now (backs .entry)) points ⌝ }
+    requires { ⌜ Figured (pairsLent number wires uses (now pairs) (now counts) (now spans) (now lens) (now shown)) (now fronts) (now backs) points (now out) (now sizes) (now found) ⌝ }
+    ensures { λ r. ⌜ Counted (pairsLent number wires uses (now (pairs .entry)) (now (counts .entry)) (now (spans .entry)) (now (lens .entry)) (now (shown .entry))) (now (fronts .entry)) (now (backs .entry)) points (now (out .entry)) (now (sizes .entry)) (now (found .entry)) (now (out .exit)) (now (sizes .exit)) (now (found .exit)) r ⌝ }
 {
     let edges = fronts.len();
     let connected = connected_first(
@@ -328,28 +279,30 @@ fn put_figures<'a>(
     }
 }
 
-// Writes the groups of shell n. The columns are lent one by one.
+// Writes the groups of shell n: the pairs of its components one after the other, the number of pairs of
+// each, and its singular points.
 pub fn put_groups<'a>(
-    points: usize,
-    edges: usize,
-    uses: &'a [u16],
+    t: &'a Tables,
     turned: &'a [u16],
     starts: &'a [usize],
-    wires: &'a [u16],
     firsts: &'a [usize],
-    fronts: &'a [u16],
-    backs: &'a [u16],
     places: &'a [usize],
-    listings: &'a [u16],
     n: usize,
     out: &mut [u16],
     sizes: &mut [u16],
     found: &mut [u16],
 ) -> GroupCounts
-    requires { ⌜ Columned (lent points edges (now uses) (now turned) (now starts) (now wires) (now firsts) (now fronts) (now backs) (now places) (now listings)) n ⌝ }
-    requires { ⌜ (now out ≡ replicate 512 0) × (now sizes ≡ replicate 512 0) × (now found ≡ replicate 2048 0) ⌝ }
-    ensures { λ r. ⌜ Of (lent points edges (now (uses .entry)) (now (turned .entry)) (now (starts .entry)) (now (wires .entry)) (now (firsts .entry)) (now (fronts .entry)) (now (backs .entry)) (now (places .entry)) (now (listings .entry))) n (λ p. groupsWith r (now (out .exit)) (now (sizes .exit)) (now (found .exit)) ≡ groupsFound (content p) n) ⌝ }
+    requires { ⌜ Made (now t) (now turned) (now starts) (now firsts) (now places) × (n < getD (countTable (now t)) 5 0) ⌝ }
+    requires { ⌜ (512 ≤ length (now out)) × (512 ≤ length (now sizes)) × (2048 ≤ length (now found)) ⌝ }
+    ensures { λ r. ⌜ OfTables (now (t .entry)) (λ p. Grouped (content p) n (now (out .entry)) (now (sizes .entry)) (now (found .entry)) (now (out .exit)) (now (sizes .exit)) (now (found .exit)) r) ⌝ }
 {
+    let table = counts_in(t);
+    let uses = uses_in(t);
+    let wires = wires_in(t);
+    let fronts = fronts_in(t);
+    let backs = backs_in(t);
+    let listings = listings_in(t);
+    let edges = table[1];
     let first = places[n];
     let end = places[n + 1];
     let mut pairs = [0u16; 512];
@@ -381,45 +334,9 @@ pub fn put_groups<'a>(
         &shown,
         &fronts[0..edges],
         &backs[0..edges],
-        points,
+        table[0],
         out,
         sizes,
         found,
     )
-}
-
-// The groups of shell n.
-pub fn shell_groups(k: Columns, n: usize) -> ShellGroups
-    requires { ⌜ Columned k n ⌝ }
-    ensures { λ r. ⌜ Of k n (λ p. r ≡ groupsFound (content p) n) ⌝ }
-{
-    let mut pairs = [0u16; 512];
-    let mut lens = [0u16; 512];
-    let mut points = [0u16; 2048];
-    let g = put_groups(
-        k.points,
-        k.edges,
-        &k.uses,
-        &k.turned,
-        &k.starts,
-        &k.wires,
-        &k.firsts,
-        &k.fronts,
-        &k.backs,
-        &k.places,
-        &k.listings,
-        n,
-        &mut pairs,
-        &mut lens,
-        &mut points,
-    );
-    ShellGroups {
-        connected: g.connected,
-        components: g.components,
-        members: g.members,
-        singular: g.singular,
-        pairs,
-        lens,
-        points,
-    }
 }

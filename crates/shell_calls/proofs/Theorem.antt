@@ -8,8 +8,7 @@ use Rattle.errors.proofs.Laws.{none-right}
 use Rattle.lists.proofs.Marks.{AllBelow}
 use Rattle.lists.specs.Lists.{noDup}
 use Rattle.pattern.specs.Checks.{contentFaults, countFaults, patternFaults}
-use Rattle.pattern.specs.Contents.{content}
-use Rattle.pattern.specs.declared.Pattern.{Pattern}
+use Rattle.pattern.specs.Contents.{Pattern, content}
 use Rattle.shell.proofs.Theorem.{openings}
 use Rattle.shell.specs.Conditions.{condition}
 use Rattle.shell.specs.OpeningsHold.{OpeningsHold}

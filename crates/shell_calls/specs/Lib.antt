@@ -1,2 +1,1 @@
 pub mod ShellCalls
-pub mod Figures

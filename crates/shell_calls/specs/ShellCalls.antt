@@ -6,8 +6,7 @@ use Rattle.calls.specs.Calls.{ifThere, presence, whenThere}
 use Rattle.calls.specs.declared.FigureAnswer.{FigureAnswer}
 use Rattle.calls.specs.declared.ShellFigure.the-variants.{Condition, Openings}
 use Rattle.lists.specs.Lists.{flat}
-use Rattle.pattern.specs.Contents.{content}
-use Rattle.pattern.specs.declared.Pattern.{Pattern}
+use Rattle.pattern.specs.Contents.{Pattern, content}
 use Rattle.shell.specs.Conditions.{condition}
 use Rattle.shell.specs.Openings.{shellWalk}
 use Rattle.shell.specs.Shells.{shellUses}

@@ -1,47 +1,53 @@
-// The calls on a shell of a pattern in storage that ask for its condition and its openings: each report
+// The calls on a shell of a pattern in the store that ask for its condition and its openings: each report
 // by itself.
 ghost use mathlib.Core.Path.{_≡_};
 ghost use mathlib.Core.List.{map};
-ghost use lib.ListN.{length};
+ghost use Prim.Native.Nat.{_<_, _≤_};
+ghost use lib.ListN.{getD, length};
 ghost use lib.Seq.{sets};
 ghost use Rattle.lists.specs.Lists.{flat};
+ghost use Rattle.columns.specs.Sound.{Faultless, OfTables};
 ghost use Rattle.pattern.specs.Contents.{content};
-ghost use Rattle.reports.specs.Figures.{openingsFound};
-ghost use Rattle.calls.specs.declared.Presence.the-variants.{There};
-ghost use Rattle.calls.specs.Calls.{presence};
+ghost use Rattle.reports.specs.Figures.{Opened};
+ghost use Rattle.store.specs.Store.{countTable, held};
 ghost use Rattle.shell_calls.specs.ShellCalls.{conditionAnswer, openingsAnswer, openingsOut};
-ghost use Rattle.shell_calls.specs.Figures.{OpeningsHeld};
 use calls::FigureAnswer;
 use calls::Presence;
 use calls::ShellFigure;
 use calls::find_shell;
-use calls::put_first;
-use columns::columns_of;
+use columns::put_columns;
 use condition::Condition;
-use pattern::Pattern;
-use reports::ShellOpenings;
-use reports::shell_openings;
+use reports::OpeningCounts;
+use reports::put_openings;
+use store::Spans;
+use store::Tables;
 
-// The openings of a shell that is there.
-fn openings_at(p: Pattern, n: usize) -> ShellOpenings
-    requires { ⌜ presence p n ≡ There ⌝ }
-    ensures { λ r. ⌜ r ≡ openingsFound (content p) n ⌝ }
-    ensures { λ r. ⌜ OpeningsHeld (content p) n r ⌝ }
+// Writes the openings of a shell that is there.
+fn openings_at(t: &Tables, n: usize, out: &mut [u16], lens: &mut [u16]) -> OpeningCounts
+    requires { ⌜ Faultless (now t) × (n < getD (countTable (now t)) 5 0) ⌝ }
+    requires { ⌜ (2048 ≤ length (now out)) × (2048 ≤ length (now lens)) ⌝ }
+    ensures { λ r. ⌜ OfTables (now (t .entry)) (λ p. Opened (content p) n (now (out .entry)) (now (lens .entry)) (now (out .exit)) (now (lens .exit)) r) ⌝ }
 {
-    let k = columns_of(p);
-    shell_openings(k, n)
+    let mut turned = [0u16; 4096];
+    let mut starts = [0usize; 257];
+    let mut firsts = [0usize; 257];
+    let mut places = [0usize; 257];
+    put_columns(t, &mut turned, &mut starts, &mut firsts, &mut places);
+    put_openings(t, &turned, &starts, &firsts, &places, n, out, lens)
 }
 
 // The condition of shell n.
-pub fn shell_condition(p: Pattern, n: usize) -> FigureAnswer
-    ensures { λ r. ⌜ r ≡ conditionAnswer p n ⌝ }
+pub fn shell_condition(t: &Tables, spans: &Spans, n: usize) -> FigureAnswer
+    ensures { λ r. ⌜ r ≡ conditionAnswer (held (now (t .entry)) (now (spans .entry))) n ⌝ }
 {
-    let found = find_shell(p, n);
+    let found = find_shell(t, spans, n);
     match found {
         Presence::Refused(f) => FigureAnswer::Refused(f),
         Presence::NoShell => FigureAnswer::NoShell,
         Presence::There => {
-            let o = openings_at(p, n);
+            let mut walked = [0u16; 2048];
+            let mut lens = [0u16; 2048];
+            let o = openings_at(t, n, &mut walked, &mut lens);
             FigureAnswer::Found(ShellFigure::Condition(Condition(o.condition)))
         }
     }
@@ -49,23 +55,22 @@ pub fn shell_condition(p: Pattern, n: usize) -> FigureAnswer
 
 // The openings of shell n: their uses one after the other, and the length of each.
 pub fn extract_boundaries(
-    p: Pattern,
+    t: &Tables,
+    spans: &Spans,
     n: usize,
     out: &mut [u16; 2048],
     lens: &mut [u16; 2048],
 ) -> FigureAnswer
-    ensures { λ r. ⌜ r ≡ openingsAnswer p n ⌝ }
-    ensures { λ _. ⌜ now (out .exit) ≡ sets (now (out .entry)) 0 (flat (openingsOut p n)) ⌝ }
-    ensures { λ _. ⌜ now (lens .exit) ≡ sets (now (lens .entry)) 0 (map length (openingsOut p n)) ⌝ }
+    ensures { λ r. ⌜ r ≡ openingsAnswer (held (now (t .entry)) (now (spans .entry))) n ⌝ }
+    ensures { λ _. ⌜ now (out .exit) ≡ sets (now (out .entry)) 0 (flat (openingsOut (held (now (t .entry)) (now (spans .entry))) n)) ⌝ }
+    ensures { λ _. ⌜ now (lens .exit) ≡ sets (now (lens .entry)) 0 (map length (openingsOut (held (now (t .entry)) (now (spans .entry))) n)) ⌝ }
 {
-    let found = find_shell(p, n);
+    let found = find_shell(t, spans, n);
     match found {
         Presence::Refused(f) => FigureAnswer::Refused(f),
         Presence::NoShell => FigureAnswer::NoShell,
         Presence::There => {
-            let o = openings_at(p, n);
-            put_first(out, &o.uses, o.used);
-            put_first(lens, &o.lens, o.openings);
+            let o = openings_at(t, n, out, lens);
             FigureAnswer::Found(ShellFigure::Openings(o.openings, o.used, o.lookups))
         }
     }

@@ -3,11 +3,10 @@ use Prim.Native.Nat.{_+_, _<_, _≤_, suc, ℕ}
 use mathlib.Core.Bool.{false, not, true}
 use mathlib.Core.List.{List, [], _++_, _∷_, append-assoc, map, map-append}
 use mathlib.Core.Logic.{⊎-elim}
-use mathlib.Core.Path.{_∙_, _≡_, ap, refl}
+use mathlib.Core.Path.{_∙_, _≡_, refl}
 use native.Mathlib.Omega.{arith}
 use lib.Dec.{eqb, ltb}
-use lib.ListN.{List·getD-append, drop, getD, length, length-append, length-map, take}
-use lib.Seq.{length-sets, sets, sets-eq, take-append-seam}
+use lib.ListN.{List·getD-append, getD, length, length-append, length-map}
 use borrow.Author.Tests.{eq-eqb, eqb-true, le-leb, lt-ltb, ltb-false, ltb-true, not-true}
 use Rattle.edge.specs.Edges.{backNumber, frontNumber}
 use Rattle.edge.specs.Uses.{backOf, edgeNumber, frontOf}
@@ -30,12 +29,11 @@ use Rattle.pattern.proofs.Counts.{Full, Limited, faces-counted, limited, listin
 use Rattle.pattern.proofs.Named.{faces-summed}
 use Rattle.pattern.proofs.Passed.{RecordsPassed, content-passed, passed-records, pattern-passed, records-passed}
 use Rattle.pattern.specs.Checks.{contentFaults, countFaults, edgeFaults, nameFaults, outlines, patternFaults, recordFaults, sumFaults}
-use Rattle.pattern.specs.Contents.{Content, content, countsOf}
-use Rattle.pattern.specs.declared.Pattern.{Pattern}
+use Rattle.pattern.specs.Contents.{Content, Pattern, content, countsOf, storedIn}
 use Rattle.shell.proofs.Chain.{from}
 use Rattle.shell.proofs.Rings.{points-count, rings-ruled}
 use Rattle.shell.proofs.Walked.{Ring}
-use Rattle.shell_edits.specs.Answers.{patternAfter, storedIn}
+use Rattle.shell_edits.specs.Answers.{patternAfter}
 use Rattle.shell_edits.specs.Edits.{edited}
 use Rattle.wire.proofs.Laws.{faultless-noDup, faultless-sound}
 use Rattle.wire.specs.Wires.{points, wireFaults}
@@ -134,54 +132,6 @@ module _ (c : Content) (ok : contentFaults c ≡ []) where
         → contentFaults (edited c es (flat ws) (map length ws)) ≡ []
     edited-accepted rule =
         none-both (recordFaults (edited c es (flat ws) (map length ws))) _ new-records (rw (split-flat ws) rule)
-
--- ---- a content in storage
-
-module _ {ℓ} {A : Type ℓ} where
-  -- what is stored from the front is what stands first
-  pub stored-first : (l xs : List A) → length xs ≤ length l → take (length xs) (sets l 0 xs) ≡ xs
-  stored-first l xs h =
-      let e : 0 + length xs ≡ length xs = omega arith in
-      rw (sets-eq xs l 0 (omega arith), e) (take-append-seam xs (drop (length xs) l))
-
-module _ (p : Pattern) (full : Full p) (c : Content) (few : countFaults (countsOf c) ≡ []) where
-  fit : Limited (countsOf c)
-  fit = limited (countsOf c) refl few
-
-  -- a content stored is read back
-  pub stored-content : content (storedIn p c) ≡ c
-  stored-content =
-      let points = stored-first (p .points) (c .points) (omega (arith, full .points, fit .points)) in
-      let edges = stored-first (p .edges) (c .edges) (omega (arith, full .edges, fit .edges)) in
-      let uses = stored-first (p .uses) (c .uses) (omega (arith, full .uses, fit .uses)) in
-      let wires = stored-first (p .wires) (c .wires) (omega (arith, full .wires, fit .wires)) in
-      let faces = stored-first (p .faces) (c .faces) (omega (arith, full .faces, fit .faces)) in
-      let shells = stored-first (p .shells) (c .shells) (omega (arith, full .shells, fit .shells)) in
-      let listings = stored-first (p .listings) (c .listings) (omega (arith, full .listings, fit .listings)) in
-      λ i. record {
-        points = points i;
-        edges = edges i;
-        uses = uses i;
-        wires = wires i;
-        faces = faces i;
-        shells = shells i;
-        listings = listings i;
-      }
-
-  pub stored-accepted : contentFaults c ≡ [] → patternFaults (storedIn p c) ≡ []
-  stored-accepted ok = none-both (countFaults (countsOf c)) (contentFaults (content (storedIn p c))) few (ap contentFaults stored-content ∙ ok)
-
-  -- the storage keeps its lengths
-  pub stored-full : Full (storedIn p c)
-  stored-full = record {
-    points = length-sets (p .points) 0 (c .points) ∙ full .points;
-    edges = length-sets (p .edges) 0 (c .edges) ∙ full .edges;
-    uses = length-sets (p .uses) 0 (c .uses) ∙ full .uses;
-    wires = length-sets (p .wires) 0 (c .wires) ∙ full .wires;
-    faces = length-sets (p .faces) 0 (c .faces) ∙ full .faces;
-    shells = length-sets (p .shells) 0 (c .shells) ∙ full .shells;
-    listings = length-sets (p .listings) 0 (c .listings) ∙ full .listings;
-  }
 
 -- counts within the limits have no fault
 pub limited-none : (c : Content) → Limited (countsOf c) → countFaults (countsOf c) ≡ []

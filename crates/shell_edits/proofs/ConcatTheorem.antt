@@ -25,8 +25,7 @@ use Rattle.pattern.proofs.Counts.{Full}
 use Rattle.pattern.proofs.Named.{wires-summed}
 use Rattle.pattern.proofs.Passed.{pattern-passed}
 use Rattle.pattern.specs.Checks.{contentFaults, countFaults, outlines, patternFaults}
-use Rattle.pattern.specs.Contents.{Content, content, countsOf}
-use Rattle.pattern.specs.declared.Pattern.{Pattern}
+use Rattle.pattern.specs.Contents.{Content, Pattern, content, countsOf}
 use Rattle.shell.specs.Openings.{backIn, frontIn}
 use Rattle.shell_edits.proofs.Accepted.{edited-accepted, records-fine, rule-fine, rule-ruled, ruled-rule}
 use Rattle.shell_edits.proofs.Kept.{Kept, kept-ruled, pairs-split}

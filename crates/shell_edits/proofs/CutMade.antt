@@ -7,7 +7,7 @@ use native.Mathlib.Omega.{arith}
 use lib.Dec.{eqb, leb, ltb}
 use lib.ListN.{List·getD-map, getD, length, length-append, length-map, take}
 use borrow.Author.Tests.{eq-eqb, leb-true, lt-ltb, ltb-false, ltb-true, ne-eqb, not-true}
-use Rattle.curve.specs.Curves.{areSpans, cutCurve}
+use Rattle.curve.specs.Curves.{cutCurve}
 use Rattle.curve.specs.declared.Halves.the-variants.{Both, Refused}
 use Rattle.curve.specs.declared.Halves.{Halves}
 use Rattle.curve.specs.declared.Parameter.{Parameter}
@@ -40,6 +40,7 @@ use Rattle.shell_edits.proofs.Wires.{all-has, each-at, each-long, face-
 use Rattle.shell_edits.specs.Edits.{cutContent, cutFaults, cutWire, cutWires, eachWire, edgeAt, halfEdges, isCut, listedWires, outline, roomForEdges, roomForUses, sharesFace, usesIn, wiresIn, wiresOf}
 use Rattle.shell_edits.specs.Theorems.{firstNumber, mayCut, someThereAndBack, wiresWith}
 use Rattle.wire.specs.Wires.{closed}
+use Rattle.curve.specs.Spans.{areSpans}
 
 each-two {ℓ} : {A : Type ℓ} (f : ℕ → A → List Refusal) (i : ℕ) (x y : A) → f i x ≡ [] → f (suc i) y ≡ [] → each f i (x ∷ y ∷ []) ≡ []
 unfolding each

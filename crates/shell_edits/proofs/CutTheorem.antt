@@ -6,7 +6,7 @@ use mathlib.Core.Path.{_∙_, _≡_, ap, refl}
 use native.Mathlib.Omega.{arith}
 use lib.Dec.{eqb, leb}
 use lib.ListN.{List·getD-append, length, length-append}
-use Rattle.curve.specs.Curves.{areSpans, cutCurve}
+use Rattle.curve.specs.Curves.{cutCurve}
 use Rattle.curve.specs.declared.Parameter.{Parameter}
 use Rattle.edit_answers.specs.Answers.{cutNumber, judged}
 use Rattle.edit_answers.specs.declared.CutAnswer.the-variants.{Cut, Not, Refused}
@@ -15,14 +15,15 @@ use Rattle.lists.proofs.Marks.{AllBelow}
 use Rattle.lists.specs.Lists.{flat, has}
 use Rattle.pattern.proofs.Counts.{Full}
 use Rattle.pattern.specs.Checks.{contentFaults, countFaults, patternFaults}
-use Rattle.pattern.specs.Contents.{Content, content, countsOf, zeroEdge}
-use Rattle.pattern.specs.declared.Pattern.{Pattern}
+use Rattle.pattern.specs.Contents.{Content, Pattern, content, countsOf, zeroEdge}
 use Rattle.shell.specs.Openings.{frontIn}
-use Rattle.shell_edits.proofs.Accepted.{after-accepted, content-fine, edited-few, stored-accepted, stored-content}
+use Rattle.shell_edits.proofs.Accepted.{after-accepted, content-fine, edited-few}
 use Rattle.shell_edits.proofs.CutMade.{accepted, again, cut-long, edges-few, grows, no-space, old-edge, two-more, uses-few}
 use Rattle.shell_edits.specs.Answers.{afterCut, cutAnswer, nextEdge}
 use Rattle.shell_edits.specs.Edits.{cutContent, cutFaults, cutWires, edgeAt, halfEdges, usesIn}
 use Rattle.shell_edits.specs.Theorems.{firstNumber, mayCut, someThereAndBack, wiresWith}
+use Rattle.pattern.proofs.Stored.{stored-accepted, stored-content}
+use Rattle.curve.specs.Spans.{areSpans}
 
 -- ---- a cut that is not refused, of shell n, edge e, at point p
 module _ (c : Content) (n e p : ℕ) (at : Parameter) (ok : contentFaults c ≡ []) where

@@ -16,8 +16,7 @@ use Rattle.lists.specs.Lists.{has, unless}
 use Rattle.pattern.proofs.Counts.{Full}
 use Rattle.pattern.proofs.Passed.{pattern-passed}
 use Rattle.pattern.specs.Checks.{contentFaults, countFaults, patternFaults}
-use Rattle.pattern.specs.Contents.{Content, content, countsOf}
-use Rattle.pattern.specs.declared.Pattern.{Pattern}
+use Rattle.pattern.specs.Contents.{Content, Pattern, content, countsOf}
 use Rattle.shell.specs.Openings.{backIn, frontIn}
 use Rattle.shell_edits.proofs.Removal.{point-gone, remove-allowed, removal-accepted, uses-fewer, wires-many}
 use Rattle.shell_edits.proofs.Stored.{NotFull, after-accepted, after-full, edited-few, full-answered, given, no-space, unless-not-full, uses-few, wires-few}

@@ -20,12 +20,11 @@ use Rattle.lists.proofs.Parts.{only-append}
 use Rattle.lists.specs.Lists.{only, unless}
 use Rattle.pattern.proofs.Counts.{Full}
 use Rattle.pattern.specs.Checks.{contentFaults, countFaults, patternFaults}
-use Rattle.pattern.specs.Contents.{Content, content, countsOf}
-use Rattle.pattern.specs.declared.Pattern.{Pattern}
-use Rattle.shell_edits.proofs.Accepted.{stored-accepted, stored-content, stored-full}
+use Rattle.pattern.specs.Contents.{Content, Pattern, content, countsOf}
 use Rattle.shell_edits.specs.Answers.{joinAnswer, nextEdge, patternAfter}
 use Rattle.shell_edits.specs.Edits.{edited, roomForEdges}
 use Rattle.shell_edits.specs.RemoveTheorems.{Given, OnlyFull, others}
+use Rattle.pattern.proofs.Stored.{stored-accepted, stored-content, stored-full}
 
 -- counts within the limits
 seven : (a b c d e f g : ℕ) → a ≤ 2048 → b ≤ 1024 → c ≤ 4096 → d ≤ 1024 → e ≤ 256 → f ≤ 16 → g ≤ 512 → countFaults (a ∷ b ∷ c ∷ d ∷ e ∷ f ∷ g ∷ []) ≡ []

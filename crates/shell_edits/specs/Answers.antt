@@ -13,22 +13,8 @@ use Rattle.edit_answers.specs.declared.JoinAnswer.{JoinAnswer}
 use Rattle.edit_answers.specs.declared.JoinAnswer.the-variants.{Joined, Not as Join·Not, Refused as Join·Refused}
 use Rattle.errors.specs.declared.Refusal.{Refusal}
 use Rattle.pattern.specs.Checks.{patternFaults}
-use Rattle.pattern.specs.Contents.{Content, content, countsOf}
-use Rattle.pattern.specs.declared.Pattern.{Pattern}
+use Rattle.pattern.specs.Contents.{Content, Pattern, content, countsOf, storedIn}
 use Rattle.shell_edits.specs.Edits.{concatContent, concatFaults, cutContent, cutFaults, removeContent, removeFaults}
-
--- a content in the storage of p: places past a count keep what they held
-abbrev pub storedIn : Pattern → Content → Pattern
-storedIn p c = record {
-  counts = countsOf c;
-  points = sets (p .points) 0 (c .points);
-  edges = sets (p .edges) 0 (c .edges);
-  uses = sets (p .uses) 0 (c .uses);
-  wires = sets (p .wires) 0 (c .wires);
-  faces = sets (p .faces) 0 (c .faces);
-  shells = sets (p .shells) 0 (c .shells);
-  listings = sets (p .listings) 0 (c .listings);
-}
 
 -- the pattern after an edit with these refusals, if any
 abbrev pub patternAfter : Pattern → List EditError → Content → Pattern

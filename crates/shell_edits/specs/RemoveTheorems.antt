@@ -10,8 +10,7 @@ use Rattle.edit_answers.specs.Answers.{editNumber}
 use Rattle.edit_answers.specs.declared.EditError.{EditError}
 use Rattle.lists.specs.Lists.{only}
 use Rattle.pattern.specs.Checks.{patternFaults}
-use Rattle.pattern.specs.Contents.{content}
-use Rattle.pattern.specs.declared.Pattern.{Pattern}
+use Rattle.pattern.specs.Contents.{Pattern, content}
 
 -- the refusals other than 17
 abbrev pub others : List EditError → List EditError

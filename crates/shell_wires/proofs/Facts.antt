@@ -16,12 +16,10 @@ use Rattle.pattern.proofs.Counts.{Full, Limited, edges-counted, faces-counted, 
 use Rattle.pattern.proofs.Named.{named, point-named, tables-faces, tables-wires, use-named}
 use Rattle.pattern.proofs.Passed.{content-passed, pattern-passed}
 use Rattle.pattern.specs.Checks.{patternFaults, recordFaults}
-use Rattle.pattern.specs.Contents.{content, countsOf}
-use Rattle.pattern.specs.declared.Pattern.{Pattern}
+use Rattle.pattern.specs.Contents.{Pattern, content, countsOf, storedIn}
 use Rattle.shell.specs.Openings.{frontIn}
 use Rattle.shell.specs.Shells.{faceNumber}
 use Rattle.shell_edits.proofs.Storage.{seven-are, sets-after, sets-own}
-use Rattle.shell_edits.specs.Answers.{storedIn}
 use Rattle.shell_edits.specs.Edits.{edited}
 use Rattle.wire.specs.Wires.{Named}
 

@@ -12,8 +12,7 @@ use Rattle.lists.proofs.Laws.{map-take, sum-next, sum-take-drop}
 use Rattle.lists.proofs.Split.{drop-take, getD-split}
 use Rattle.lists.specs.Lists.{disjoint, has, numbers, padded, sum}
 use Rattle.pattern.proofs.Counts.{listings-counted, wires-counted}
-use Rattle.pattern.specs.Contents.{content}
-use Rattle.pattern.specs.declared.Pattern.{Pattern}
+use Rattle.pattern.specs.Contents.{Pattern, content}
 use Rattle.shell.specs.Shells.{faceNumber, listingsOf}
 use Rattle.shell_edits.specs.Edits.{otherListings, sharesFace, wiresOf}
 use Rattle.shell_wires.proofs.Facts.{Fine, backs-long, faces-sum, fine, fronts-long, listings-name, records-fine, shells-sum, uses-named, wires-sum}
@@ -170,9 +169,6 @@ module _ (p : Pattern) (counts fronts backs uses wires faces shells listings : L
 
   pub wires-room : (getD counts 3 0 ≤ 1024) × (getD counts 3 0 ≤ length wires) × (sum (take (getD counts 3 0) wires) ≡ getD counts 2 0)
   wires-room = let s = lent-fine in rw (l .listed .counts-are, l .wires-are) (s .limits .wires, omega (arith, s .limits .wires, s .full .wires), wires-sum p s)
-
-  pub edges-room : (getD counts 0 0 ≤ 2048) × (getD counts 1 0 ≤ 1024)
-  edges-room = let s = lent-fine in rw (l .listed .counts-are) (s .limits .points, s .limits .edges)
 
   pub ends-named : Named (take (getD counts 1 0) fronts) (take (getD counts 1 0) backs) (take (getD counts 2 0) uses)
   ends-named = rw (l .listed .counts-are, l .fronts-are, l .backs-are, l .uses-are) (uses-named p lent-fine)

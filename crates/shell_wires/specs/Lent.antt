@@ -7,7 +7,7 @@ use Rattle.edge.specs.Edges.{backNumber, frontNumber}
 use Rattle.face.specs.Faces.{wireCount}
 use Rattle.pattern.proofs.Counts.{Full}
 use Rattle.pattern.specs.Checks.{patternFaults}
-use Rattle.pattern.specs.declared.Pattern.{Pattern}
+use Rattle.pattern.specs.Contents.{Pattern}
 
 -- the counts, the faces' numbers of wires, the shells and the listings
 pub record Listed (p : Pattern) (counts faces shells listings : List ℕ) : Type 0 where

@@ -4,8 +4,7 @@ use mathlib.Core.Bool.{false}
 use mathlib.Core.List.{map}
 use lib.ListN.{length}
 use Rattle.lists.specs.Lists.{has, numbers, padded}
-use Rattle.pattern.specs.Contents.{content}
-use Rattle.pattern.specs.declared.Pattern.{Pattern}
+use Rattle.pattern.specs.Contents.{Pattern, content}
 use Rattle.shell_edits.specs.Edits.{sharesFace, wiresOf}
 use Rattle.shell_wires.specs.declared.Marks.{Marks}
 

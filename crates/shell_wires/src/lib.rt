@@ -9,9 +9,10 @@ ghost use lib.Seq.{sets};
 ghost use Rattle.lists.specs.Lists.{has, padded, sum, tabulate};
 ghost use Rattle.shell.specs.Shells.{faceNumber};
 ghost use Rattle.shell_wires.specs.Flags.{NameFaces, listsFlagged, wireFlags};
-ghost use Rattle.pattern.specs.declared.Pattern.{Pattern};
 ghost use Rattle.shell_wires.specs.Lent.{Listed};
 ghost use Rattle.shell_wires.specs.ShellWires.{marksOf};
+ghost use Rattle.pattern.specs.Contents.{Pattern};
+use pattern::Counts;
 use words::index;
 use words::sum_of;
 
@@ -104,7 +105,7 @@ fn wire_flags(flags: &[bool], counts: &[u16], n: usize) -> [bool; 1024]
 
 // The wires of shell n, from columns of a pattern without fault.
 pub fn mark_wires<'a>(
-    counts: [usize; 7],
+    counts: Counts,
     faces: &'a [u16],
     shells: &'a [u16],
     listings: &'a [u16],

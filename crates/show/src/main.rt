@@ -14,6 +14,6 @@ fn main() {
     let mut bytes = [0u8; 41049];
     let mut text = [0u8; 262144];
     let n = console::read_input(&mut bytes);
-    let length = pattern_text::show(&bytes[0..n], &mut text);
+    let length = show_text::show(&bytes[0..n], &mut text);
     print_text(&text, length);
 }

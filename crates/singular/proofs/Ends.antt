@@ -9,7 +9,7 @@ use native.Mathlib.Omega.{arith}
 use lib.Dec.{leb}
 use lib.ListN.{List·getD-append, drop, getD, length, length-append, length-drop, length-map, length-take, take}
 use lib.Seq.{getD-append-seam, getD-drop, getD-take}
-use Rattle.edge.specs.Uses.{EdgesBelow, edgeNumber}
+use Rattle.edge.specs.Uses.{edgeNumber}
 use Rattle.groups.proofs.All.{Joins, Pairs, column-at, joins-end, joins-next}
 use Rattle.groups.proofs.Laws.{inside-links}
 use Rattle.groups.proofs.Meaning.{of-each}
@@ -21,6 +21,7 @@ use Rattle.lists.proofs.Laws.{cases}
 use Rattle.lists.specs.Lists.{rotated}
 use Rattle.shell.specs.Singular.{corners, firstEnd, lastEnd}
 use Rattle.singular.specs.Ends.{nextEnds}
+use Rattle.edge.specs.Below.{EdgesBelow}
 
 -- the ends of the edges below n are the members below 2n
 pub first-below : (edges u : ℕ) → edgeNumber u < edges → firstEnd u < 2 * edges

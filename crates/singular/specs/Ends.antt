@@ -3,10 +3,11 @@ use Prim.Native.Nat.{_*_, _<_, _≤_, ℕ}
 use mathlib.Core.List.{List, map}
 use mathlib.Core.Path.{_≡_}
 use lib.ListN.{getD, length, replicate}
-use Rattle.edge.specs.Uses.{EdgesBelow, backOf, frontOf}
+use Rattle.edge.specs.Uses.{backOf, frontOf}
 use Rattle.groups.specs.Forest.{joinedAll, started}
 use Rattle.lists.specs.Lists.{flat, rotated, split, sum}
 use Rattle.shell.specs.Singular.{corners, firstEnd}
+use Rattle.edge.specs.Below.{EdgesBelow}
 
 -- for each use of a wire, the end where the next use begins
 abbrev pub nextEnds : List ℕ → List ℕ

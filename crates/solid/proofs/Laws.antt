@@ -7,11 +7,12 @@ use native.Mathlib.Omega.{arith}
 use borrow.Author.Tests.{eq-eqb, le-ltb, lt-ltb, ne-eqb, not-false, not-true}
 use Rattle.lists.proofs.Parts.{flat-numbers}
 use Rattle.lists.specs.Lists.{flat, numbers}
-use Rattle.solid.specs.Solid.{andThen, errorsOf, firstError, firstOfSolid, inShell, inSolid}
+use Rattle.solid.specs.Solid.{errorsOf, firstOfSolid, inShell}
 use Rattle.solid.specs.declared.ShellCheck.the-variants.{Fine, Wrong}
 use Rattle.solid.specs.declared.ShellError.{ShellError}
 use Rattle.solid.specs.declared.ShellError.the-variants.{EmptyShell, NotClosedShell, NotConnected, NotManifold}
 use Rattle.solid.specs.declared.SolidError.{SolidError}
+use Rattle.solid.specs.Sequence.{andThen, firstError, inSolid}
 
 module _ (n : ℕ) (c : Bool) (w s : ℕ) where
   pub error-empty : n ≡ 0 → Wrong EmptyShell ≡ firstError (errorsOf n c w s)

@@ -1,1 +1,2 @@
 pub mod Solid
+pub mod Sequence

@@ -10,8 +10,6 @@ use Rattle.shell.specs.Conditions.{condition}
 use Rattle.shell.specs.Connected.{connected}
 use Rattle.shell.specs.Shells.{listingsOf, shellUses}
 use Rattle.shell.specs.Singular.{singularPoints}
-use Rattle.solid.specs.declared.ShellCheck.{ShellCheck}
-use Rattle.solid.specs.declared.ShellCheck.the-variants.{Fine, Wrong}
 use Rattle.solid.specs.declared.ShellError.{ShellError}
 use Rattle.solid.specs.declared.ShellError.the-variants.{EmptyShell, NotClosedShell, NotConnected, NotManifold}
 use Rattle.solid.specs.declared.SolidCheck.{SolidCheck}
@@ -42,10 +40,6 @@ errorsOf listings connected condition singular =
 abbrev pub shellErrors : Content → ℕ → List ShellError
 shellErrors c n = errorsOf (length (listingsOf c n)) (connected c n) (condition (shellUses c n)) (length (singularPoints c n))
 
-abbrev pub firstError : List ShellError → ShellCheck
-firstError [] = Fine
-firstError (e ∷ es) = Wrong e
-
 -- a refusal names the shell and holds that shell's own reason
 abbrev pub inShell : ℕ → List ShellError → List SolidError
 inShell n es = map (λ (e : ShellError). record { shell = n; reason = e }) es
@@ -57,14 +51,6 @@ solidErrors c = flat (map (λ (n : ℕ). inShell n (shellErrors c n)) (numbers (
 abbrev pub firstOfSolid : List SolidError → SolidCheck
 firstOfSolid [] = Accepted
 firstOfSolid (e ∷ es) = Refused e
-
-abbrev pub inSolid : ℕ → ShellCheck → SolidCheck
-inSolid n Fine = Accepted
-inSolid n (Wrong e) = Refused (record { shell = n; reason = e })
-
-abbrev pub andThen : SolidCheck → SolidCheck → SolidCheck
-andThen Accepted next = next
-andThen (Refused e) next = Refused e
 
 abbrev pub solidOf : Content → SolidCheck
 solidOf c = firstOfSolid (solidErrors c)

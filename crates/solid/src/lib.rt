@@ -1,6 +1,7 @@
 // The solid (solid.rs, Solid::try_new): what is wrong with a shell of it, and with which.
 ghost use mathlib.Core.Path.{_≡_};
-ghost use Rattle.solid.specs.Solid.{andThen, errorsOf, firstError, inSolid, reasonNumber};
+ghost use Rattle.solid.specs.Solid.{errorsOf, reasonNumber};
+ghost use Rattle.solid.specs.Sequence.{andThen, firstError, inSolid};
 
 // A shell's own reason.
 pub enum ShellError {

@@ -2,8 +2,7 @@
 use mathlib.Core.List.{List, [], _∷_}
 use Rattle.errors.specs.declared.Refusal.{Refusal}
 use Rattle.pattern.specs.Checks.{patternFaults}
-use Rattle.pattern.specs.Contents.{Content, content}
-use Rattle.pattern.specs.declared.Pattern.{Pattern}
+use Rattle.pattern.specs.Contents.{Content, Pattern, content}
 use Rattle.solid.specs.Solid.{solidOf}
 use Rattle.solid.specs.declared.SolidCheck.{SolidCheck}
 use Rattle.solid.specs.declared.SolidCheck.the-variants.{Accepted as Check·Accepted, Refused as Check·Refused}

@@ -3,17 +3,21 @@ use Prim.Native.Nat.{_<_, min, ℕ}
 use mathlib.Core.List.{List, [], _++_, _∷_, append-nil, map}
 use mathlib.Core.Path.{_∙_, _≡_, ap, refl}
 use native.Mathlib.Omega.{arith}
+use lib.Ieee.{binary64, ofBits}
 use lib.ListN.{length}
 use borrow.Author.Tests.{ne-eqb}
-use Rattle.line_forms.specs.LineForms.{lineKind, lineValues}
-use Rattle.line_parts.specs.Parts.{Parts, faceParts, marked, partsOf, wireLengths}
+use Rattle.edge.specs.Edges.{edge}
+use Rattle.edge.specs.declared.Edge.{Edge}
+use Rattle.draft_forms.specs.LineForms.{lineKind, lineValues}
+use Rattle.draft_parts.specs.Parts.{faceParts, marked, partsOf, wireLengths}
 use Rattle.lists.proofs.Count.{All, all-weaker}
 use Rattle.lists.proofs.Parts.{map-same}
 use Rattle.lists.specs.Lists.{flat}
-use Rattle.text_pattern.specs.TextPattern.{lineParts}
+use Rattle.pattern.specs.Contents.{Content}
+use Rattle.draft_text.specs.TextPattern.{lineParts}
 use Rattle.text_round_trip.proofs.Lines.{Small, edgeWords, faceWords, marks, pointWords, shellWords}
 use Rattle.text_round_trip.proofs.Values.{edge-kind, edge-values, face-kind, face-values, point-kind, point-values, shell-kind, shell-values}
-use Rattle.words.specs.Words.{bytes16, bytes64, short}
+use Rattle.words.specs.Words.{short}
 
 short-is : (n : ℕ) → n < 65536 → short n ≡ n
 short-is n h = omega arith
@@ -24,27 +28,31 @@ parts-are ws e f = λ i. partsOf (e i) (f i)
 
 -- ---- the parts of each record
 
-abbrev pub pointPart : ℕ → Parts
+abbrev pub pointPart : ℕ → Content
 pointPart label = record { points = label ∷ []; edges = []; uses = []; wires = []; faces = []; shells = []; listings = [] }
 
-abbrev pub edgePart : List ℕ → Parts
-edgePart bytes = record { points = []; edges = bytes; uses = []; wires = []; faces = []; shells = []; listings = [] }
+abbrev pub edgePart : Edge → Content
+edgePart e = record { points = []; edges = e ∷ []; uses = []; wires = []; faces = []; shells = []; listings = [] }
 
-abbrev pub facePart : ℕ → List (List ℕ) → Parts
+abbrev pub facePart : ℕ → List (List ℕ) → Content
 facePart surface wires = record {
   points = [];
   edges = [];
   uses = flat wires;
   wires = map length wires;
-  faces = bytes16 (length wires) ++ bytes16 surface;
+  faces = record { wires = length wires; surface = surface } ∷ [];
   shells = [];
   listings = [];
 }
 
-abbrev pub shellPart : List ℕ → Parts
+abbrev pub shellPart : List ℕ → Content
 shellPart listings = record { points = []; edges = []; uses = []; wires = []; faces = []; shells = length listings ∷ []; listings = listings }
 
 -- ---- points and edges
+
+-- an edge by its numbers and the bits of its ends
+abbrev pub edgeOf : ℕ → ℕ → ℕ → ℕ → Edge
+edgeOf front back t0 t1 = edge (record { 0 = front }) (record { 0 = back }) (record { t0 = ofBits binary64 t0; t1 = ofBits binary64 t1 })
 
 pub point-parts : (k label : ℕ) → k < 1000000000 → label < 4294967296 → lineParts (pointWords k label) ≡ pointPart label
 unfolding partsOf
@@ -53,11 +61,11 @@ point-parts k label h l =
     parts-are (pointWords k label) (point-kind k label) (point-values k label h l) ∙ ap pointPart e
 
 pub edge-parts : (k front back t0 t1 : ℕ) → k < 1000000000 → Small front → Small back → t0 < 18446744073709551616 → t1 < 18446744073709551616
-    → lineParts (edgeWords k front back t0 t1) ≡ edgePart (bytes16 front ++ bytes16 back ++ bytes64 t0 ++ bytes64 t1)
+    → lineParts (edgeWords k front back t0 t1) ≡ edgePart (edgeOf front back t0 t1)
 unfolding partsOf
 edge-parts k front back t0 t1 h f b p q =
     parts-are (edgeWords k front back t0 t1) (edge-kind k front back t0 t1) (edge-values k front back t0 t1 h (omega arith) (omega arith) p q)
-    ∙ (λ i. edgePart (bytes16 (short-is front f i) ++ bytes16 (short-is back b i) ++ bytes64 t0 ++ bytes64 t1))
+    ∙ (λ i. edgePart (edgeOf (short-is front f i) (short-is back b i) t0 t1))
 
 -- ---- faces
 
@@ -87,7 +95,7 @@ face-is k surface wires s u f n =
       edges = [];
       uses = flat wires;
       wires = lengths-are wires f i;
-      faces = bytes16 (short-is (length wires) n i) ++ bytes16 (short-is surface s i);
+      faces = record { wires = short-is (length wires) n i; surface = short-is surface s i } ∷ [];
       shells = [];
       listings = [];
     })

@@ -1,37 +1,23 @@
--- How many records the parts have: they pass no limit; all of them are the file.
-use Prim.Native.Nat.{_/_, _≤_, ℕ}
-use mathlib.Core.List.{List, [], _++_, _∷_, map}
-use mathlib.Core.Path.{_∙_, _≡_, ap, refl, sym}
+-- How many records the first records have: they pass no limit; all of them are the pattern.
+use Prim.Native.Nat.{_≤_, ℕ}
+use mathlib.Core.List.{List, [], _∷_, map}
+use mathlib.Core.Path.{_∙_, _≡_, ap, sym}
 use native.Mathlib.Omega.{arith}
 use lib.ListN.{drop, getD, length, length-append, length-map, length-take, take, take-append-drop}
 use lib.Seq.{length-take-le, take-all}
 use borrow.Author.Tests.{le-leb}
 use Rattle.errors.specs.Faults.{each}
 use Rattle.face.specs.Faces.{wireCount}
-use Rattle.line_parts.specs.Parts.{Parts, partCounts}
-use Rattle.lists.proofs.Flat.{length-flat}
 use Rattle.lists.proofs.Laws.{flat-append, length-split}
 use Rattle.lists.proofs.Parts.{flat-split}
 use Rattle.lists.specs.Lists.{flat, split, sum}
 use Rattle.pattern.proofs.Counts.{Limited}
 use Rattle.pattern.specs.Checks.{countFaults, outlines}
 use Rattle.pattern.specs.Contents.{Content, countsOf}
-use Rattle.pattern_file.specs.File.{edgeBytes, faceBytes, fileBytes, tableBytes}
-use Rattle.text_pattern.specs.PartsFile.{fileOf}
 use Rattle.text_round_trip.proofs.States.{lists, partly, split-lengths}
 use Rattle.text_round_trip.proofs.Weights.{weight}
-use Rattle.words.specs.Words.{bytes16, bytes32}
 
--- ---- parts that pass no limit
-
-pub record Room (p : Parts) : Type 0 where
-  pub points : length (p .points) ≤ 2048
-  pub edges : length (p .edges) ≤ 20480
-  pub uses : length (p .uses) ≤ 4096
-  pub wires : length (p .wires) ≤ 1024
-  pub faces : length (p .faces) ≤ 1024
-  pub shells : length (p .shells) ≤ 16
-  pub listings : length (p .listings) ≤ 512
+-- ---- contents that pass no limit
 
 counts-few : (a b c d e f g : ℕ) → a ≤ 2048 → b ≤ 1024 → c ≤ 4096 → d ≤ 1024 → e ≤ 256 → f ≤ 16 → g ≤ 512
     → countFaults (a ∷ b ∷ c ∷ d ∷ e ∷ f ∷ g ∷ []) ≡ []
@@ -39,12 +25,12 @@ unfolding each
 counts-few a b c d e f g ha hb hc hd he hf hg =
     rw (le-leb a 2048 ha, le-leb b 1024 hb, le-leb c 4096 hc, le-leb d 1024 hd, le-leb e 256 he, le-leb f 16 hf, le-leb g 512 hg)
 
-pub room-few : (p : Parts) → Room p → countFaults (partCounts p) ≡ []
+pub room-few : (p : Content) → Limited (countsOf p) → countFaults (countsOf p) ≡ []
 room-few p r =
-    counts-few (length (p .points)) (length (p .edges) / 20) (length (p .uses)) (length (p .wires)) (length (p .faces) / 4) (length (p .shells)) (length (p .listings))
-    (r .points) (omega (arith, r .edges)) (r .uses) (r .wires) (omega (arith, r .faces)) (r .shells) (r .listings)
+    counts-few (length (p .points)) (length (p .edges)) (length (p .uses)) (length (p .wires)) (length (p .faces)) (length (p .shells)) (length (p .listings))
+    (r .points) (r .edges) (r .uses) (r .wires) (r .faces) (r .shells) (r .listings)
 
-pub room-weight : (p : Parts) → Room p → weight p ≤ 262144
+pub room-weight : (p : Content) → Limited (countsOf p) → weight p ≤ 262144
 room-weight p r = omega (arith, r .points, r .edges, r .uses, r .wires, r .faces, r .shells, r .listings)
 
 -- ---- a pattern whose sums are right
@@ -91,76 +77,43 @@ module _ (c : Content) (r : Summed c) where
   listings-flat : flat (lists c) ≡ c .listings
   listings-flat = flat-split (c .shells) (c .listings) (r .listings)
 
-  pub partly-room : (a b f s : ℕ) → Room (partly c a b f s)
+  pub partly-room : (a b f s : ℕ) → Limited (countsOf (partly c a b f s))
   partly-room a b f s = record {
     points = omega (arith, length-take a (c .points), r .few .points);
-    edges = omega (arith, length-flat edgeBytes 20 (λ e. refl) (take b (c .edges)), length-take b (c .edges), r .few .edges);
+    edges = omega (arith, length-take b (c .edges), r .few .edges);
     uses = omega (arith, flat-parts f (outlines c), ap length uses-flat, r .few .uses);
     wires = omega (arith, length-map (flat (take f (outlines c))) length, flat-part f (outlines c), ap length wires-flat, length-map (flat (outlines c)) length, r .few .wires);
-    faces = omega (arith, length-flat faceBytes 4 (λ e. refl) (take f (c .faces)), length-take f (c .faces), r .few .faces);
+    faces = omega (arith, length-take f (c .faces), r .few .faces);
     shells = omega (arith, length-take s (c .shells), r .few .shells);
     listings = omega (arith, flat-part s (lists c), ap length listings-flat, r .few .listings);
   }
 
   -- all records
-  module _ (a b f s : ℕ) (points : length (c .points) ≤ a) (edges : length (c .edges) ≤ b) (faces : length (c .faces) ≤ f) (shells : length (c .shells) ≤ s) where
-    abbrev all : Parts
-    all = record {
-      points = c .points;
-      edges = flat (map edgeBytes (c .edges));
-      uses = c .uses;
-      wires = c .wires;
-      faces = flat (map faceBytes (c .faces));
-      shells = c .shells;
-      listings = c .listings;
-    }
-
-    partly-all : partly c a b f s ≡ all
-    partly-all =
-        let o : take f (outlines c) ≡ outlines c = take-all f (outlines c) (omega (arith, length-split (map wireCount (c .faces)) (split (c .wires) (c .uses)), length-map (c .faces) wireCount)) in
-        let l : take s (lists c) ≡ lists c = take-all s (lists c) (omega (arith, length-split (c .shells) (c .listings))) in
-        λ i. record {
-          points = take-all a (c .points) points i;
-          edges = flat (map edgeBytes (take-all b (c .edges) edges i));
-          uses = (ap (λ (r : List (List (List ℕ))). flat (flat r)) o ∙ uses-flat) i;
-          wires = (ap (λ (r : List (List (List ℕ))). map length (flat r)) o ∙ wires-flat) i;
-          faces = flat (map faceBytes (take-all f (c .faces) faces i));
-          shells = take-all s (c .shells) shells i;
-          listings = (ap flat l ∙ listings-flat) i;
-        }
-
-    all-file : fileOf all ≡ fileBytes c
-    unfolding fileOf
-    all-file =
-        let e : length (flat (map edgeBytes (c .edges))) / 20 ≡ length (c .edges) = omega (arith, length-flat edgeBytes 20 (λ x. refl) (c .edges)) in
-        let g : length (flat (map faceBytes (c .faces))) / 4 ≡ length (c .faces) = omega (arith, length-flat faceBytes 4 (λ x. refl) (c .faces)) in
-        let counts : partCounts all ≡ countsOf c = λ i. length (c .points) ∷ e i ∷ length (c .uses) ∷ length (c .wires) ∷ g i ∷ length (c .shells) ∷ length (c .listings) ∷ [] in
-        ap
-        (λ (ns : List ℕ).
-        tableBytes ns
-        ++ flat (map bytes32 (c .points))
-        ++ flat (map edgeBytes (c .edges))
-        ++ flat (map bytes16 (c .uses))
-        ++ flat (map bytes16 (c .wires))
-        ++ flat (map faceBytes (c .faces))
-        ++ flat (map bytes16 (c .shells))
-        ++ flat (map bytes16 (c .listings)))
-        counts
-
-    pub whole-file : fileOf (partly c a b f s) ≡ fileBytes c
-    whole-file = ap fileOf partly-all ∙ all-file
+  pub partly-all : partly c (length (c .points)) (length (c .edges)) (length (c .faces)) (length (c .shells)) ≡ c
+  partly-all =
+      let o : take (length (c .faces)) (outlines c) ≡ outlines c = take-all (length (c .faces)) (outlines c) (omega (arith, length-split (map wireCount (c .faces)) (split (c .wires) (c .uses)), length-map (c .faces) wireCount)) in
+      let l : take (length (c .shells)) (lists c) ≡ lists c = take-all (length (c .shells)) (lists c) (omega (arith, length-split (c .shells) (c .listings))) in
+      λ i. record {
+        points = take-all (length (c .points)) (c .points) (omega arith) i;
+        edges = take-all (length (c .edges)) (c .edges) (omega arith) i;
+        uses = (ap (λ (r : List (List (List ℕ))). flat (flat r)) o ∙ uses-flat) i;
+        wires = (ap (λ (r : List (List (List ℕ))). map length (flat r)) o ∙ wires-flat) i;
+        faces = take-all (length (c .faces)) (c .faces) (omega arith) i;
+        shells = take-all (length (c .shells)) (c .shells) (omega arith) i;
+        listings = (ap flat l ∙ listings-flat) i;
+      }
 
 -- ---- the number of the next record
 
 module _ (c : Content) (a b f s : ℕ) where
-  pub next-point : a ≤ length (c .points) → getD (partCounts (partly c a b f s)) 0 0 ≡ a
+  pub next-point : a ≤ length (c .points) → getD (countsOf (partly c a b f s)) 0 0 ≡ a
   next-point h = length-take-le a (c .points) h
 
-  pub next-edge : b ≤ length (c .edges) → getD (partCounts (partly c a b f s)) 1 0 ≡ b
-  next-edge h = omega (arith, length-flat edgeBytes 20 (λ x. refl) (take b (c .edges)), length-take-le b (c .edges) h)
+  pub next-edge : b ≤ length (c .edges) → getD (countsOf (partly c a b f s)) 1 0 ≡ b
+  next-edge h = length-take-le b (c .edges) h
 
-  pub next-face : f ≤ length (c .faces) → getD (partCounts (partly c a b f s)) 4 0 ≡ f
-  next-face h = omega (arith, length-flat faceBytes 4 (λ x. refl) (take f (c .faces)), length-take-le f (c .faces) h)
+  pub next-face : f ≤ length (c .faces) → getD (countsOf (partly c a b f s)) 4 0 ≡ f
+  next-face h = length-take-le f (c .faces) h
 
-  pub next-shell : s ≤ length (c .shells) → getD (partCounts (partly c a b f s)) 5 0 ≡ s
+  pub next-shell : s ≤ length (c .shells) → getD (countsOf (partly c a b f s)) 5 0 ≡ s
   next-shell h = length-take-le s (c .shells) h

@@ -14,7 +14,7 @@ use Rattle.lists.proofs.Count.{All}
 use Rattle.lists.proofs.Laws.{flat-append}
 use Rattle.lists.specs.Lists.{flat, pick}
 use Rattle.output.specs.Text.{ascii, decimal, field}
-use Rattle.pattern_lines.specs.PatternLines.{edgeLine, faceLine, pointLine, shellLine}
+use Rattle.show_lines.specs.PatternLines.{edgeLine, faceLine, pointLine, shellLine}
 use Rattle.text_round_trip.proofs.Numbers.{decimal-word, isWord, signed-word, word-is}
 use Rattle.text_round_trip.proofs.Reals.{real-is}
 use Rattle.text_round_trip.proofs.Sentences.{Word, lined, sentence, spaced}

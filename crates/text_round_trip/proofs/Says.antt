@@ -1,23 +1,23 @@
 -- What is known of the line of each record.
 use Prim.Native.Nat.{_<_, _≤_, suc, ℕ}
-use mathlib.Core.List.{List, [], _++_, _∷_}
+use mathlib.Core.List.{List, [], _∷_}
 use mathlib.Core.Path.{_≡_, refl}
 use native.Mathlib.Omega.{arith}
 use lib.ListN.{length, length-map}
-use Rattle.line_forms.specs.LineForms.{lineKind, lineValues}
-use Rattle.line_parts.specs.Parts.{Parts, neededWords}
+use Rattle.draft_forms.specs.LineForms.{lineKind, lineValues}
+use Rattle.draft_parts.specs.Parts.{neededWords}
 use Rattle.lines.specs.Lines.{signed}
 use Rattle.lists.proofs.Count.{All}
-use Rattle.text_pattern.specs.TextPattern.{lineParts}
-use Rattle.text_round_trip.proofs.Adds.{Few, edge-parts, edgePart, face-parts, facePart, point-parts, pointPart, shell-parts, shellPart}
+use Rattle.pattern.specs.Contents.{Content}
+use Rattle.draft_text.specs.TextPattern.{lineParts}
+use Rattle.text_round_trip.proofs.Adds.{Few, edge-parts, edgeOf, edgePart, face-parts, facePart, point-parts, pointPart, shell-parts, shellPart}
 use Rattle.text_round_trip.proofs.Lines.{Small, edge-line, edge-words, edgeWords, face-line, face-words, faceWord, faceWords, marks, point-line, point-words, pointWords, shell-line, shell-words, shellWords}
 use Rattle.text_round_trip.proofs.Sentences.{Word, lined, sentence}
 use Rattle.text_round_trip.proofs.Values.{edge-kind, edge-values, face-kind, face-values, point-kind, point-values, shell-kind, shell-values}
 use Rattle.text_round_trip.proofs.Weights.{edge-weight, face-weight, point-weight, shell-weight, weight}
-use Rattle.words.specs.Words.{bytes16, bytes64}
 
 -- the line of these words has the number k of its kind, and adds the part
-pub record Says (ws : List (List ℕ)) (kind k : ℕ) (part : Parts) : Type 0 where
+pub record Says (ws : List (List ℕ)) (kind k : ℕ) (part : Content) : Type 0 where
   -- the values after the number
   pub values : List ℕ
   pub are : All Word ws
@@ -42,7 +42,7 @@ point-says k label h l = record {
 }
 
 pub edge-says : (k front back t0 t1 : ℕ) → k < 65536 → Small front → Small back → t0 < 18446744073709551616 → t1 < 18446744073709551616
-    → Says (edgeWords k front back t0 t1) 2 k (edgePart (bytes16 front ++ bytes16 back ++ bytes64 t0 ++ bytes64 t1))
+    → Says (edgeWords k front back t0 t1) 2 k (edgePart (edgeOf front back t0 t1))
 unfolding neededWords
 edge-says k front back t0 t1 h f b p q = record {
   values = 65536 ∷ front ∷ 65536 ∷ back ∷ 65536 ∷ t0 ∷ t1 ∷ [];

@@ -1,4 +1,4 @@
--- The first records of each kind of a pattern, as the parts that their lines make, and one record more.
+-- The first records of each kind of a pattern, as their lines make them, and one record more.
 use Prim.Native.Nat.{_<_, _≤_, suc, ℕ}
 use mathlib.Core.List.{List, [], _++_, _∷_, append-nil, map, map-append}
 use mathlib.Core.Path.{_∙_, _≡_, ap, refl, sym}
@@ -6,16 +6,13 @@ use native.Mathlib.Omega.{arith}
 use lib.ListN.{List·getD-map, drop, getD, length, length-drop, length-map, take}
 use lib.Seq.{length-take-le, take-suc}
 use Rattle.face.specs.Faces.{wireCount}
-use Rattle.line_parts.specs.Parts.{Parts, joined, nothing}
+use Rattle.draft_parts.specs.Parts.{joined, nothing}
 use Rattle.lists.proofs.Laws.{flat-append, length-split}
 use Rattle.lists.proofs.Parts.{flat-one}
-use Rattle.lists.proofs.Sets.{flat-next}
 use Rattle.lists.specs.Lists.{flat, split, sum}
 use Rattle.pattern.specs.Checks.{outlines}
 use Rattle.pattern.specs.Contents.{Content, zeroEdge, zeroFace}
-use Rattle.pattern_file.specs.File.{edgeBytes, faceBytes}
 use Rattle.text_round_trip.proofs.Adds.{edgePart, facePart, pointPart, shellPart}
-use Rattle.words.specs.Words.{bytes16}
 
 -- ---- parts of a list
 
@@ -40,13 +37,13 @@ abbrev pub lists : Content → List (List ℕ)
 lists c = split (c .shells) (c .listings)
 
 -- a points, b edges, f faces, s shells
-abbrev pub partly : Content → ℕ → ℕ → ℕ → ℕ → Parts
+abbrev pub partly : Content → ℕ → ℕ → ℕ → ℕ → Content
 partly c a b f s = record {
   points = take a (c .points);
-  edges = flat (map edgeBytes (take b (c .edges)));
+  edges = take b (c .edges);
   uses = flat (flat (take f (outlines c)));
   wires = map length (flat (take f (outlines c)));
-  faces = flat (map faceBytes (take f (c .faces)));
+  faces = take f (c .faces);
   shells = take s (c .shells);
   listings = flat (take s (lists c));
 }
@@ -57,7 +54,7 @@ partly-none c = refl
 
 -- one record more
 module _ (c : Content) (a b f s : ℕ) where
-  abbrev p : Parts
+  abbrev p : Content
   p = partly c a b f s
 
   pub point-more : a < length (c .points) → joined p (pointPart (getD (c .points) a 0)) ≡ partly c (suc a) b f s
@@ -71,10 +68,10 @@ module _ (c : Content) (a b f s : ℕ) where
     listings = append-nil (p .listings) i;
   }
 
-  pub edge-more : b < length (c .edges) → joined p (edgePart (edgeBytes (getD (c .edges) b zeroEdge))) ≡ partly c a (suc b) f s
+  pub edge-more : b < length (c .edges) → joined p (edgePart (getD (c .edges) b zeroEdge)) ≡ partly c a (suc b) f s
   edge-more h = λ i. record {
     points = append-nil (p .points) i;
-    edges = sym (flat-next edgeBytes (c .edges) b zeroEdge h) i;
+    edges = sym (take-suc (c .edges) b zeroEdge h) i;
     uses = append-nil (p .uses) i;
     wires = append-nil (p .wires) i;
     faces = append-nil (p .faces) i;
@@ -93,7 +90,7 @@ module _ (c : Content) (a b f s : ℕ) where
         edges = append-nil (p .edges) i;
         uses = sym (ap flat more ∙ flat-append (flat (take f (outlines c))) wires) i;
         wires = sym (ap (map length) more ∙ map-append length (flat (take f (outlines c))) wires) i;
-        faces = (ap (λ (n : ℕ). p .faces ++ (bytes16 n ++ bytes16 (getD (c .faces) f zeroFace .surface))) e ∙ sym (flat-next faceBytes (c .faces) f zeroFace h)) i;
+        faces = (ap (λ (n : ℕ). p .faces ++ (record { wires = n; surface = getD (c .faces) f zeroFace .surface } ∷ [])) e ∙ sym (take-suc (c .faces) f zeroFace h)) i;
         shells = append-nil (p .shells) i;
         listings = append-nil (p .listings) i;
       }

@@ -11,7 +11,7 @@ use borrow.Author.Tests.{eqb-false, eqb-true}
 use Rattle.decimals.proofs.Back.{real-back}
 use Rattle.forms.proofs.Tokens.{below-is}
 use Rattle.forms.specs.Forms.{token, values}
-use Rattle.line_forms.specs.LineForms.{furtherKind, kindNamed, lineKind, lineValues, wordKinds}
+use Rattle.draft_forms.specs.LineForms.{furtherKind, kindNamed, lineKind, lineValues, wordKinds}
 use Rattle.lines.specs.Lines.{signed}
 use Rattle.lists.proofs.Count.{All, all-append, all-weaker}
 use Rattle.lists.proofs.Laws.{cases}

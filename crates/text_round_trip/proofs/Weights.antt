@@ -1,29 +1,29 @@
 -- How long the lines are: no line has more bytes than what it adds weighs.
 use Prim.Native.Nat.{_*_, _+_, _<_, _≤_, ℕ}
-use mathlib.Core.List.{List, _++_, map}
+use mathlib.Core.List.{List, map}
 use mathlib.Core.Path.{_≡_}
 use native.Mathlib.Omega.{arith}
 use lib.ListN.{length, length-append}
 use Rattle.answer_lines.proofs.Bounds.{wires-short}
 use Rattle.answer_lines.specs.AnswerLines.{wiresText}
-use Rattle.line_parts.specs.Parts.{Parts, joined}
+use Rattle.draft_parts.specs.Parts.{joined}
 use Rattle.lines.proofs.Bounds.{items-short}
 use Rattle.lines.specs.Lines.{numberLine}
 use Rattle.lists.proofs.Parts.{split-flat}
 use Rattle.lists.specs.Lists.{flat}
 use Rattle.output.proofs.Laws.{decimal-short}
 use Rattle.output.specs.Text.{field}
-use Rattle.pattern_lines.specs.PatternLines.{edgeLine, faceLine, pointLine, shellLine}
-use Rattle.text_round_trip.proofs.Adds.{edgePart, facePart, pointPart, shellPart}
+use Rattle.pattern.specs.Contents.{Content}
+use Rattle.show_lines.specs.PatternLines.{edgeLine, faceLine, pointLine, shellLine}
+use Rattle.text_round_trip.proofs.Adds.{edgeOf, edgePart, facePart, pointPart, shellPart}
 use Rattle.text_round_trip.proofs.Reals.{real-is}
-use Rattle.words.specs.Words.{bytes16, bytes64}
 
--- 40 for each point and shell, 5 for each byte of an edge and each wire, 7 for each use and listing, 10 for each byte of a face
-abbrev pub weight : Parts → ℕ
+-- 40 for each point, face and shell, 100 for each edge, 5 for each wire, 7 for each use and listing
+abbrev pub weight : Content → ℕ
 weight p =
-    40 * length (p .points) + 5 * length (p .edges) + 7 * length (p .uses) + 5 * length (p .wires) + 10 * length (p .faces) + 40 * length (p .shells) + 7 * length (p .listings)
+    40 * length (p .points) + 100 * length (p .edges) + 7 * length (p .uses) + 5 * length (p .wires) + 40 * length (p .faces) + 40 * length (p .shells) + 7 * length (p .listings)
 
-pub weight-joined : (p q : Parts) → weight (joined p q) ≡ weight p + weight q
+pub weight-joined : (p q : Content) → weight (joined p q) ≡ weight p + weight q
 weight-joined p q =
     omega (
       arith,
@@ -44,7 +44,7 @@ point-weight k label h l =
     simp length-append (omega (arith, decimal-short 4 k (omega arith), decimal-short 9 label (omega arith)))
 
 pub edge-weight : (k front back t0 t1 : ℕ) → k < 65536 → front < 65536 → back < 65536
-    → length (edgeLine k front back t0 t1) ≤ weight (edgePart (bytes16 front ++ bytes16 back ++ bytes64 t0 ++ bytes64 t1))
+    → length (edgeLine k front back t0 t1) ≤ weight (edgePart (edgeOf front back t0 t1))
 unfolding edgeLine field
 edge-weight k front back t0 t1 h f b =
     simp length-append

@@ -1,2 +1,2 @@
 // A pattern printed as text and read back is the same file: a theorem over what the contracts of
-// `pattern_text::show` and `text_pattern::make` cite; no code.
+// `show_text::show` and `draft_text::make` cite; no code.

@@ -11,7 +11,6 @@ use lib.Seq.{drop-cons, getD-drop, getD-take}
 use borrow.Author.Tests.{eq-eqb, le-leb, lt-leb, lt-ltb, ltb-true, ne-eqb}
 use Rattle.edge.specs.Edges.{edge}
 use Rattle.edge.specs.Uses.{backOf, edgeNumber, frontOf}
-use Rattle.errors.specs.Faults.{firstOfWire}
 use Rattle.errors.specs.declared.WireCheck.the-variants.{Refused, Simple}
 use Rattle.errors.specs.declared.WireError.the-variants.{EmptyWire, NotClosedWire, NotSimpleWire}
 use Rattle.lists.proofs.Marks.{AllBelow, met-fresh}
@@ -19,6 +18,7 @@ use Rattle.lists.specs.Lists.{noDup, unless}
 use Rattle.lists.specs.Marks.{Below, met}
 use Rattle.wire.specs.Wires.{Named, closed, endFrom, findFrom, outlineOf, points, runs, wireFaults}
 use Rattle.wire.specs.declared.Found.the-variants.{At, Nothing}
+use Rattle.errors.specs.Sequence.{firstOfWire}
 
 -- a search among the uses from place i on
 module _ (us : List ℕ) (e i : ℕ) where

@@ -6,13 +6,14 @@ use lib.Ieee.{Float, binary64, fits}
 use Rattle.curve.proofs.Theorem.{halves-span}
 use Rattle.curve.proofs.cut_curve.Statement.{statement}
 use Rattle.curve.proofs.cut_curve.Tie as tie
-use Rattle.curve.specs.Curves.{areSpans, backHalf, cutCurve, frontHalf, refuses}
+use Rattle.curve.specs.Curves.{backHalf, cutCurve, frontHalf, refuses}
 use Rattle.curve.specs.declared.Halves.{Halves}
 use Rattle.curve.specs.declared.Halves.the-variants.{Both, Refused}
 use Rattle.curve.specs.declared.Parameter.{Parameter}
 use Rattle.curve.specs.declared.Parameter.the-variants.{At, Nowhere}
 use Rattle.edge.specs.Edges.{isSpan}
 use Rattle.edge.specs.declared.Curve.{Curve}
+use Rattle.curve.specs.Spans.{areSpans}
 
 -- what cut_curve promises
 abbrev Cut : Curve → Parameter → Halves → Type 0

@@ -1,126 +1,112 @@
--- The columns are the pattern's own; the storage gets what the cut on them gives.
-use mathlib.Core.Bool.{_&&_, true}
-use mathlib.Core.Path.{_∙_, _≡_, ap, refl, sym}
-use native.Mathlib.Omega.{arith}
-use lib.Dec.{ltb}
-use lib.ListN.{getD, length, length-map}
 use borrow.Author.Needs.{needs}
-use Rattle.cut_edge.proofs.Answer.{after-fine, all-here, answer-cut, parted-are, pattern-cut, refused-not, rooms}
-use Rattle.cut_edge.proofs.Stored.{edge-at}
-use Rattle.edge.proofs.Laws.{noEdge}
-use Rattle.edge.specs.declared.Edge.{Edge}
+use native.Mathlib.Omega.{arith}
+use lib.ListN.{length}
+use mathlib.Core.Path.{_≡_, _∙_, ap, sym}
+use Rattle.cut_edge.proofs.Store.{Here, Sound, accepted-answer, accepted-pattern, accepted-room, held-after, held-edge-at, held-judged, held-listed, held-refused, held-rooms, judge-ready}
+use Rattle.curve.specs.Curves.{cutCurve}
+use Rattle.cut_edge_faults.specs.Judgement.{judgement}
 use Rattle.edit_answers.specs.declared.CutAnswer.the-variants.{Cut, Not, Refused}
 use Rattle.edit_answers.specs.declared.EditError.{EditError}
 use Rattle.errors.specs.declared.Refusal.{Refusal}
-use Rattle.pattern.proofs.Counts.{Full}
 use Rattle.pattern.specs.Checks.{patternFaults}
-use Rattle.pattern.specs.Contents.{content}
-use Rattle.shell_edits.specs.Answers.{nextEdge, storedIn}
-use Rattle.shell_edits.specs.Edits.{cutContent, edgeAt}
-use Rattle.shell_wires.proofs.Facts.{Fine, fine}
-use Rattle.shell_wires.specs.Lent.{Lent}
+use Rattle.pattern.specs.Contents.{Pattern, content, storedIn}
+use Rattle.shell_edits.specs.Answers.{nextEdge}
+use Rattle.shell_edits.specs.Edits.{cutContent, cutFaults, edgeAt}
+use Rattle.shell_wires.specs.Lent.{Listed}
+use Rattle.shell_wires.specs.ShellWires.{marksOf}
+use Rattle.store.specs.Store.{edgeIn, held}
 use Rattle.cut_edge.proofs.cut_named.Statement.{statement}
 use Rattle.cut_edge.proofs.cut_named.Tie as tie
 
-full : (s : tie.Start) → Full (s .args .t1)
-full s =
-    let fields = s .good .0 .1 .1 in
-    record {
-      points = search needs;
-      edges = sym (length-map (s .args .t1 .edges) _) ∙ fields .1 .1 .0 .1 .0 .1;
-      uses = search needs;
-      wires = search needs;
-      faces = sym (length-map (s .args .t1 .faces) _) ∙ fields .1 .1 .1 .1 .1 .0 .1 .0 .1;
-      shells = search needs;
-      listings = search needs;
-    }
+abbrev P : tie.Start → Pattern
+P s = held (s .args .t .now) (s .args .spans .now)
 
-seven : (s : tie.Start) → length (s .args .t1 .counts) ≡ 7
-seven s = search needs
+sound : (c : tie.After-tables-known) → Sound (c .before .before .args .t .now) (c .before .before .args .spans .now)
+sound c = record { long = c .tables-known .ensures; ok = c .before .before .pre .0 }
 
-good : (s : tie.Start) → Fine (s .args .t1)
-good s = fine (s .args .t1) (s .pre .0) (seven s) (full s)
+here : (s : tie.Start) → Here (s .args .t .now) (s .args .n) (s .args .e .0) (s .args .v .0)
+here s = record { shell = s .pre .1 .0; edge = s .pre .1 .1; vertex = s .pre .1 .2 }
 
--- the edge that is read
-edge-is : (c : tie.After-index) → getD (c .before .before .before .before .before .args .t1 .edges) (c .index .result) noEdge ≡ edgeAt (content (c .before .before .before .before .before .args .t1)) (c .before .before .before .before .before .args .e .0)
-edge-is c = let start = c .before .before .before .before .before in
-    rw (c .index .ensures .0) (sym (edge-at _ (good start) _ (start .pre .1 .1)))
+listed : (c : tie.After-listings-in) → Listed (P (c .before .before .before .before .before .before .before .before)) (c .before .before .before .before .counts-in .result) (c .before .before .faces-in .result .now) (c .before .shells-in .result .now) (c .listings-in .result .now)
+listed c = rw (c .before .before .before .before .counts-in .ensures, c .before .before .faces-in .ensures, c .before .shells-in .ensures, c .listings-in .ensures) (held-listed (sound (c .before .before .before .before .before .before)))
 
-curve-is : (c : tie.After-index) → getD (c .before .before .before .before .before .args .t1 .edges) (c .index .result) noEdge .curve ≡ edgeAt (content (c .before .before .before .before .before .args .t1)) (c .before .before .before .before .before .args .e .0) .curve
-curve-is c = ap (λ (d : Edge). d .curve) (edge-is c)
+marked : (c : tie.After-mark-wires) → c .mark-wires .result ≡ marksOf (P (c .before .before .before .before .before .before .before .before .before)) (c .before .before .before .before .before .before .before .before .before .args .n)
+marked c = c .mark-wires .ensures (P (c .before .before .before .before .before .before .before .before .before)) (listed (c .before))
 
-lent : (c : tie.After-backs-of) → Lent (c .before .before .before .before .before .before .before .before .before .before .before .args .t1) (c .before .before .before .before .before .before .before .before .before .before .before .args .t1 .counts) (c .before .fronts-of .result) (c .backs-of .result) (c .before .before .before .before .before .before .before .before .before .before .before .args .t1 .uses) (c .before .before .before .before .before .before .before .before .before .before .before .args .t1 .wires) (c .before .before .before .before .before .before .before .wire-counts .result) (c .before .before .before .before .before .before .before .before .before .before .before .args .t1 .shells) (c .before .before .before .before .before .before .before .before .before .before .before .args .t1 .listings)
-lent c =
-    let start = c .before .before .before .before .before .before .before .before .before .before .before in
-    record {
-      listed = record {
-        ok = start .pre .0;
-        seven = seven start;
-        full = full start;
-        counts-are = refl;
-        faces-are = c .before .before .before .before .before .before .before .wire-counts .ensures;
-        shells-are = refl;
-        listings-are = refl;
-      };
-      fronts-are = c .before .fronts-of .ensures;
-      backs-are = c .backs-of .ensures;
-      uses-are = refl;
-      wires-are = refl;
-    }
+marks-long : (c : tie.After-mark-wires) → length (c .mark-wires .result .wires) ≡ 1024
+marks-long c = search needs
 
-here : (c : tie.After-backs-of) → (ltb (c .before .before .before .before .before .before .before .before .before .before .before .args .n) (getD (c .before .before .before .before .before .before .before .before .before .before .before .args .t1 .counts) 5 0) && ltb (c .before .before .before .before .before .before .before .before .before .before .before .args .e .0) (getD (c .before .before .before .before .before .before .before .before .before .before .before .args .t1 .counts) 1 0) && ltb (c .before .before .before .before .before .before .before .before .before .before .before .args .v .0) (getD (c .before .before .before .before .before .before .before .before .before .before .before .args .t1 .counts) 0 0)) ≡ true
-here c = let start = c .before .before .before .before .before .before .before .before .before .before .before in
-    all-here _ _ _ _ _ _ _ _ _ (lent c) _ _ _ (start .args .at) (start .pre .1)
+edge-is : (c : tie.After-edge-in) → c .edge-in .result ≡ edgeAt (content (P (c .before .before .before .before .before .before .before .before .before .before .before .before .before))) (c .before .before .before .before .before .before .before .before .before .before .before .before .before .args .e .0)
+edge-is c = let s = c .before .before .before .before .before .before .before .before .before .before .before .before .before in
+    c .edge-in .ensures ∙ ap (edgeIn (s .args .t .now) (s .args .spans .now)) (c .before .index .ensures .0) ∙ held-edge-at (sound (c .before .before .before .before .before .before .before .before .before .before .before)) (s .args .e .0) (s .pre .1 .1)
 
-element-copy-out-d : tie.Need-element-copy-out-d
-element-copy-out-d c = let start = c .before .before .before .before .before in
-    omega (arith, c .index .ensures .0, start .pre .1 .1, good start .limits .edges)
+judged-is : (c : tie.After-judge-cut) → c .judge-cut .result ≡ judgement (cutFaults (content (P (c .before .before .before .before .before .before .before .before .before .before .before .before .before .before .before .before .before .before .before .before .before .before .before .before))) (c .before .before .before .before .before .before .before .before .before .before .before .before .before .before .before .before .before .before .before .before .before .before .before .before .args .n) (c .before .before .before .before .before .before .before .before .before .before .before .before .before .before .before .before .before .before .before .before .before .before .before .before .args .e .0) (c .before .before .before .before .before .before .before .before .before .before .before .before .before .before .before .before .before .before .before .before .before .before .before .before .args .v .0) (c .before .before .before .before .before .before .before .before .before .before .before .before .before .before .before .before .before .before .before .before .before .before .before .before .args .at)) (cutCurve (edgeAt (content (P (c .before .before .before .before .before .before .before .before .before .before .before .before .before .before .before .before .before .before .before .before .before .before .before .before))) (c .before .before .before .before .before .before .before .before .before .before .before .before .before .before .before .before .before .before .before .before .before .before .before .before .args .e .0) .curve) (c .before .before .before .before .before .before .before .before .before .before .before .before .before .before .before .before .before .before .before .before .before .before .before .before .args .at))
+judged-is c = let s = c .before .before .before .before .before .before .before .before .before .before .before .before .before .before .before .before .before .before .before .before .before .before .before .before in
+    held-judged (sound (c .before .before .before .before .before .before .before .before .before .before .before .before .before .before .before .before .before .before .before .before .before .before)) (s .args .at) (here s) (marked (c .before .before .before .before .before .before .before .before .before .before .before .before .before .before .before)) (c .before .before .before .before .before .before .before .before .before .before .before .before .before .before .before .before .before .before .before .before .counts-in .ensures) (c .before .before .before .before .before .before .before .before .uses-in .ensures) (c .before .before .before .before .before .before .before .wires-in .ensures) (c .before .before .before .fronts-in .ensures) (c .before .before .backs-in .ensures) (edge-is (c .before .before .before .before .before .before .before .before .before .before .before)) (c .before .cut-curve .ensures .0) (c .judge-cut .ensures)
 
-cut-columns-requires : tie.Need-cut-columns-requires
-cut-columns-requires c κs =
-    let start = c .before .before .before .before .before .before .before .before .before .before .before .before .before .before .before .before .before .before .before .before .before .before .before in
-    ((start .args .t1, lent (c .before .before .before .before .before .before .before .before .before .before .before .before), curve-is (c .before .before .before .before .before .before .before .before .before .before .before .before .before .before .before .before .before .before)), (start .pre .1 .0, start .pre .1 .1, start .pre .1 .2, full start .uses, full start .wires))
+mark-wires-requires : tie.Need-mark-wires-requires
+mark-wires-requires c κs = let s = c .before .before .before .before .before .before .before .before in ((P s, listed c), rw (c .before .before .before .before .counts-in .ensures) (s .pre .1 .0))
+
+edge-in-requires : tie.Need-edge-in-requires
+edge-in-requires c κs = let s = c .before .before .before .before .before .before .before .before .before .before .before .before in omega (arith, c .index .ensures .0, s .pre .1 .1, held-rooms (sound (c .before .before .before .before .before .before .before .before .before .before)) .6)
+
+judge-cut-requires : tie.Need-judge-cut-requires
+judge-cut-requires c κs = let s = c .before .before .before .before .before .before .before .before .before .before .before .before .before .before .before .before .before .before .before .before .before .before .before in
+    judge-ready (sound (c .before .before .before .before .before .before .before .before .before .before .before .before .before .before .before .before .before .before .before .before .before)) (s .args .at) (here s) (marked (c .before .before .before .before .before .before .before .before .before .before .before .before .before .before)) (c .before .before .before .before .before .before .before .before .before .before .before .before .before .before .before .before .before .before .before .counts-in .ensures) (c .before .before .before .before .before .before .before .uses-in .ensures) (c .before .before .before .before .before .before .wires-in .ensures) (c .before .before .fronts-in .ensures) (c .before .backs-in .ensures) (marks-long (c .before .before .before .before .before .before .before .before .before .before .before .before .before .before))
 
 store-cut-requires : tie.Need-store-cut-requires
 store-cut-requires c κs =
-    let start = c .before .before .before .before .before .before .before .before .before .before .before .before .before .before .before .before .before .before .before .before .before .before .before .before .before .before .before .before .before in
-    let place = c .before .before .before .before .before .before .before .before .before .before .before .before .before .before .before .before .before .before in
-    let done = c .before .before .before .before .before .cut-columns .ensures _ (lent place) (curve-is (c .before .before .before .before .before .before .before .before .before .before .before .before .before .before .before .before .before .before .before .before .before .before .before .before)) in
-    let parts = parted-are _ _ _ _ _ _ (sym (c .before .done2 .given .1) ∙ done .answer) in
-    rooms _ (good start) _ _ _ (start .args .at) (here place) (parts .0) .0
-
-cast-a : tie.Need-cast-a
-cast-a c = omega (arith, good (c .before .before .before .before .before .before .before .before .before .before .before .before .before .before .before .before .before .before .before .before .before .before .before .before .before .before .before .before .before .before) .limits .edges)
-
-add-t57 : tie.Need-add-t57
-add-t57 c = omega (arith, good (c .before .before .before .before .before .before .before .before .before .before .before .before .before .before .before .before .before .before .before .before .before .before .before .before .before .before .before .before .before .before) .limits .edges)
+    let j = c .before .before .before .before .before .before .before .before in
+    let s = j .before .before .before .before .before .before .before .before .before .before .before .before .before .before .before .before .before .before .before .before .before .before .before .before in
+    let m = j .before .before .before .before .before .before .before .before .before .before .before .before .before .before .before in
+    ((s .pre .0, s .pre .1 .1, s .pre .1 .2, marks-long m), accepted-room (sound (j .before .before .before .before .before .before .before .before .before .before .before .before .before .before .before .before .before .before .before .before .before .before)) (s .args .at) (here s) (marked m) (sym (judged-is j) ∙ c .before .before .before .before .before .before .judged2 .given .1))
 
 returns : tie.Need-returns
 returns c =
-    let start = c .before .before .before .before .before .before .before .before .before .before .before .before .before .before .before .before .before .before .before .before .before .before .before .before .before .before .before .before .before in
-    let place = c .before .before .before .before .before .before .before .before .before .before .before .before .before .before .before .before .before .before in
-    let done = c .before .before .before .before .before .cut-columns .ensures _ (lent place) (curve-is (c .before .before .before .before .before .before .before .before .before .before .before .before .before .before .before .before .before .before .before .before .before .before .before .before)) in
-    let no = sym (c .before .done .given .1) ∙ done .answer in (
-      refused-not _ (good start) _ _ _ (start .args .at) (here place) Refused Not (Cut (nextEdge (start .args .t1) 0) (nextEdge (start .args .t1) 1)) _ _ no,
+    let j = c .before .before .before in
+    let s = j .before .before .before .before .before .before .before .before .before .before .before .before .before .before .before .before .before .before .before .before .before .before .before .before in
+    let no = sym (judged-is j) ∙ c .before .judged .given .1 in (
+      held-refused (sound (j .before .before .before .before .before .before .before .before .before .before .before .before .before .before .before .before .before .before .before .before .before .before)) (s .args .at) (here s) Refused Not (Cut (nextEdge (P s) 0) (nextEdge (P s) 1)) no,
       (
-        refused-not _ (good start) _ _ _ (start .args .at) (here place) (λ (f : Refusal). start .args .t1) (λ (x : EditError). start .args .t1) (storedIn (start .args .t1) (cutContent (content (start .args .t1)) (start .args .n) (start .args .e .0) (start .args .v .0) (start .args .at))) _ _ no,
-        start .pre .0,
+        held-refused (sound (j .before .before .before .before .before .before .before .before .before .before .before .before .before .before .before .before .before .before .before .before .before .before)) (s .args .at) (here s) (λ (f : Refusal). P s) (λ (x : EditError). P s) (storedIn (P s) (cutContent (content (P s)) (s .args .n) (s .args .e .0) (s .args .v .0) (s .args .at))) no,
+        s .pre .0,
       ),
     )
 
 returns-2 : tie.Need-returns-2
 returns-2 c =
-    let start = c .before .before .before .before .before .before .before .before .before .before .before .before .before .before .before .before .before .before .before .before .before .before .before .before .before .before .before .before .before .before in
-    let place = c .before .before .before .before .before .before .before .before .before .before .before .before .before .before .before .before .before .before .before .before .before .before .before .before .before in
-    let place-2 = c .before .before .before .before .before .before .before .before .before .before .before .before .before .before .before .before .before .before .before in
-    let done = c .before .before .before .before .before .before .cut-columns .ensures _ (lent place-2) (curve-is place) in
-    let parts = parted-are _ _ _ _ _ _ (sym (c .before .before .done2 .given .1) ∙ done .answer) in
-    let after = pattern-cut _ (good start) _ _ _ (start .args .at) (parts .0) _ _ _ _ _ _ _ (parts .1) (parts .2) (done .uses-cut (parts .0)) (done .wires-cut (parts .0)) (edge-is place) (c .store-cut .ensures) in (
-      answer-cut _ (good start) _ _ _ (start .args .at) (parts .0),
-      (after, ap patternFaults after ∙ after-fine _ (good start) _ _ _ (start .args .at) (here place-2) (done .spans)),
+    let j = c .before .before .before .before .before .before .before .before .before in
+    let s = j .before .before .before .before .before .before .before .before .before .before .before .before .before .before .before .before .before .before .before .before .before .before .before .before in
+    let m = marked (j .before .before .before .before .before .before .before .before .before .before .before .before .before .before .before) in
+    let yes = sym (judged-is j) ∙ c .before .before .before .before .before .before .before .judged2 .given .1 in
+    let after = c .store-cut .ensures .1 ∙ accepted-pattern (sound (j .before .before .before .before .before .before .before .before .before .before .before .before .before .before .before .before .before .before .before .before .before .before)) (s .args .at) (here s) m yes in (
+      c .store-cut .ensures .0 ∙ accepted-answer (sound (j .before .before .before .before .before .before .before .before .before .before .before .before .before .before .before .before .before .before .before .before .before .before)) (s .args .at) (here s) m yes,
+      (after, ap patternFaults after ∙ held-after (sound (j .before .before .before .before .before .before .before .before .before .before .before .before .before .before .before .before .before .before .before .before .before .before)) (s .args .at) (here s) (edge-is (j .before .before .before .before .before .before .before .before .before .before .before)) (j .before .cut-curve .ensures .1)),
     )
 
 pub cut-named-spec : {M : Type 1} → statement M
-cut-named-spec = tie.close (tie.spec (search needs) (search needs) (search needs) element-copy-out-d (search needs) (search needs)
-    (search needs) (search needs) (search needs) cut-columns-requires (search needs) (search needs) store-cut-requires (search needs)
-    cast-a add-t57 returns returns-2)
+cut-named-spec =
+    tie.close
+    (tie.spec
+    (search needs)
+    (search needs)
+    (search needs)
+    (search needs)
+    (search needs)
+    mark-wires-requires
+    (search needs)
+    edge-in-requires
+    (search needs)
+    (search needs)
+    (search needs)
+    (search needs)
+    (search needs)
+    (search needs)
+    (search needs)
+    (search needs)
+    judge-cut-requires
+    (search needs)
+    (search needs)
+    store-cut-requires
+    returns
+    returns-2)

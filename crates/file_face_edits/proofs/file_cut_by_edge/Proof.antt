@@ -1,21 +1,24 @@
-use mathlib.Core.Path.{refl}
-use Rattle.file_reports.proofs.Read.{read-passes}
-use Rattle.lists.specs.Lists.{flat}
+-- The contents table first; then the edit, which applies the reading checks.
+use mathlib.Core.Path.{_∙_, sym}
+use mathlib.Core.List.{[], _∷_}
+use lib.ListN.{length}
 use borrow.Author.Needs.{needs}
+use Rattle.face_edits.specs.FaceEdits.{cutFaceFaults, cutInTwo}
+use Rattle.pattern.specs.Contents.{Pattern, content}
+use Rattle.file_face_edits.proofs.Laws.{loaded-owed, refused-owed}
 use Rattle.file_face_edits.proofs.file_cut_by_edge.Statement.{statement}
 use Rattle.file_face_edits.proofs.file_cut_by_edge.Tie as tie
 
-cut-checked-requires : tie.Need-cut-checked-requires
-cut-checked-requires c κs = read-passes (c .before .before .before .before .before .before .before .before .before .before .args .file .now) _ (c .before .before .before .before .before .before .read .ensures) (c .before .before .before .before .enum-told .given .1)
-
 returns : tie.Need-returns
-unfolding flat
-returns c = rw (← c .before .before .before .before .read .ensures, c .before .before .checked .given .1) (c .unread .ensures, (refl, refl))
+returns c =
+    let a = c .before .before .before .before .before .before .before .before .before .before .args in
+    refused-owed (a .file .now) (a .uses .now) (a .lens .now) (λ (p : Pattern). cutFaceFaults (content p) (a .f) (a .u ∷ []) (length (a .uses .now)) (length (a .lens .now))) (λ (p : Pattern). cutInTwo (content p) (a .f) (a .u ∷ [])) _ (sym (c .before .before .before .before .load .ensures .0) ∙ c .before .before .table .given .1) _ (c .unread .ensures)
 
 returns-2 : tie.Need-returns-2
-returns-2 c = let cut-checked = c .before .before .before .before .before .cut-checked in
-    rw (← c .before .before .before .before .before .before .before .before .before .before .before .before .read .ensures, c .before .before .before .before .before .before .before .before .before .before .enum-told .given .1, ← cut-checked .ensures .0) (c .face-values .ensures, cut-checked .ensures .1)
+returns-2 c =
+    let a = c .before .before .before .before .before .before .before .before .before .before .before .before .before .before .before .before .before .before .args in
+    loaded-owed (a .file .now) (a .uses .now) (a .lens .now) (λ (p : Pattern). cutFaceFaults (content p) (a .f) (a .u ∷ []) (length (a .uses .now)) (length (a .lens .now))) (λ (p : Pattern). cutInTwo (content p) (a .f) (a .u ∷ [])) _ (c .before .before .before .before .before .before .before .before .before .before .before .before .load .ensures .1) (sym (c .before .before .before .before .before .before .before .before .before .before .before .before .load .ensures .0) ∙ c .before .before .before .before .before .before .before .before .before .before .enum-told .given .1) _ _ _ (c .before .before .before .before .before .cut-by-edge .ensures) _ (c .face-values .ensures)
 
 pub file-cut-by-edge-spec : {M : Type 1} → statement M
-file-cut-by-edge-spec = tie.close (tie.spec (search needs) (search needs) (search needs) (search needs) (search needs) cut-checked-requires
-    (search needs) returns (search needs) (search needs) returns-2)
+file-cut-by-edge-spec = tie.close (tie.spec (search needs) (search needs) (search needs) (search needs) (search needs) (search needs)
+    returns (search needs) (search needs) returns-2)

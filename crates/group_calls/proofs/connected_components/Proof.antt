@@ -1,10 +1,16 @@
--- Of the figures of the groups, the first numbers are written.
-use mathlib.Core.Path.{_∙_, ap, refl}
-use lib.Seq.{sets}
+-- The components are those that are written.
 use borrow.Author.Needs.{needs}
+use Prim.Native.Nat.{_-_}
+use mathlib.Core.Path.{_∙_, refl, sym}
+use Rattle.calls.proofs.Answers.{there-fine, there-ready}
+use Rattle.lists.specs.Lists.{flat}
 use Rattle.group_calls.proofs.connected_components.Statement.{statement}
 use Rattle.group_calls.proofs.connected_components.Tie as tie
-use Rattle.lists.specs.Lists.{flat}
+
+groups-at-requires : tie.Need-groups-at-requires
+groups-at-requires c κs =
+    let s = c .before .before .before .before .before .before in
+    (there-ready (s .args .t .now) (s .args .spans .now) _ (sym (c .before .before .before .before .before .find-shell .ensures) ∙ c .before .before .before .enum-told2 .given .1), search needs)
 
 returns : tie.Need-returns
 unfolding flat
@@ -16,12 +22,23 @@ returns-2 c = rw (← c .before .before .find-shell .ensures, c .enum-told .give
 
 returns-3 : tie.Need-returns-3
 returns-3 c =
-    let first = c .before .before .before .before .before in
-    let at = first .before .before .before .before .before in
-    let held = at .groups-at .ensures .1 in
-    rw (← at .before .before .before .find-shell .ensures, at .before .enum-told2 .given .1, held .pairs .long, at .groups-at .ensures .0)
-    (refl, (first .put-first .ensures ∙ ap (sets _ 0) (held .pairs .first), c .put-first2 .ensures ∙ ap (sets _ 0) (held .lens .first)))
+    let at = c .before in
+    let s = at .before .before .before .before .before .before .before in
+    let told = at .before .before .before .before .before .before .find-shell .ensures in
+    let is = at .before .before .before .before .enum-told2 .given .1 in
+    let g = at .groups-at .ensures (s .args .spans .now) (there-fine _ _ (sym told ∙ is)) in
+    rw (← told, is) (rw (g .counts), (g .pairs, g .lengths))
 
 pub connected-components-spec : {M : Type 1} → statement M
-connected-components-spec = tie.close (tie.spec (search needs) (search needs) (search needs) (search needs) (λ c κs. cc) (search needs)
-    (search needs) returns returns-2 returns-3)
+connected-components-spec =
+    tie.close
+    (tie.spec
+    (search needs)
+    (search needs)
+    (search needs)
+    (search needs)
+    (search needs)
+    groups-at-requires
+    returns
+    returns-2
+    returns-3)

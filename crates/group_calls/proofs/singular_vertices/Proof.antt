@@ -1,9 +1,15 @@
--- Of the figures of the groups, the first numbers are written.
-use mathlib.Core.Path.{_∙_, ap, refl}
-use lib.Seq.{sets}
+-- The singular points are those that are written.
 use borrow.Author.Needs.{needs}
+use Prim.Native.Nat.{_-_}
+use mathlib.Core.Path.{_∙_, refl, sym}
+use Rattle.calls.proofs.Answers.{there-fine, there-ready}
 use Rattle.group_calls.proofs.singular_vertices.Statement.{statement}
 use Rattle.group_calls.proofs.singular_vertices.Tie as tie
+
+groups-at-requires : tie.Need-groups-at-requires
+groups-at-requires c κs =
+    let s = c .before .before .before .before .before .before in
+    (there-ready (s .args .t .now) (s .args .spans .now) _ (sym (c .before .before .before .before .before .find-shell .ensures) ∙ c .before .before .before .enum-told2 .given .1), search needs)
 
 returns : tie.Need-returns
 returns c = rw (← c .before .before .before .find-shell .ensures, c .before .found .given .1) (refl, refl)
@@ -13,10 +19,24 @@ returns-2 c = rw (← c .before .before .find-shell .ensures, c .enum-told .give
 
 returns-3 : tie.Need-returns-3
 returns-3 c =
-    let at = c .before .before .before .before .before in
-    rw (← at .before .before .before .find-shell .ensures, at .before .enum-told2 .given .1, at .groups-at .ensures .0)
-    (refl, c .put-first .ensures ∙ ap (sets _ 0) (at .groups-at .ensures .1 .points .first))
+    let at = c .before .before in
+    let s = at .before .before .before .before .before .before .before in
+    let told = at .before .before .before .before .before .before .find-shell .ensures in
+    let is = at .before .before .before .before .enum-told2 .given .1 in
+    let g = at .groups-at .ensures (s .args .spans .now) (there-fine _ _ (sym told ∙ is)) in
+    rw (← told, is) (rw (g .counts), g .points)
 
 pub singular-vertices-spec : {M : Type 1} → statement M
-singular-vertices-spec = tie.close (tie.spec (search needs) (search needs) (search needs) (search needs) (λ c κs. cc) (search needs)
-    returns returns-2 returns-3)
+singular-vertices-spec =
+    tie.close
+    (tie.spec
+    (search needs)
+    (search needs)
+    (search needs)
+    (search needs)
+    (search needs)
+    (search needs)
+    groups-at-requires
+    returns
+    returns-2
+    returns-3)

@@ -3,11 +3,10 @@ use Prim.Native.Nat.{ℕ}
 use mathlib.Core.Path.{_∙_, ap, refl, sym}
 use native.Mathlib.Omega.{arith}
 use borrow.Author.Needs.{needs}
-use Rattle.corners.specs.declared.Corner.{Corner}
-use Rattle.corners.specs.Endings.{endingOf}
-use Rattle.corners.specs.declared.Ending.{Ending}
-use Rattle.pattern.specs.Contents.{content}
-use Rattle.pattern.specs.declared.Pattern.{Pattern}
+use Rattle.remove_vertex_corners.specs.declared.Corner.{Corner}
+use Rattle.remove_vertex_corners.specs.Endings.{endingOf}
+use Rattle.remove_vertex_corners.specs.declared.Ending.{Ending}
+use Rattle.pattern.specs.Contents.{Pattern, content}
 use Rattle.remove_vertex.proofs.Removals.{is-shared, many-wires, near-are, no-point, no-shell, no-wire, positive}
 use Rattle.remove_vertex.proofs.Stored.{endings-inside, pair-matched, points-are, shells-are, tables}
 use Rattle.remove_vertex.specs.Removals.{cornerIn}

@@ -1,66 +1,98 @@
-use native.Mathlib.Omega.{arith}
-use mathlib.Core.List.{map}
-use mathlib.Core.Path.{_∙_, _≡_, refl, sym}
-use lib.ListN.{length, length-map}
-use Rattle.face.specs.Faces.{wireCount}
-use Rattle.pattern.proofs.Counts.{Full}
-use Rattle.shell_wires.proofs.Facts.{Fine, fine}
-use Rattle.shell_wires.specs.Lent.{Lent}
-use Rattle.remove_vertex.proofs.Stored.{pairs-are, stored-pair, tables}
 use borrow.Author.Needs.{needs}
+use native.Mathlib.Nat.{sub-zero}
+use native.Mathlib.Omega.{arith}
+use Prim.Native.Nat.{_-_, ℕ, _≤_}
+use lib.ListN.{getD, length, length-replicate, replicate}
+use lib.Seq.{length-sets, length-take-le}
+use mathlib.Core.List.{List, map}
+use mathlib.Core.Path.{ap, _∙_, _≡_}
+use Rattle.concat.proofs.Stored.{held-fine}
+use Rattle.lists.specs.Lists.{flat}
+use Rattle.shell_wires.proofs.Facts.{Fine}
+use Rattle.store.specs.Store.{countTable, held}
+use Rattle.remove_vertex.proofs.Stored.{held-removed, held-tables, stored-written}
+use Rattle.remove_vertex.specs.Removals.{removedIn}
 use Rattle.remove_vertex.proofs.write_removal.Statement.{statement}
 use Rattle.remove_vertex.proofs.write_removal.Tie as tie
+use Rattle.pattern.specs.Contents.{Pattern}
 
-full : (s : tie.Start) → Full (s .args .t1)
-full s =
-    let fields = s .good .0 .1 .1 in
-    record {
-      points = search needs;
-      edges = sym (length-map (s .args .t1 .edges) _) ∙ fields .1 .1 .0 .1 .0 .1;
-      uses = search needs;
-      wires = search needs;
-      faces = sym (length-map (s .args .t1 .faces) _) ∙ fields .1 .1 .1 .1 .1 .0 .1 .0 .1;
-      shells = search needs;
-      listings = search needs;
-    }
+abbrev P : tie.Start → Pattern
+P s = held (s .args .t .now) (s .args .spans .now)
 
-seven : (s : tie.Start) → length (s .args .t1 .counts) ≡ 7
-seven s = search needs
+good : (c : tie.After-tables-known) → Fine (P (c .before .before))
+good c = held-fine (c .before .before .args .t .now) (c .before .before .args .spans .now) (c .tables-known .ensures) (c .before .before .pre .0)
 
-good : (s : tie.Start) → Fine (s .args .t1)
-good s = fine (s .args .t1) (s .pre .0) (seven s) (full s)
+count : (c : tie.After-counts-in) (b : ℕ) → getD (c .counts-in .result) b 0 ≡ getD (countTable (c .before .before .before .before .args .t .now)) b 0
+count c b = ap (λ (ns : List ℕ). getD ns b 0) (c .counts-in .ensures)
 
-lent : (c : tie.After-backs-of) → Lent (c .before .before .before .before .before .before .args .t1) (c .before .before .before .before .before .before .args .t1 .counts) (c .before .fronts-of .result) (c .backs-of .result) (c .before .before .before .before .before .before .args .t1 .uses) (c .before .before .before .before .before .before .args .t1 .wires) (map wireCount (c .before .before .before .before .before .before .args .t1 .faces)) (c .before .before .before .before .before .before .args .t1 .shells) (c .before .before .before .before .before .before .args .t1 .listings)
-lent c =
-    let start = c .before .before .before .before .before .before in
-    record {
-      listed = record {
-        ok = start .pre .0;
-        seven = seven start;
-        full = full start;
-        counts-are = refl;
-        faces-are = refl;
-        shells-are = refl;
-        listings-are = refl;
-      };
-      fronts-are = c .before .fronts-of .ensures;
-      backs-are = c .backs-of .ensures;
-      uses-are = refl;
-      wires-are = refl;
-    }
+few : (c : tie.After-put-removal) → c .put-removal .result ≤ 4096
+few c = omega (arith, c .put-removal .ensures .1 .1 .1, count (c .before .before .before .before) 2, good (c .before .before .before .before .before .before) .limits .uses)
 
-put-tables-requires : tie.Need-put-tables-requires
-put-tables-requires c κs =
-    let start = c .before .before .before .before .before .before .before .before .before .before .before .before .before .before .before .before .before in
-    let g = good start in
-    (tables (start .args .t1) _ _ _ _ _ _ _ _ (lent (c .before .before .before .before .before .before .before .before .before .before .before)), (omega (arith, g .limits .wires, full start .wires), omega (arith, g .limits .uses, full start .uses), start .pre .1))
+wired : (c : tie.After-put-removal) → getD (c .before .before .before .before .counts-in .result) 3 0 ≤ 1024
+wired c = omega (arith, count (c .before .before .before .before) 3, good (c .before .before .before .before .before .before) .limits .wires)
+
+used-long : (c : tie.After-put-removal) → length (c .put-removal .last .1 .1 .1 .1 .0) ≡ 4096
+used-long c = ap length (c .put-removal .ensures .0) ∙ length-sets {A = ℕ} (replicate 4096 0) 0 (flat (removedIn (c .before .before .before .before .before .before .before .before .args .t .now) (c .before .before .before .before .before .before .before .before .args .v .0) (c .before .before .before .before .before .before .before .before .args .e))) ∙ length-replicate {A = ℕ} 4096 0
+
+wired-long : (c : tie.After-put-removal) → length (c .put-removal .last .1 .1 .1 .1 .1 .0) ≡ 1024
+wired-long c = ap length (c .put-removal .ensures .1 .0) ∙ length-sets {A = ℕ} (replicate 1024 0) 0 (map length (removedIn (c .before .before .before .before .before .before .before .before .args .t .now) (c .before .before .before .before .before .before .before .before .args .v .0) (c .before .before .before .before .before .before .before .before .args .e))) ∙ length-replicate {A = ℕ} 1024 0
+
+put-removal-requires : tie.Need-put-removal-requires
+put-removal-requires c κs =
+    let s = c .before .before .before .before .before .before .before in (
+      (c .before .before .before .counts-in .ensures, omega (arith, count (c .before .before .before) 1, s .pre .1), omega (arith, count (c .before .before .before) 2, good (c .before .before .before .before .before) .limits .uses, length-replicate {A = ℕ} 4096 0), omega (arith, count (c .before .before .before) 3, good (c .before .before .before .before .before) .limits .wires, length-replicate {A = ℕ} 1024 0)),
+      rw (c .before .before .before .counts-in .ensures) (held-tables (s .args .t .now) (s .args .spans .now) (c .before .before .before .before .before .tables-known .ensures) (s .pre .0)),
+    )
+
+append-edge-requires : tie.Need-append-edge-requires
+append-edge-requires c κs = c .before .before .before .before .before .before .before .before .before .before .before .before .pre .1
+
+part-store-uses-end : tie.Need-part-store-uses-end
+part-store-uses-end c = omega (arith, few (c .before .before .before .before .before .before .before), used-long (c .before .before .before .before .before .before .before))
+
+store-uses-requires : tie.Need-store-uses-requires
+store-uses-requires c κs = omega (arith, few (c .before .before .before .before .before .before .before .before), used-long (c .before .before .before .before .before .before .before .before), sub-zero (c .before .before .before .before .before .before .before .before .put-removal .result), length-take-le (c .before .before .before .before .before .before .before .before .put-removal .result - 0) (c .before .before .before .before .before .before .before .before .put-removal .last .1 .1 .1 .1 .0) (omega (arith, few (c .before .before .before .before .before .before .before .before), used-long (c .before .before .before .before .before .before .before .before))))
+
+part-store-wires-end : tie.Need-part-store-wires-end
+part-store-wires-end c = omega (arith, wired (c .before .before .before .before .before .before .before .before .before .before .before), wired-long (c .before .before .before .before .before .before .before .before .before .before .before))
+
+store-wires-requires : tie.Need-store-wires-requires
+store-wires-requires c κs = omega (arith, wired (c .before .before .before .before .before .before .before .before .before .before .before .before), wired-long (c .before .before .before .before .before .before .before .before .before .before .before .before), length-take-le (getD (c .before .before .before .before .before .before .before .before .before .before .before .before .before .before .before .before .counts-in .result) 3 0 - 0) (c .before .before .before .before .before .before .before .before .before .before .before .before .put-removal .last .1 .1 .1 .1 .1 .0) (omega (arith, wired (c .before .before .before .before .before .before .before .before .before .before .before .before), wired-long (c .before .before .before .before .before .before .before .before .before .before .before .before))))
+
+cast-store-count : tie.Need-cast-store-count
+cast-store-count c = omega (arith, few (c .before .before .before .before .before .before .before .before .before .before .before .before .before .before))
 
 returns : tie.Need-returns
 returns c =
-    let start = c .before .before .before .before .before .before .before .before .before .before .before .before .before .before .before .before .before .before .before .before .before in
-    let put-tables = c .before .before .before .put-tables in
-    stored-pair _ (good start) _ (start .args .e) _ _ _ (pairs-are (start .args .t1) _ _ _ _ _ _ _ _ (lent (c .before .before .before .before .before .before .before .before .before .before .before .before .before .before .before)) (start .args .v .0) (start .args .e)) (c .append-edge .ensures) (put-tables .ensures .0) (put-tables .ensures .1 .0) (put-tables .ensures .1 .1)
+    let s = c .before .before .before .before .before .before .before .before .before .before .before .before .before .before .before .before .before .before .before .before .before .before .before in
+    let put = c .before .before .before .before .before .before .before .before .before .before .before .before .before .before .before in
+    let spans = c .before .before .before .before .before .before .before .before .before .before .append-edge .last .1 .0 in (
+      c .before .before .before .before .before .before .before .before .before .before .append-edge .ensures .0,
+      stored-written (P s) (good (c .before .before .before .before .before .before .before .before .before .before .before .before .before .before .before .before .before .before .before .before .before)) (s .args .v .0) (s .args .e) (removedIn (s .args .t .now) (s .args .v .0) (s .args .e)) (held-removed (s .args .t .now) (s .args .spans .now) (c .before .before .before .before .before .before .before .before .before .before .before .before .before .before .before .before .before .before .before .before .before .tables-known .ensures) (s .pre .0) (s .args .v .0) (s .args .e)) (s .args .d) (put .put-removal .result) (getD (c .before .before .before .before .before .before .before .before .before .before .before .before .before .before .before .before .before .before .before .counts-in .result) 3 0)
+          (put .put-removal .last .1 .1 .1 .1 .0) (put .put-removal .last .1 .1 .1 .1 .1 .0) _ _ _ _
+          (put .put-removal .ensures .1 .1 .0) (few put) (count (c .before .before .before .before .before .before .before .before .before .before .before .before .before .before .before .before .before .before .before) 3) (put .put-removal .ensures .0) (put .put-removal .ensures .1 .0)
+          (c .before .before .before .before .before .before .before .before .before .before .append-edge .ensures .1) (c .before .before .before .before .before .before .store-uses .ensures spans) (c .before .before .store-wires .ensures spans) (c .store-count .ensures spans),
+    )
 
 pub write-removal-spec : {M : Type 1} → statement M
-write-removal-spec = tie.close (tie.spec (search needs) (search needs) (search needs) (search needs) (search needs) (search needs)
-    (search needs) (search needs) (search needs) put-tables-requires (search needs) (search needs) returns)
+write-removal-spec =
+    tie.close
+    (tie.spec
+    (search needs)
+    (search needs)
+    (search needs)
+    (search needs)
+    (search needs)
+    put-removal-requires
+    append-edge-requires
+    (search needs)
+    (search needs)
+    part-store-uses-end
+    store-uses-requires
+    (search needs)
+    (search needs)
+    part-store-wires-end
+    store-wires-requires
+    cast-store-count
+    (search needs)
+    returns)

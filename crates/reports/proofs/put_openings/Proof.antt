@@ -1,56 +1,116 @@
 -- The tally gives the condition and which uses are free; the walk along these is that of the shell.
 use borrow.Author.Needs.{needs}
 use native.Mathlib.Omega.{arith}
-use lib.ListN.{length, length-replicate}
-use Prim.Native.Nat.{ℕ}
-use mathlib.Core.Path.{_∙_, ap, refl, sym}
-use Rattle.columns.specs.declared.Columns.{Columns}
-use Rattle.reports.proofs.Columned.{edges-inside, in-places, places-inside}
+use Prim.Native.Nat.{_<_, _+_, _-_}
+use lib.ListN.{length, getD}
+use mathlib.Core.Path.{_≡_, _∙_, refl, sym}
+use denote.Ref.{now}
+use Rattle.columns.specs.Columns.{Columns, columnsIn}
+use Rattle.columns.specs.Sound.{OfTables, Sound}
+use Rattle.store.specs.Store.{countTable, held, wireTable}
+use Rattle.reports.proofs.Columned.{edges-inside, in-hand, inHand, in-places, shell-inside}
 use Rattle.reports.proofs.Openings.{edges-few, k-closed, k-extractable, k-openings, k-tally, k-walk}
-use Rattle.reports.specs.Figures.{lent}
 use Rattle.reports.proofs.put_openings.Statement.{statement}
 use Rattle.reports.proofs.put_openings.Tie as tie
+use Rattle.pattern.specs.Contents.{Pattern}
+
+abbrev begun : tie.After-listings-in → tie.Start
+begun c = c .before .before .before .before .before .before .before .before .before .before .before
+
+-- the columns as the function has them
+abbrev K : tie.After-listings-in → Columns
+K c =
+    let start = begun c in
+    inHand (c .before .before .before .before .counts-in .result) (now (c .before .before .before .uses-in .result)) (start .args .turned .now) (start .args .starts .now) (wireTable (start .args .t .now)) (start .args .firsts .now) (now (c .before .before .fronts-in .result)) (now (c .before .backs-in .result)) (start .args .places .now) (now (c .listings-in .result))
+
+-- they are those of the pattern
+columns : (c : tie.After-listings-in) → OfTables (begun c .args .t .now) (λ p. Sound p × (K c ≡ columnsIn p))
+columns c = in-hand (begun c .pre .0 .0) (c .before .before .before .before .counts-in .ensures) (c .before .before .before .uses-in .ensures) refl (c .before .before .fronts-in .ensures) (c .before .backs-in .ensures) (c .listings-in .ensures)
+
+abbrev pattern : tie.After-listings-in → Pattern
+pattern c = held (begun c .args .t .now) (begun c .pre .0 .0 .faultless .spans)
+
+own : (c : tie.After-listings-in) → Sound (pattern c) × (K c ≡ columnsIn (pattern c))
+own c = let f = begun c .pre .0 .0 .faultless in columns c (f .spans) (f .ok)
+
+here : (c : tie.After-listings-in) → begun c .args .n < getD (countTable (begun c .args .t .now)) 5 0
+here c = begun c .pre .0 .1
+
+inside : (c : tie.After-listings-in) → (begun c .args .n < 16) × (begun c .args .n + 1 < length (begun c .args .places .now))
+inside c = shell-inside (begun c .pre .0 .0) (here c)
+
+mul-first : tie.Need-mul-first
+mul-first c = omega (arith, inside c)
 
 shared-slice-read-first : tie.Need-shared-slice-read-first
-shared-slice-read-first c = let start = c .before .before .before .before .before .before .before .before .before .before .before .before in
-    let k : Columns = lent (start .args .points) (start .args .edges) (start .args .uses .now) (start .args .turned .now) (start .args .starts .now) (start .args .wires .now) (start .args .firsts .now) (start .args .fronts .now) (start .args .backs .now) (start .args .places .now) (start .args .listings .now) in omega (arith, places-inside k (start .args .n) (start .pre .0 .pattern) (start .pre .0 .sound) (start .pre .0 .columns) (start .pre .0 .here))
+shared-slice-read-first c = omega (arith, inside (c .before))
+
+add-end : tie.Need-add-end
+add-end c = omega (arith, inside (c .before))
+
+mul-end : tie.Need-mul-end
+mul-end c = omega (arith, inside (c .before))
 
 shared-slice-read-end : tie.Need-shared-slice-read-end
-shared-slice-read-end c = let start = c .before .before .before .before .before .before .before .before .before .before .before .before .before in
-    let k : Columns = lent (start .args .points) (start .args .edges) (start .args .uses .now) (start .args .turned .now) (start .args .starts .now) (start .args .wires .now) (start .args .firsts .now) (start .args .fronts .now) (start .args .backs .now) (start .args .places .now) (start .args .listings .now) in omega (arith, places-inside k (start .args .n) (start .pre .0 .pattern) (start .pre .0 .sound) (start .pre .0 .columns) (start .pre .0 .here))
+shared-slice-read-end c = omega (arith, inside (c .before .before))
 
 tally-between-requires : tie.Need-tally-between-requires
-tally-between-requires c κs = let start = c .before .before .before .before .before .before .before .before .before .before .before .before .before in
-    let k : Columns = lent (start .args .points) (start .args .edges) _ _ _ (start .args .wires .now) (start .args .firsts .now) (start .args .fronts .now) (start .args .backs .now) (start .args .places .now) (start .args .listings .now) in let i = in-places k (start .args .n) (start .pre .0 .pattern) (start .pre .0 .sound) (start .pre .0 .columns) (start .pre .0 .here) in (i .0, i .1, k-tally k (start .args .n) (start .pre .0 .pattern) (start .pre .0 .sound) (start .pre .0 .columns) (start .pre .0 .here))
+tally-between-requires c κs =
+    let a = c .before .before in
+    let k = own a in
+    let i = in-places (K a) _ _ (k .0) (k .1) (here a) in
+    (i .0, i .1, k-tally (K a) _ _ (k .0) (k .1) (here a))
 
 condition-of-requires : tie.Need-condition-of-requires
-condition-of-requires c κs =
-    let start = c .before .before .before .before .before .before .before .before .before .before .before .before .before .before in
-    let k : Columns = lent (start .args .points) _ (start .args .uses .now) (start .args .turned .now) (start .args .starts .now) (start .args .wires .now) (start .args .firsts .now) (start .args .fronts .now) (start .args .backs .now) (start .args .places .now) (start .args .listings .now) in edges-few k (start .args .n) (start .pre .0 .pattern) (start .pre .0 .sound) (start .pre .0 .columns) (start .pre .0 .here)
+condition-of-requires c κs = let k = own (c .before .before .before) in edges-few (K (c .before .before .before)) _ _ (k .0) (k .1) (here (c .before .before .before))
 
 returns : tie.Need-returns
 returns c =
-    let pre = c .before .before .before .before .before .before .before .before .before .before .before .before .before .before .before .before .before .pre in
-    let tally-between = c .before .before .before .tally-between in
-    let k : Columns = lent _ _ _ _ _ _ _ _ _ _ _ in let i = sym (c .if1 .taken) ∙ c .before .before .condition-of .ensures in (λ p t e h. k-openings k _ p t e h _ (tally-between .ensures) _ i _ _ (pre .1 .0) (pre .1 .1) _ _ _ (k-closed k _ p t e h _ (tally-between .ensures) _ i refl _ _), (omega arith, omega arith, omega arith))
+    let a = c .before .before .before .before .before .before in
+    let t = c .before .before .before .tally-between .ensures in
+    let i = sym (c .if1 .taken) ∙ c .before .before .condition-of .ensures in
+    (λ spans ok. let k = columns a spans ok in k-openings (K a) _ _ (k .0) (k .1) (here a) _ t _ i (k-closed (K a) _ _ (k .0) (k .1) (here a) _ t _ i refl _ _), (omega arith, omega arith, omega arith))
 
 odd-of-requires : tie.Need-odd-of-requires
-odd-of-requires c κs =
-    let start = c .before .before .before .before .before .before .before .before .before .before .before .before .before .before .before .before .before in
-    let k : Columns = lent (start .args .points) _ (start .args .uses .now) (start .args .turned .now) (start .args .starts .now) (start .args .wires .now) (start .args .firsts .now) (start .args .fronts .now) (start .args .backs .now) (start .args .places .now) (start .args .listings .now) in edges-few k (start .args .n) (start .pre .0 .pattern) (start .pre .0 .sound) (start .pre .0 .columns) (start .pre .0 .here)
+odd-of-requires c κs = let k = own (c .before .before .before .before .before .before) in edges-few (K (c .before .before .before .before .before .before)) _ _ (k .0) (k .1) (here (c .before .before .before .before .before .before))
 
 openings-between-requires : tie.Need-openings-between-requires
 openings-between-requires c κs =
-    let start = c .before .before .before .before .before .before .before .before .before .before .before .before .before .before .before .before .before .before .before .before .before in
-    let k : Columns = lent _ _ _ _ _ (start .args .wires .now) (start .args .firsts .now) _ _ (start .args .places .now) (start .args .listings .now) in let i = in-places k (start .args .n) (start .pre .0 .pattern) (start .pre .0 .sound) (start .pre .0 .columns) (start .pre .0 .here) in let j = edges-inside k (start .args .n) (start .pre .0 .pattern) (start .pre .0 .sound) (start .pre .0 .columns) (start .pre .0 .here) in ((i .0, i .1, j .0, j .1), (k-walk k (start .args .n) (start .pre .0 .pattern) (start .pre .0 .sound) (start .pre .0 .columns) (start .pre .0 .here), k-extractable k (start .args .n) (start .pre .0 .pattern) (start .pre .0 .sound) (start .pre .0 .columns) (start .pre .0 .here) _ (c .before .before .before .before .before .before .before .tally-between .ensures) _ _ _ (c .before .before .before .odd-of .ensures) (ap length (start .pre .1 .0) ∙ length-replicate {A = ℕ} 2048 0) (ap length (start .pre .1 .1) ∙ length-replicate {A = ℕ} 2048 0)))
+    let a = c .before .before .before .before .before .before .before .before .before .before in
+    let k = own a in
+    let i = in-places (K a) _ _ (k .0) (k .1) (here a) in
+    let j = edges-inside (K a) _ _ (k .0) (k .1) (here a) in
+    let room = begun a .pre .1 in
+    ((i .0, i .1, j .0, j .1), (k-walk (K a) _ _ (k .0) (k .1) (here a), k-extractable (K a) _ _ (k .0) (k .1) (here a) _ (c .before .before .before .before .before .before .before .tally-between .ensures) _ _ _ (c .before .before .before .odd-of .ensures) (room .0) (room .1)))
 
 returns-2 : tie.Need-returns-2
 returns-2 c =
-    let pre = c .before .before .before .before .before .before .before .before .before .before .before .before .before .before .before .before .before .before .before .before .before .before .before .before .before .before .pre in
-    let openings-between = c .before .before .before .before .openings-between in
-    let k : Columns = lent _ _ _ _ _ _ _ _ _ _ _ in (λ p t e h. k-openings k _ p t e h _ (c .before .before .before .before .before .before .before .before .before .before .before .before .tally-between .ensures) _ (c .before .before .before .before .before .before .before .before .before .before .before .condition-of .ensures) _ _ (pre .1 .0) (pre .1 .1) _ _ _ (openings-between .ensures), openings-between .ensures .few)
+    let a = c .before .before .before .before .before .before .before .before .before .before .before .before .before .before .before in
+    let w = c .before .before .before .before .openings-between .ensures in
+    (λ spans ok. let k = columns a spans ok in k-openings (K a) _ _ (k .0) (k .1) (here a) _ (c .before .before .before .before .before .before .before .before .before .before .before .before .tally-between .ensures) _ (c .before .before .before .before .before .before .before .before .before .before .before .condition-of .ensures) w, w .few)
 
 pub put-openings-spec : {M : Type 1} → statement M
-put-openings-spec = tie.close (tie.spec (search needs) shared-slice-read-first (search needs) (search needs) shared-slice-read-end
-    tally-between-requires condition-of-requires returns odd-of-requires (search needs) openings-between-requires (search needs)
-    (search needs) returns-2)
+put-openings-spec =
+    tie.close
+    (tie.spec
+    (search needs)
+    (search needs)
+    (search needs)
+    (search needs)
+    (search needs)
+    (search needs)
+    mul-first
+    shared-slice-read-first
+    add-end
+    mul-end
+    shared-slice-read-end
+    tally-between-requires
+    condition-of-requires
+    returns
+    odd-of-requires
+    (search needs)
+    (search needs)
+    openings-between-requires
+    (search needs)
+    (search needs)
+    returns-2)

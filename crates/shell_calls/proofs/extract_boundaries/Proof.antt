@@ -1,10 +1,16 @@
--- Of the figures of the openings, the first numbers are written.
-use mathlib.Core.Path.{_∙_, ap, refl}
-use lib.Seq.{sets}
+-- The openings are those that are written.
 use borrow.Author.Needs.{needs}
+use Prim.Native.Nat.{_-_}
+use mathlib.Core.Path.{_∙_, refl, sym}
+use Rattle.calls.proofs.Answers.{there-fine, there-ready}
 use Rattle.lists.specs.Lists.{flat}
 use Rattle.shell_calls.proofs.extract_boundaries.Statement.{statement}
 use Rattle.shell_calls.proofs.extract_boundaries.Tie as tie
+
+openings-at-requires : tie.Need-openings-at-requires
+openings-at-requires c κs =
+    let s = c .before .before .before .before .before in
+    (there-ready (s .args .t .now) (s .args .spans .now) _ (sym (c .before .before .before .before .find-shell .ensures) ∙ c .before .before .enum-told2 .given .1), search needs)
 
 returns : tie.Need-returns
 unfolding flat
@@ -16,12 +22,21 @@ returns-2 c = rw (← c .before .before .find-shell .ensures, c .enum-told .give
 
 returns-3 : tie.Need-returns-3
 returns-3 c =
-    let first = c .before .before .before .before .before in
-    let at = first .before .before .before .before .before in
-    let held = at .openings-at .ensures .1 in
-    rw (← at .before .before .before .find-shell .ensures, at .before .enum-told2 .given .1, at .openings-at .ensures .0)
-    (refl, (first .put-first .ensures ∙ ap (sets _ 0) (held .uses .first), c .put-first2 .ensures ∙ ap (sets _ 0) (held .lens .first)))
+    let s = c .before .before .before .before .before .before in
+    let told = c .before .before .before .before .before .find-shell .ensures in
+    let is = c .before .before .before .enum-told2 .given .1 in
+    let o = c .openings-at .ensures (s .args .spans .now) (there-fine _ _ (sym told ∙ is)) in
+    rw (← told, is) (rw (o .counts), (o .uses, o .lengths))
 
 pub extract-boundaries-spec : {M : Type 1} → statement M
-extract-boundaries-spec = tie.close (tie.spec (search needs) (search needs) (search needs) (search needs) (λ c κs. cc) (search needs)
-    (search needs) returns returns-2 returns-3)
+extract-boundaries-spec =
+    tie.close
+    (tie.spec
+    (search needs)
+    (search needs)
+    (search needs)
+    (search needs)
+    openings-at-requires
+    returns
+    returns-2
+    returns-3)

@@ -1,23 +1,51 @@
 -- The listings, from their places; the rest from the figures.
 use borrow.Author.Needs.{needs}
-use Rattle.reports.proofs.Columned.{in-places}
+use native.Mathlib.Omega.{arith}
+use Prim.Native.Nat.{_-_}
+use Rattle.reports.proofs.Columned.{listings-count, shell-inside, shell-listed}
 use Rattle.solid_calls.proofs.Solids.{errors-found}
 use Rattle.solid_calls.proofs.shell_check.Statement.{statement}
 use Rattle.solid_calls.proofs.shell_check.Tie as tie
 
-sub-listings : tie.Need-sub-listings
-sub-listings c =
-    let s = c .before .before in
-    let w = s .pre in
-    in-places (s .args .t1) (s .args .n) (w .pattern) (w .sound) (w .columns) (w .here) .0
+mul-first : tie.Need-mul-first
+mul-first c = let pre = c .before .before .before .before .pre in omega (arith, shell-inside (pre .0) (pre .1))
+
+shared-slice-read-first : tie.Need-shared-slice-read-first
+shared-slice-read-first c = let pre = c .before .before .before .before .before .pre in omega (arith, shell-inside (pre .0) (pre .1))
+
+add-end : tie.Need-add-end
+add-end c = let pre = c .before .before .before .before .before .pre in omega (arith, shell-inside (pre .0) (pre .1))
+
+mul-end : tie.Need-mul-end
+mul-end c = let pre = c .before .before .before .before .before .pre in omega (arith, shell-inside (pre .0) (pre .1))
+
+shared-slice-read-end : tie.Need-shared-slice-read-end
+shared-slice-read-end c = let pre = c .before .before .before .before .before .before .pre in omega (arith, shell-inside (pre .0) (pre .1))
+
+sub-check-shell : tie.Need-sub-check-shell
+sub-check-shell c = let pre = c .before .before .before .before .before .before .before .before .before .before .before .before .before .before .before .before .before .before .pre in shell-listed (pre .0) (pre .1)
 
 returns : tie.Need-returns
-returns c p s e h =
-    let a = c .before .before .before .before .before .args in
-    let o = c .before .before .shell-openings in
-    let g = c .before .shell-groups in
-    errors-found (a .t1) (a .n) p s e h (o .result) (g .result) _ (o .ensures .0 p s e h) (g .ensures p s e h) (c .check-shell .ensures)
+returns c spans ok =
+    let pre = c .before .before .before .before .before .before .before .before .before .before .before .before .before .before .before .before .before .before .before .pre in
+    errors-found _ _ _ (listings-count (pre .0) (pre .1) spans ok) (c .before .before .before .before .before .before .before .before .before .before .put-openings .ensures .0 spans ok .counts) (c .before .before .before .before .put-groups .ensures spans ok .counts) (c .check-shell .ensures)
 
 pub shell-check-spec : {M : Type 1} → statement M
-shell-check-spec = tie.close (tie.spec (search needs) (search needs) (search needs) (search needs) (search needs) sub-listings
-    (λ c κs. search needs) (λ c κs. search needs) (search needs) returns)
+shell-check-spec =
+    tie.close
+    (tie.spec
+    mul-first
+    shared-slice-read-first
+    add-end
+    mul-end
+    shared-slice-read-end
+    (search needs)
+    (search needs)
+    (λ c κs. search needs)
+    (search needs)
+    (search needs)
+    (search needs)
+    (λ c κs. search needs)
+    sub-check-shell
+    (search needs)
+    returns)

@@ -1,0 +1,89 @@
+-- The tables are those of a pattern without fault, so that each column can be made.
+use borrow.Author.Needs.{needs}
+use native.Mathlib.Omega.{arith}
+use Prim.Native.Nat.{_-_}
+use Rattle.columns.proofs.Made.{firsts-ready, made, places-ready, starts-ready, turned-ready}
+use Rattle.store.proofs.Parts.{part-long}
+use Rattle.columns.proofs.put_columns.Statement.{statement}
+use Rattle.columns.proofs.put_columns.Tie as tie
+
+short-known-requires : tie.Need-short-known-requires
+short-known-requires c κs = rw (c .before .before .before .uses-in .ensures) (omega (arith, part-long (c .before .before .before .before .before .before .before .before .before .before .args .t .now) 2056 4096 (omega (arith, c .before .before .before .before .before .tables-known .ensures))))
+
+short-known-requires-2 : tie.Need-short-known-requires-2
+short-known-requires-2 c κs = rw (c .listings-in .ensures) (omega (arith, part-long (c .before .before .before .before .before .before .before .before .before .before .before .before .args .t .now) 7704 512 (omega (arith, c .before .before .before .before .before .before .before .tables-known .ensures))))
+
+put-turned-requires : tie.Need-put-turned-requires
+put-turned-requires c κs =
+    let got = c .before .before .before .before in
+    let start = got .before .before .before .before .before .before .before .before .before .before in
+    let r = turned-ready (start .args .t .now) (got .before .before .before .before .before .tables-known .ensures) (start .pre .0) in
+    rw (got .before .before .before .before .counts-in .ensures, got .before .before .before .uses-in .ensures, got .before .before .wires-in .ensures) (r .0, (r .1, start .pre .1 .0))
+
+put-starts-requires : tie.Need-put-starts-requires
+put-starts-requires c κs =
+    let got = c .before .before .before .before .before .before .before .before in
+    let start = got .before .before .before .before .before .before .before .before .before .before in
+    let r = starts-ready (start .args .t .now) (got .before .before .before .before .before .tables-known .ensures) (start .pre .0) in
+    rw (got .before .before .before .before .counts-in .ensures, got .before .before .wires-in .ensures, got .before .faces-in .ensures) (r .0, (r .1, start .pre .1 .1))
+
+put-firsts-requires : tie.Need-put-firsts-requires
+put-firsts-requires c κs =
+    let got = c .before .before .before .before .before .before .before .before .before .before .before .before in
+    let start = got .before .before .before .before .before .before .before .before .before .before in
+    let r = firsts-ready (start .args .t .now) (got .before .before .before .before .before .tables-known .ensures) (start .pre .0) in
+    rw (got .before .before .before .before .counts-in .ensures, got .before .faces-in .ensures) (r .0, r .1, start .pre .1 .2)
+
+put-firsts-requires-2 : tie.Need-put-firsts-requires-2
+put-firsts-requires-2 c κs =
+    let got = c .before .before .before .before .before .before .before .before .before .before .before .before .before .before .before .before in
+    let start = got .before .before .before .before .before .before .before .before .before .before in
+    let r = places-ready (start .args .t .now) (got .before .before .before .before .before .tables-known .ensures) (start .pre .0) in
+    rw (got .before .before .before .before .counts-in .ensures, got .shells-in .ensures) (r .0, r .1, start .pre .1 .3)
+
+returns : tie.Need-returns
+returns c =
+    let starts = c .before .before .before .before .before .before .before .before .before .before in
+    let short = starts .before .before .before .before .before .before in
+    let got = short .before .before .before in
+    let start = got .before .before .before .before .before .before .before .before .before .before in
+    let counts = got .before .before .before .before .counts-in .ensures in
+    let uses = got .before .before .before .uses-in .ensures in
+    let wires = got .before .before .wires-in .ensures in
+    let faces = got .before .faces-in .ensures in
+    made (start .args .t .now) (got .before .before .before .before .before .tables-known .ensures) (start .pre .0) _ _ _ _
+    (rw uses at (short .before .before .short-known .ensures))
+    (rw (short .before .listings-in .ensures) at (short .short-known2 .ensures))
+    (rw (counts, uses, wires) at (starts .before .before .before .before .put-turned .ensures))
+    (rw (counts, wires, faces) at (starts .put-starts .ensures))
+    (rw (counts, faces) at (c .before .before .before .before .before .before .put-firsts .ensures))
+    (rw (counts, got .shells-in .ensures) at (c .before .before .put-firsts2 .ensures))
+
+pub put-columns-spec : {M : Type 1} → statement M
+put-columns-spec =
+    tie.close
+    (tie.spec
+    (search needs)
+    (search needs)
+    (search needs)
+    (search needs)
+    (search needs)
+    (search needs)
+    short-known-requires
+    (search needs)
+    short-known-requires-2
+    (search needs)
+    (search needs)
+    put-turned-requires
+    (search needs)
+    (search needs)
+    put-starts-requires
+    (search needs)
+    put-firsts-requires
+    (search needs)
+    put-firsts-requires-2
+    (search needs)
+    (search needs)
+    (search needs)
+    (search needs)
+    returns)

@@ -1,0 +1,41 @@
+-- The line that says what is wrong with a text.
+use Prim.Native.Nat.{ℕ}
+use mathlib.Core.List.{List, [], _++_}
+use lib.Dec.{eqb}
+use Rattle.errors.specs.Numbers.{number}
+use Rattle.lists.specs.Lists.{pick}
+use Rattle.output.specs.Text.{ascii, field}
+use Rattle.draft_text.specs.declared.Fault.{Fault}
+use Rattle.draft_text.specs.declared.Fault.the-variants.{Refused, Word}
+use Rattle.draft_text.specs.declared.Made.{Made}
+use Rattle.draft_text.specs.declared.Made.the-variants.{At, Length, TooLong}
+
+unfoldable pub lineForm : ℕ → List ℕ
+lineForm k =
+    pick (eqb k 1) (ascii "point NUMBER label LABEL\n")
+    (pick (eqb k 2) (ascii "edge NUMBER from POINT to POINT span T0 T1\n")
+    (pick (eqb k 3) (ascii "face NUMBER surface SURFACE wire USE .. wire USE ..\n")
+    (ascii "shell NUMBER faces LISTING ..\n")))
+
+-- document 01's meaning of a refusal of the reading checks
+unfoldable pub meaning : ℕ → List ℕ
+meaning n =
+    pick (eqb n 2) (ascii ": more records than the limit\n")
+    (pick (eqb n 3) (ascii ": a number that names nothing\n")
+    (pick (eqb n 4) (ascii ": bad span\n")
+    (pick (eqb n 5) (ascii ": an edge from a point to itself\n")
+    (pick (eqb n 6) (ascii ": a wire without uses\n")
+    (pick (eqb n 7) (ascii ": a wire that is not closed\n")
+    (pick (eqb n 8) (ascii ": a wire that meets a point twice, or meets an earlier wire of its face\n")
+    (ascii ": file layout\n")))))))
+
+abbrev pub faultText : Fault → List ℕ
+faultText (Word k w) =
+    pick (eqb k 0) (ascii ": begin with point, edge, face, shell or #\n") (field ": word " w ++ ascii " of " ++ lineForm k)
+faultText (Refused f) = field ": refused " (number f) ++ meaning (number f)
+
+-- nothing where there is no fault
+unfoldable pub madeText : Made → List ℕ
+madeText (Length n) = []
+madeText (At n f) = field "line " n ++ faultText f
+madeText TooLong = ascii "over 262144 bytes\n"

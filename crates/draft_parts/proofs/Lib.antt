@@ -1,0 +1,4 @@
+pub mod Wires
+pub mod Counts
+pub mod Added
+pub mod Filling

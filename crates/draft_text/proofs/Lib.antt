@@ -1,0 +1,4 @@
+pub mod Lines
+pub mod Adding
+pub mod Turns
+pub mod Making

@@ -1,3 +1,0 @@
-pub mod Spliced
-pub mod Splice
-pub mod Counted

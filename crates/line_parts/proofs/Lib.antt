@@ -1,4 +1,0 @@
-pub mod Wires
-pub mod Counts
-pub mod Columns
-pub mod Holding

@@ -1,2 +1,0 @@
-// Reading and writing undo each other: theorems over what the contracts of `reader::read` and
-// `writer::write` cite; no code.

@@ -1,0 +1,2 @@
+// Reading and writing undo each other: theorems over what the contracts of `store_read::read` and
+// `store_write::write` cite; no code.

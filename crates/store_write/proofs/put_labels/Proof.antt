@@ -1,0 +1,41 @@
+-- After k turns the first k records are written.
+use Prim.Native.Nat.{_-_}
+use mathlib.Core.Path.{refl}
+use native.Mathlib.Omega.{arith}
+use borrow.Author.Needs.{needs}
+use Rattle.words.specs.Words.{bytes32}
+use Rattle.lists.proofs.Flat.{getD-tabulate}
+use Rattle.lists.proofs.Laws.{length-tabulate}
+use Rattle.lists.proofs.Sets.{Laid, laid-all, laid-long, laid-next, laid-room, laid-start}
+use Rattle.lists.specs.Lists.{tabulate}
+use Rattle.store.specs.Store.{labelIn}
+use Rattle.store_write.proofs.put_labels.Statement.{statement}
+use Rattle.store_write.proofs.put_labels.Tie as tie
+
+abbrev Inv-loop : tie.InvT-loop
+Inv-loop out₀ at t n k₀ out k = Laid bytes32 4 out₀ at (tabulate 2048 (labelIn t)) n out k
+
+abbrev μ-loop : tie.MeasureT-loop
+μ-loop out₀ at t n k₀ out k = n - k
+
+loop-holds : tie.Need-loop-holds Inv-loop μ-loop
+loop-holds c = laid-start bytes32 4 _ _ _ _ (λ x. refl) (omega (arith, length-tabulate 2048 (labelIn (c .before .args .t .now))))
+
+put-u32-requires : tie.Need-put-u32-requires Inv-loop μ-loop
+put-u32-requires c κs = laid-room bytes32 4 _ _ _ _ _ _ (c .before .before .before .loop .inv) (c .before .before .before .before .before .pre .0) (c .before .before .loop-test .taken)
+
+loop-again : tie.Need-loop-again Inv-loop μ-loop
+loop-again c =
+    let loop = c .before .before .before .before .before .before .loop in
+    laid-next bytes32 4 _ _ _ _ _ _ (loop .inv) _ 0 (c .before .before .before .before .before .loop-test .taken)
+    (rw (getD-tabulate 2048 (labelIn (c .before .before .before .before .before .before .before .before .args .t .now)) (loop .k) 0 (omega arith)) (rw (c .before .before .before .label-in .ensures) at (c .before .before .put-u32 .ensures)))
+
+same-length : tie.Need-same-length Inv-loop μ-loop
+same-length c = laid-long bytes32 4 _ _ _ _ _ _ (c .before .loop .inv)
+
+returns : tie.Need-returns Inv-loop μ-loop
+returns c = laid-all bytes32 4 _ _ _ _ _ _ (c .before .loop .inv) (c .loop-test .left)
+
+pub put-labels-spec : {M : Type 1} → statement M
+put-labels-spec = tie.close (tie.spec Inv-loop μ-loop loop-holds (search needs) (search needs) (search needs) put-u32-requires (search needs)
+    (search needs) loop-again same-length returns)

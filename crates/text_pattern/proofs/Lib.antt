@@ -1,5 +1,0 @@
-pub mod Bodies
-pub mod Lines
-pub mod Adding
-pub mod Turns
-pub mod Making

@@ -1,2 +1,0 @@
-pub mod PartsFile
-pub mod TextPattern
