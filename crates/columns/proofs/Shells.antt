@@ -63,9 +63,6 @@ module _ (p : Pattern) (s : Sound p) where
   pub firsts-long : length (columnsIn p .firsts) ≡ 257
   firsts-long = long (getD (p .counts) 4 0) (firstWire p) (s .limits .faces)
 
-  pub places-long : length (columnsIn p .places) ≡ 257
-  places-long = long (getD (p .counts) 5 0) (firstListing p) (omega (arith, s .limits .shells))
-
   pub turned-full : length (columnsIn p .turned) ≡ 4096
   turned-full =
       padded-long 4096 (turnedUses (content p .wires) (content p .uses))

@@ -200,7 +200,7 @@ fn line_count(line: &[u8], b: usize, values: &mut [u64]) -> usize
     let m = match_line(k, line, end, values);
     let n = m.words;
     let counts = counts_after(k, &values[0..n], [0; BODIES]);
-    if b < 7 { counts[b] } else { 0 }
+    if b < BODIES { counts[b] } else { 0 }
 }
 
 // The number of the line with record r of body b.

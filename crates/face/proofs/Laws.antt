@@ -17,7 +17,6 @@ use Rattle.errors.specs.declared.WireCheck.the-variants.{Refused as WireRefused
 use Rattle.errors.specs.declared.WireError.{WireError}
 use Rattle.errors.specs.declared.WireError.the-variants.{NotSimpleWire}
 use Rattle.face.specs.Faces.{faceFaults, faceRule, outlineFaults, sharedFaults}
-use Rattle.face.specs.declared.Face.{Face}
 use Rattle.lists.proofs.Laws.{length-split, sum-append, sum-take-drop}
 use Rattle.lists.proofs.Marks.{AllBelow, Holds, disjoint-nil, holds-fresh, holds-stamped, met-seen}
 use Rattle.lists.proofs.Split.{Walk, getD-split, split-run, walk-fits, walk-part}
@@ -26,10 +25,6 @@ use Rattle.lists.specs.Marks.{Below, met, stamped}
 use Rattle.wire.proofs.Laws.{faultless-noDup, named-part, points-below}
 use Rattle.wire.specs.Wires.{Named, points, wireFaults}
 use Rattle.errors.specs.Sequence.{firstOfWire}
-
--- what the language's reads give past the end of a list of faces
-abbrev pub noFace : Face
-noFace = record { wires = 0; surface = 0 }
 
 -- the answer for wire number w, as an answer of the checks
 pub wire-passes : (w : ℕ) (es : List WireError) → firstOfWire es ≡ Simple → first (map (Wire w) es) ≡ Accepted

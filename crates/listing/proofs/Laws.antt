@@ -22,12 +22,12 @@ use Rattle.lists.proofs.Marks.{AllBelow}
 use Rattle.lists.proofs.Split.{drop-split, getD-split, take-split}
 use Rattle.lists.specs.Lists.{flat, padded, pick, split, sum, tabulate}
 use Rattle.pattern.proofs.Passed.{records-passed}
-use Rattle.pattern.proofs.Named.{point-named, use-named, wires-summed}
-use Rattle.pattern.specs.Checks.{nameFaults, outlines, recordFaults}
+use Rattle.pattern.proofs.Named.{point-named, use-named}
+use Rattle.pattern.specs.Checks.{nameFaults, recordFaults}
 use Rattle.pattern.specs.Contents.{Content}
 use Rattle.shell.proofs.Level.{IsUse}
 use Rattle.shell.proofs.Turned.{turned-edge, turned-front, turned-low}
-use Rattle.shell.specs.Shells.{faceNumber, listingsOf, shellUses, shellWires, shownWires}
+use Rattle.shell.specs.Shells.{faceNumber, listingsOf, shownWires}
 
 -- a wire as it is, or in reverse order with every use turned
 abbrev pub shownAs : Bool → List ℕ → List ℕ
@@ -138,9 +138,6 @@ module _ (counts wires uses : List ℕ) (e : sum wires ≡ length uses) where
       rw (m, getD-split counts (split wires uses) f, ← column-is wires uses e b)
       (shown-run (shownAs b) (shown-keeps b) wires uses w n (omega arith))
 
-  pub face-uses : (f : ℕ) → flat (getD (split counts (split wires uses)) f []) ≡ facePart counts wires f uses
-  face-uses f = rw (map-id (getD (split counts (split wires uses)) f [])) at (face-part false f)
-
   pub listing-part : (l : ℕ) → flat (shownWires (split counts (split wires uses)) l) ≡ facePart counts wires (faceNumber l) (column wires uses (leb 32768 l))
   listing-part l = face-part (leb 32768 l) (faceNumber l)
 
@@ -162,11 +159,6 @@ Placed c u =
     × (backOf (map frontNumber (c .edges)) (map backNumber (c .edges)) u < length (c .points))
 
 module _ (c : Content) (ok : recordFaults c ≡ []) where
-  pub shell-parts : (n : ℕ) → shellUses c n ≡ flat (map (listingPart c) (listingsOf c n))
-  unfolding shellWires
-  shell-parts n =
-      flat-flat (shownWires (outlines c)) (listingPart c) (listing-part (map wireCount (c .faces)) (c .wires) (c .uses) (wires-summed c ok)) (listingsOf c n)
-
   pub shells-summed : sum (c .shells) ≡ length (c .listings)
   shells-summed =
       eqb-true (sum (c .shells)) (length (c .listings))

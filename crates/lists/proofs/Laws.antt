@@ -7,8 +7,8 @@ use mathlib.Core.Path.{_∙_, _≡_, ap, refl, sym}
 use native.Mathlib.Numerals.{add-one}
 use native.Mathlib.Omega.{arith}
 use lib.Dec.{eqb}
-use lib.ListN.{drop, getD, length, length-append, length-drop, length-set, replicate, set, take}
-use lib.Seq.{drop-cons, set-at, take-all, take-suc-set}
+use lib.ListN.{drop, getD, length, length-append, length-drop, replicate, set, take}
+use lib.Seq.{drop-cons, set-at}
 use borrow.Author.Tests.{eq-eqb, eqb-false, eqb-true, ne-eqb}
 use Rattle.lists.specs.Lists.{flat, has, padded, split, sum, tabulate}
 
@@ -77,9 +77,6 @@ module _ {ℓ} {A : Type ℓ} where
   unfolding tabulate
   filling-start f out = record { low = omega arith; is = refl }
 
-  pub filling-over : (f : ℕ → A) (m : ℕ) (d z : A) → z ≡ d → Filling f (replicate m d) (replicate m z) 0
-  filling-over f m d z e = rw e (filling-start f (replicate m d))
-
   pub filling-long : (f : ℕ → A) (out₀ out : List A) (i : ℕ) → Filling f out₀ out i → length out ≡ length out₀
   filling-long f out₀ out i s =
       ap length (s .is) ∙ omega (arith, s .low, length-append (tabulate i f) (drop i out₀), length-tabulate i f, length-drop i out₀)
@@ -122,31 +119,6 @@ module _ {ℓ ℓ′} {A : Type ℓ} {B : Type ℓ′} where
   tabulate-map g d zero xs h = refl
   tabulate-map g d (suc i) [] h = absurd (omega arith)
   tabulate-map g d (suc i) (x ∷ xs) h = ap (λ (r : List B). g x ∷ r) (tabulate-map g d i xs (omega arith))
-
-  -- a loop that writes g of each element of a list of records: what it holds after i turns
-  pub record Column (g : A → B) (d : A) (xs : List A) (out : List B) (i : ℕ) : Type (ℓ ⊔ ℓ′) where
-    pub low : i ≤ length xs
-    pub long : length out ≡ length xs
-    pub so-far : take i out ≡ tabulate i (λ (k : ℕ). g (getD xs k d))
-
-  pub column-start : (g : A → B) (d : A) (xs : List A) (out : List B) → length out ≡ length xs → Column g d xs out 0
-  unfolding tabulate
-  column-start g d xs out l = record { low = omega arith; long = l; so-far = refl }
-
-  pub column-next : (g : A → B) (d : A) (xs : List A) (out : List B) (i : ℕ) → Column g d xs out i → i < length xs
-      → Column g d xs (set out i (g (getD xs i d))) (i + 1)
-  column-next g d xs out i s h = record {
-    low = omega arith;
-    long = length-set out i (g (getD xs i d)) ∙ s .long;
-    so-far = rw (add-one, take-suc-set out i (g (getD xs i d)) (omega (arith, s .long)), s .so-far, tabulate-suc i (λ (k : ℕ). g (getD xs k d)));
-  }
-
-  pub column-all : (g : A → B) (d : A) (xs : List A) (out : List B) (i : ℕ) → Column g d xs out i → length xs ≤ i → out ≡ map g xs
-  column-all g d xs out i s h =
-      let e : i ≡ length xs = omega (arith, s .low) in
-      sym (take-all (length xs) out (omega (arith, s .long)))
-      ∙ rw e at (s .so-far)
-      ∙ sym (map-tabulate g (length xs) (λ (k : ℕ). getD xs k d)) ∙ ap (map g) (tabulate-getD xs d)
 
 -- one more number in a sum
 pub sum-next : (ns : List ℕ) (i : ℕ) → sum (take (suc i) ns) ≡ sum (take i ns) + getD ns i 0

@@ -105,11 +105,6 @@ pub met-seen : (n s : ℕ) (ps marks seen : List ℕ) → Holds n s marks seen �
     → met s ps marks ≡ not (disjoint ps seen)
 met-seen n s ps marks seen h a d = met-says n s ps marks seen h a ∙ rw (d, and-true (disjoint ps seen))
 
-pub length-stamped : (s : ℕ) (ps marks : List ℕ) → length (stamped s ps marks) ≡ length marks
-unfolding stamped
-length-stamped s [] marks = refl
-length-stamped s (p ∷ ps) marks = length-stamped s ps (set marks p s) ∙ length-set marks p s
-
 pub below-later : (s t : ℕ) (marks : List ℕ) → Below s marks → s ≤ t → Below t marks
 below-later s t marks b l p = omega (arith, b p)
 

@@ -5,7 +5,7 @@ use mathlib.Core.List.{List, [], _++_}
 use mathlib.Core.Path.{_∙_, _≡_, ap, refl, sym}
 use native.Mathlib.Omega.{arith}
 use lib.Dec.{eqb, leb}
-use lib.ListN.{getD, length, length-append, length-replicate, replicate}
+use lib.ListN.{getD, length}
 use borrow.Author.Tests.{eq-eqb, eqb-true, le-leb, leb-true, lt-leb, ne-eqb}
 use Rattle.errors.proofs.Laws.{Passed, accepted-none, none-left, none-right, passed-all, passed-next, passed-stop, refused-first, unless-passes}
 use Rattle.errors.specs.Faults.{each, first}
@@ -14,10 +14,10 @@ use Rattle.errors.specs.declared.Refusal.the-variants.{Layout}
 use Rattle.errors.specs.declared.Refusal.{Refusal}
 use Rattle.lists.proofs.Flat.{getD-tabulate}
 use Rattle.lists.proofs.Laws.{left-true, length-tabulate}
-use Rattle.lists.specs.Lists.{padded, tabulate, unless}
-use Rattle.pattern.proofs.Counts.{Full, Limited, count-kept, limited}
+use Rattle.lists.specs.Lists.{tabulate, unless}
+use Rattle.pattern.proofs.Counts.{Limited, count-kept, limited}
 use Rattle.pattern.specs.Checks.{countFaults}
-use Rattle.pattern.specs.Contents.{Pattern, countsOf, layout, stored, zeroEdge, zeroFace}
+use Rattle.pattern.specs.Contents.{Pattern, countsOf, layout, stored}
 use Rattle.pattern_file.proofs.Places.{offsetFault, start-le, start-next}
 use Rattle.pattern_file.specs.File.{countAt, fileContent, fileCounts, lengthFaults, offsetAt, offsetFaults, records, startOf, tableFaults}
 
@@ -121,18 +121,3 @@ module _ (s : List ℕ) where
 
     pub limits : Limited (P .counts)
     limits = limited (P .counts) refl counts-right-here
-
-    -- a table of so many records, with the rest of it
-    long {ℓ} : {A : Type ℓ} (m n : ℕ) (f : ℕ → A) (z : A) → length (tabulate n f) ≤ m → length (padded m z (tabulate n f)) ≡ m
-    long m n f z h = omega (arith, length-append (tabulate n f) (replicate (m - length (tabulate n f)) z), length-replicate (m - length (tabulate n f)) z)
-
-    pub full : Full P
-    full = record {
-      points = long 2048 (countAt s 0) _ 0 (limits .points);
-      edges = long 1024 (countAt s 1) _ zeroEdge (limits .edges);
-      uses = long 4096 (countAt s 2) _ 0 (limits .uses);
-      wires = long 1024 (countAt s 3) _ 0 (limits .wires);
-      faces = long 256 (countAt s 4) _ zeroFace (limits .faces);
-      shells = long 16 (countAt s 5) _ 0 (limits .shells);
-      listings = long 512 (countAt s 6) _ 0 (limits .listings);
-    }

@@ -78,9 +78,6 @@ module _ (p : Pattern) (s : Sound p) where
     pub use-edge : (k : ℕ) → k < length us → edgeNumber (getD us k 0) < length (content p .edges)
     use-edge k l = all-place (Placed (content p)) 0 us h k l .0 .1
 
-    pub use-small : (k : ℕ) → k < length us → getD us k 0 < 65536
-    use-small k l = all-place (Placed (content p)) 0 us h k l .0 .0
-
     pub use-front : (k : ℕ) → k < length us → frontOf fs bs (getD us k 0) < length (content p .points)
     use-front k l = all-place (Placed (content p)) 0 us h k l .1
 

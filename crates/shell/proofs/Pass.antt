@@ -7,7 +7,7 @@ use native.Mathlib.Omega.{arith}
 use lib.ListN.{getD, length, length-replicate, length-set, replicate, set}
 use Rattle.shell.proofs.Held.{chain-less, chain-takes, get-same, held, held-le, held-long}
 use Rattle.shell.specs.OnePass.{beginAt, pass}
-use Rattle.shell.specs.Openings.{Found, Kept, Walk, begin, chain, firstStart, freeUses, keep, walk, walkOf}
+use Rattle.shell.specs.Openings.{Found, Kept, Walk, begin, chain, firstStart, keep, walk}
 
 -- an opening before those of a walk
 abbrev also : List ℕ → Walk → Walk
@@ -68,7 +68,3 @@ module _ (front back : ℕ → ℕ) where
       → (let kept = keep front back some-uses (replicate m none) in walk front back m us kept 0 ≡ pass front back us kept 0)
   pass-of-kept m us some-uses =
       pass-is-walk m us (keep front back some-uses (replicate m none)) 0 (omega (arith, length-keep some-uses (replicate m none), length-replicate {A = Option ℕ} m none))
-
-  -- the walk of a shell
-  pub shell-pass : (m : ℕ) (us : List ℕ) → walkOf front back m us ≡ pass front back us (keep front back (freeUses us) (replicate m none)) 0
-  shell-pass m us = pass-of-kept m us (freeUses us)

@@ -52,11 +52,6 @@ module _ {A B : Type 0} (g : A → B) where
   split-map [] xs = refl
   split-map (n ∷ ns) xs = rw (← map-take g n xs, ← map-drop g n xs, split-map ns (drop n xs))
 
-  map-flat : (xss : List (List A)) → map g (flat xss) ≡ flat (map (map g) xss)
-  unfolding flat
-  map-flat [] = refl
-  map-flat (xs ∷ xss) = rw (map-append g xs (flat xss), map-flat xss)
-
 -- the uses of the wires of a face, by the numbers of its wires
 face-by-numbers : (counts : List ℕ) (ws : List (List ℕ)) (f : ℕ)
     → map (λ (w : ℕ). getD ws w []) (getD (split counts (numbers (length ws))) f []) ≡ getD (split counts ws) f []

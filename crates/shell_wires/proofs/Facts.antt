@@ -1,7 +1,7 @@
 -- What the reading checks say of a stored pattern, with what its storage's types say: for the edits of its shells.
 use Prim.Native.Nat.{_+_, _<_, ℕ}
 use mathlib.Core.List.{List, [], _++_, _∷_, map}
-use mathlib.Core.Path.{_∙_, _≡_, ap, sym}
+use mathlib.Core.Path.{_∙_, _≡_, ap}
 use native.Mathlib.Omega.{arith}
 use lib.ListN.{getD, length, length-append, length-map, set, take}
 use lib.Seq.{getD-take, sets}
@@ -12,11 +12,11 @@ use Rattle.face.specs.Faces.{wireCount}
 use Rattle.listing.proofs.Laws.{listing-named, shells-summed}
 use Rattle.lists.proofs.Laws.{map-take}
 use Rattle.lists.specs.Lists.{sum}
-use Rattle.pattern.proofs.Counts.{Full, Limited, edges-counted, faces-counted, limited, listings-counted, points-counted, shells-counted, uses-counted, wires-counted}
-use Rattle.pattern.proofs.Named.{named, point-named, tables-faces, tables-wires, use-named}
+use Rattle.pattern.proofs.Counts.{Full, Limited, edges-counted, faces-counted, limited, listings-counted, points-counted, shells-counted}
+use Rattle.pattern.proofs.Named.{named, point-named, tables-faces, tables-wires}
 use Rattle.pattern.proofs.Passed.{content-passed, pattern-passed}
 use Rattle.pattern.specs.Checks.{patternFaults, recordFaults}
-use Rattle.pattern.specs.Contents.{Pattern, content, countsOf, storedIn}
+use Rattle.pattern.specs.Contents.{Pattern, content, storedIn}
 use Rattle.shell.specs.Openings.{frontIn}
 use Rattle.shell.specs.Shells.{faceNumber}
 use Rattle.shell_edits.proofs.Storage.{seven-are, sets-after, sets-own}
@@ -84,19 +84,6 @@ module _ (p : Pattern) (s : Fine p) where
   pub records-fine : recordFaults (content p) ≡ []
   records-fine = content-passed (content p) (pattern-passed p (s .ok) .content) .records
 
-  pub counts-are : countsOf (content p) ≡ p .counts
-  counts-are =
-      rw (
-        points-counted p (s .limits) (s .full),
-        edges-counted p (s .limits) (s .full),
-        uses-counted p (s .limits) (s .full),
-        wires-counted p (s .limits) (s .full),
-        faces-counted p (s .limits) (s .full),
-        shells-counted p (s .limits) (s .full),
-        listings-counted p (s .limits) (s .full),
-      )
-      (seven-are (p .counts) (s .seven))
-
   -- the sums
   pub wires-sum : sum (take wires (p .wires)) ≡ uses
   wires-sum = tables-wires p (s .limits) (s .full) records-fine
@@ -124,10 +111,6 @@ module _ (p : Pattern) (s : Fine p) where
   pub backs-long : length backs ≡ 1024
   backs-long = length-map (p .edges) backNumber ∙ s .full .edges
 
-  pub use-edge : (k : ℕ) → k < uses → edgeNumber (getD (take uses (p .uses)) k 0) < edges
-  use-edge k h =
-      omega (arith, use-named (content p) records-fine k (omega (arith, uses-counted p (s .limits) (s .full))), edges-counted p (s .limits) (s .full))
-
   -- the ends of a use in the definitions, and as the columns in full have them
   pub front-in : (u : ℕ) → edgeNumber u < edges → frontIn (content p) u ≡ frontOf fronts backs u
   front-in u h = rw (map-take frontNumber edges (p .edges), map-take backNumber edges (p .edges)) (front-taken fronts backs edges u h)
@@ -135,15 +118,6 @@ module _ (p : Pattern) (s : Fine p) where
   pub front-point : (u : ℕ) → edgeNumber u < edges → frontOf fronts backs u < points
   front-point u h =
       omega (arith, front-in u h, point-named (content p) records-fine u (omega (arith, edges-counted p (s .limits) (s .full))), points-counted p (s .limits) (s .full))
-
-  pub uses-named-full : Named fronts backs (take uses (p .uses))
-  uses-named-full =
-      let long : length (take uses (p .uses)) ≡ uses = uses-counted p (s .limits) (s .full) in
-      record {
-        alike = backs-long ∙ sym fronts-long;
-        edge = λ k h. omega (arith, use-edge k (omega (arith, long)), fronts-long, s .limits .edges);
-        point = λ k h. omega (arith, front-point (getD (take uses (p .uses)) k 0) (use-edge k (omega (arith, long))), s .limits .points);
-      }
 
   -- bodies that do not change
   pub points-kept : sets (p .points) 0 (content p .points) ≡ p .points

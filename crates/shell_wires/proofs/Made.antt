@@ -55,9 +55,6 @@ module _ (p : Pattern) (s : Fine p) where
     stored-long : listings ≤ length (p .listings)
     stored-long = omega (arith, s .limits .listings, s .full .listings)
 
-    pub own-names : NameFaces (take (f + z - f) (drop f (p .listings)))
-    own-names = names-part (p .listings) listings f (f + z) (omega arith) part-inside stored-long stored-names
-
     pub own-are : take (f + z - f) (drop f (p .listings)) ≡ listingsOf (content p) n
     own-are =
         let e : f + z - f ≡ z = omega arith in

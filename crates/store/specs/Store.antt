@@ -54,5 +54,3 @@ held t spans = record {
   shells = shellTable t;
   listings = listingTable t;
 }
-
--- ---- a pattern with one table changed

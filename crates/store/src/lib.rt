@@ -7,7 +7,7 @@ ghost use lib.Ieee.{Float};
 ghost use lib.ListN.{length, set};
 ghost use lib.Seq.{sets};
 ghost use Rattle.store.specs.Store.{countTable, edgeIn, faceIn, held, labelIn, listingTable, shellTable, useTable, wireTable};
-ghost use Rattle.store.specs.Columns.{backTable, faceTable, frontTable, withCounts, withEdges, withFaces, withListings, withPoints, withShells, withUses, withWires};
+ghost use Rattle.store.specs.Columns.{backTable, faceTable, frontTable, withCounts, withEdges, withFaces, withPoints, withUses, withWires};
 use edge::Curve;
 use edge::Edge;
 use face::Face;
@@ -233,20 +233,4 @@ pub fn store_wires(t: &mut Tables, k: usize, from: &[u16])
     ensures { λ _. ⌜ ((spans : List Float) → held (now (t .exit)) spans ≡ withWires (held (now (t .entry)) spans) (sets (held (now (t .entry)) spans .wires) k (now (from .entry)))) ⌝ }
 {
     store_numbers(t, WIRES + k, from);
-}
-
-// Stores shells from place k on.
-pub fn store_shells(t: &mut Tables, k: usize, from: &[u16])
-    requires { ⌜ k + length (now from) ≤ 16 ⌝ }
-    ensures { λ _. ⌜ ((spans : List Float) → held (now (t .exit)) spans ≡ withShells (held (now (t .entry)) spans) (sets (held (now (t .entry)) spans .shells) k (now (from .entry)))) ⌝ }
-{
-    store_numbers(t, SHELLS + k, from);
-}
-
-// Stores listings from place k on.
-pub fn store_listings(t: &mut Tables, k: usize, from: &[u16])
-    requires { ⌜ k + length (now from) ≤ 512 ⌝ }
-    ensures { λ _. ⌜ ((spans : List Float) → held (now (t .exit)) spans ≡ withListings (held (now (t .entry)) spans) (sets (held (now (t .entry)) spans .listings) k (now (from .entry)))) ⌝ }
-{
-    store_numbers(t, LISTINGS + k, from);
 }
