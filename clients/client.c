@@ -125,7 +125,7 @@ static void edits(const uint8_t *file, size_t n)
     wuzsanget_answer a;
 
     lend();
-    EXPECT(wuzsanget_write(file, n, out, n - 1), WUZSANGET_REFUSED, 17, 0, 0, 0);
+    EXPECT(wuzsanget_write(file, n, out, n - 1), WUZSANGET_REFUSED, 17, n, 0, 0);
     expect(all_kept(), "a list that is too short");
     EXPECT(wuzsanget_write(file, n, out, sizeof out), WUZSANGET_DONE, 0, n, 0, 0);
     expect(memcmp(out, file, n) == 0 && kept(out, sizeof out, n), "the file written anew");
@@ -135,6 +135,9 @@ static void edits(const uint8_t *file, size_t n)
     EXPECT(wuzsanget_cut_edge(file, n, 0, 0, 3, WUZSANGET_NOWHERE, out, sizeof out),
            WUZSANGET_REFUSED, 16, 0, 0, 0);
     expect(all_kept(), "a refused cut");
+    EXPECT(wuzsanget_cut_edge(file, n, 0, 0, 3, HALF, out, n + 41), WUZSANGET_REFUSED, 17, n + 42, 0,
+           0);
+    expect(all_kept(), "a cut without room for its file");
     a = wuzsanget_cut_edge(file, n, 0, 0, 3, HALF, out, sizeof out);
     expect(is(a, WUZSANGET_DONE, 0, 3, 4, n + 42), "a cut");
     expect(kept(out, sizeof out, a.third), "entries past the edited file");

@@ -37,7 +37,8 @@ extern "C" {
 #define WUZSANGET_DONE 0
 /* The reading checks refuse the file: `number` with body `first` and record `second`. */
 #define WUZSANGET_UNREAD 1
-/* The call itself is refused: `number` alone, or for a solid with the shell's number `first`. */
+/* The call itself is refused: `number` alone; for a solid with the shell's number `first`, for an `out`
+ * that is too short (17) with the length `first` that the file needs. */
 #define WUZSANGET_REFUSED 2
 
 /* An answer. `number` is the refusal's in document 01, 0 if done; what the values mean is said at
@@ -61,7 +62,7 @@ wuzsanget_answer wuzsanget_read(const uint8_t *file, size_t file_length);
 wuzsanget_answer wuzsanget_outline(const uint8_t *file, size_t file_length, size_t wire);
 
 /* Reads a file and writes its pattern to `out`: the same bytes. first: their number. 17: `out` is
- * shorter than the file. */
+ * shorter than the file; first: the file's length. */
 wuzsanget_answer wuzsanget_write(const uint8_t *file, size_t file_length,
                                  uint8_t *out, size_t out_length);
 
@@ -100,8 +101,8 @@ wuzsanget_answer wuzsanget_singular_vertices(const uint8_t *file, size_t file_le
 wuzsanget_answer wuzsanget_solid(const uint8_t *file, size_t file_length);
 
 /* ---- Edits of a shell. Each writes the edited file to `out`; the file itself stays as it is. third:
- * the number of bytes written. 17: the edge table or the use list would pass its limit, or `out` is
- * shorter than the edited file. */
+ * the number of bytes written. 17: the edge table or the use list would pass its limit, with first 0;
+ * or `out` is shorter than the edited file, with first the length that this needs. */
 
 /* Cuts an edge at a point. `parameter` holds the bits of the f64 where the search put the point on
  * the curve. first, second: the new edges, the half at the edge's front first. Refused: 3, 27, 14, 15,
@@ -135,7 +136,7 @@ wuzsanget_answer wuzsanget_cut_by_wire(const uint8_t *file, size_t file_length, 
                                        uint16_t *uses, size_t uses_length,
                                        uint16_t *lengths, size_t lengths_length);
 
-/* The same for a wire of one use. */
+/* The same for a wire of one use. Refused: 3, 18, 19, 17; its results always keep the face rule. */
 wuzsanget_answer wuzsanget_cut_by_edge(const uint8_t *file, size_t file_length, uint16_t face,
                                        uint16_t edge, uint16_t *uses, size_t uses_length,
                                        uint16_t *lengths, size_t lengths_length);

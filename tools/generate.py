@@ -739,7 +739,9 @@ EDITS = [
         ("concat 0+ 0-", 25), ("concat 3- 3+", 25), "concat 0+ 1+", "concat 1- 0-",
         "concat 1+ 2+", "concat 2+ 3+", "concat 4+ 2+", "report"]),
     ("concat-26", span(span(TRIANGLE, 0, -5.0, 999999.5), 1, 0.0, 1.0), [
-        ("concat 0+ 1+", 26), ("concat 2+ 0+", 26), ("concat 1- 0-", 26), "concat 1+ 2+"]),
+        ("concat 0+ 1+", 26), ("concat 2+ 0+", 26), ("concat 1- 0-", 26),
+        ("concat 0+ 0-", 25),           # though the joined span is out of range too
+        "concat 1+ 2+"]),
     ("concat-29-before-25", draw(4, edges("01 23 20"), [], []), [
         ("concat 0+ 1+", 29), ("concat 0+ 0+", 29), ("concat 0+ 2-", 29)]),
 

@@ -174,6 +174,11 @@ fn refused(number: u32) -> Answer {
     Answer { outcome: REFUSED, number: number as usize, ..Answer::default() }
 }
 
+/// A list that is too short for a file of so many bytes.
+fn short(length: usize) -> Answer {
+    Answer { first: length, ..refused(17) }
+}
+
 /// Parts written one after the other, and their lengths.
 fn parts(numbers: Vec<u16>, lengths: Vec<u16>, answer: impl Fn([usize; 2]) -> Answer) -> Expected {
     let answer = answer([lengths.len(), numbers.len()]);
@@ -429,7 +434,7 @@ impl Comparison {
     fn written(&mut self, file: &[u8]) {
         for room in [FILE, file.len(), file.len() - 1, 0] {
             let rust = match room < file.len() {
-                true => refused(17).into(),
+                true => short(file.len()).into(),
                 false => Expected {
                     answer: done([file.len(), 0, 0]),
                     bytes: file.to_vec(),
@@ -471,7 +476,7 @@ impl Comparison {
                 let bytes = Draft::of(&after, file).file();
                 lengths[0] = room[0].of(bytes.len(), FILE);
                 if lengths[0] < bytes.len() {
-                    refused(17).into()
+                    short(bytes.len()).into()
                 } else {
                     edited = Some(bytes.clone());
                     let last = after.edges.len() - 1;

@@ -21,7 +21,7 @@ use Rattle.lists.proofs.Parts.{flat-one}
 use Rattle.lists.specs.Lists.{flat}
 use Rattle.pattern.specs.Checks.{patternFaults}
 use Rattle.pattern.specs.Contents.{Content, Pattern, content}
-use Rattle.add_boundary.specs.Boundary.{boundaryAnswer, boundaryFaults, storedAs, writtenOf}
+use Rattle.add_boundary.specs.Boundary.{boundaryAnswer, newFaults, storedAs, writtenOf}
 
 -- what is written of a list of wires
 abbrev out {ℓ} : {A : Type ℓ} → List FaceEditError → List A → List A
@@ -79,7 +79,7 @@ module _ (p : Pattern) (f : ℕ) (us uses lens : List ℕ) (ok : patternFaults p
     added-lengths = map-append length (boundaries c f) (new ∷ []) ∙ rw new-long
 
     abbrev rest : List FaceEditError
-    rest = boundaryFaults (frontsIn c) (backsIn c) own (length sizes) us m k
+    rest = newFaults (frontsIn c) (backsIn c) own (length sizes) us m k
 
     faults-are : es ≡ rest
     faults-are = rw (named, added-uses, added-wires)

@@ -12,19 +12,19 @@ use Rattle.edit_answers.specs.Answers.{judged}
 use Rattle.edit_answers.specs.declared.FaceAnswer.{FaceAnswer}
 use Rattle.edit_answers.specs.declared.FaceAnswer.the-variants.{Not, Refused}
 use Rattle.edit_answers.specs.declared.FaceEditError.{FaceEditError}
-use Rattle.edit_answers.specs.declared.FaceEditError.the-variants.{NoSpace, NotDisjointWires}
+use Rattle.edit_answers.specs.declared.FaceEditError.the-variants.{NoSpace, NotDisjointWires, Wire}
 use Rattle.errors.specs.declared.Refusal.{Refusal}
 use Rattle.errors.specs.declared.WireCheck.the-variants.{Simple, Refused as WireRefused}
 use Rattle.errors.specs.declared.WireError.{WireError}
-use Rattle.face_edits.specs.FaceEdits.{wireError}
 use Rattle.face_parts.proofs.Laws.{simple-short}
 use Rattle.lists.proofs.Laws.{left-true, right-true}
 use Rattle.lists.proofs.Marks.{holds-fresh, holds-stamped, met-seen}
 use Rattle.lists.specs.Lists.{disjoint, noDup, unless}
 use Rattle.lists.specs.Marks.{Below, met, stamped}
 use Rattle.wire.proofs.Laws.{faultless-noDup, points-below}
-use Rattle.wire.specs.Wires.{Named, points, wireFaults}
-use Rattle.add_boundary.specs.Boundary.{boundaryFaults, firstOf, storedAs}
+use Rattle.wire.specs.Named.{Named}
+use Rattle.wire.specs.Wires.{points, wireFaults}
+use Rattle.add_boundary.specs.Boundary.{firstOf, newFaults, storedAs}
 use Rattle.add_boundary.specs.declared.Judged.the-variants.{Fine, Unfit}
 use Rattle.errors.specs.Sequence.{firstOfWire}
 
@@ -49,11 +49,11 @@ apart-says fronts backs wire own marks marks′ s again nw own-named once long l
 -- ---- the first fault
 
 abbrev row : List WireError → Bool → Bool → List FaceEditError
-row ws d s = map wireError ws ++ unless d NotDisjointWires ++ unless s NoSpace
+row ws d s = map Wire ws ++ unless d NotDisjointWires ++ unless s NoSpace
 
-row-wire : (ws : List WireError) (d s : Bool) (e : WireError) (x : FaceEditError) → firstOfWire ws ≡ WireRefused e → x ≡ wireError e → Unfit x ≡ firstOf (row ws d s)
-row-wire [] d s e x h i = cc
-row-wire (w ∷ ws) d s e x h i = let same : w ≡ e = cc in rw (i, same)
+row-wire : (ws : List WireError) (d s : Bool) (e : WireError) → firstOfWire ws ≡ WireRefused e → Unfit (Wire e) ≡ firstOf (row ws d s)
+row-wire [] d s e h = cc
+row-wire (w ∷ ws) d s e h = let same : w ≡ e = cc in rw same
 
 row-shared : (ws : List WireError) (d s : Bool) → firstOfWire ws ≡ Simple → d ≡ false → Unfit NotDisjointWires ≡ firstOf (row ws d s)
 row-shared [] d s h e = rw e
@@ -83,26 +83,26 @@ module _ (fronts backs own : List ℕ) (n : ℕ) (us : List ℕ) (m k : ℕ) whe
   abbrev room : Bool
   room = leb (length own + length us) m && leb (suc n) k
 
-  pub unfit-wire : (e : WireError) (x : FaceEditError) → firstOfWire faults ≡ WireRefused e → x ≡ wireError e → Unfit x ≡ firstOf (boundaryFaults fronts backs own n us m k)
-  unfit-wire e x h i = row-wire faults apart room e x h i
+  pub unfit-wire : (e : WireError) → firstOfWire faults ≡ WireRefused e → Unfit (Wire e) ≡ firstOf (newFaults fronts backs own n us m k)
+  unfit-wire e h = row-wire faults apart room e h
 
   module _ (simple : firstOfWire faults ≡ Simple) where
-    pub unfit-shared : apart ≡ false → Unfit NotDisjointWires ≡ firstOf (boundaryFaults fronts backs own n us m k)
+    pub unfit-shared : apart ≡ false → Unfit NotDisjointWires ≡ firstOf (newFaults fronts backs own n us m k)
     unfit-shared d = row-shared faults apart room simple d
 
     module _ (off : apart ≡ true) where
-      pub unfit-uses : m < length own + length us → Unfit NoSpace ≡ firstOf (boundaryFaults fronts backs own n us m k)
+      pub unfit-uses : m < length own + length us → Unfit NoSpace ≡ firstOf (newFaults fronts backs own n us m k)
       unfit-uses h = row-space faults apart room simple off (rw (lt-leb (length own + length us) m h))
 
       module _ (uses : length own + length us ≤ m) where
-        pub unfit-wires : k < suc n → Unfit NoSpace ≡ firstOf (boundaryFaults fronts backs own n us m k)
+        pub unfit-wires : k < suc n → Unfit NoSpace ≡ firstOf (newFaults fronts backs own n us m k)
         unfit-wires h = row-space faults apart room simple off (rw (le-leb (length own + length us) m uses, lt-leb (suc n) k h))
 
-        pub is-fine : suc n ≤ k → Fine ≡ firstOf (boundaryFaults fronts backs own n us m k)
+        pub is-fine : suc n ≤ k → Fine ≡ firstOf (newFaults fronts backs own n us m k)
         is-fine h = row-none faults apart room simple off (rw (le-leb (length own + length us) m uses, le-leb (suc n) k h))
 
   -- what a wire without fault has
-  module _ (fine : firstOf (boundaryFaults fronts backs own n us m k) ≡ Fine) where
+  module _ (fine : firstOf (newFaults fronts backs own n us m k) ≡ Fine) where
     pub uses-fit : length own + length us ≤ m
     uses-fit = leb-true (length own + length us) m (left-true (leb (length own + length us) m) (leb (suc n) k) (row-fine faults apart room fine .1))
 

@@ -8,16 +8,15 @@ ghost use lib.ListN.{length};
 ghost use lib.Seq.{sets};
 ghost use Rattle.lists.specs.Lists.{disjoint, flat, noDup};
 ghost use Rattle.lists.specs.Marks.{Below};
-ghost use Rattle.wire.specs.Wires.{Named, points};
+ghost use Rattle.wire.specs.Named.{Named};
+ghost use Rattle.wire.specs.Wires.{points};
 ghost use Rattle.store.specs.Store.{held};
-ghost use Rattle.face_edits.specs.FaceEdits.{wireError};
 ghost use Rattle.face_edits.specs.FaceAnswers.{addAnswer, addOut};
-ghost use Rattle.add_boundary.specs.Boundary.{boundaryAnswer, boundaryFaults, firstOf, storedAs, writtenOf};
+ghost use Rattle.add_boundary.specs.Boundary.{boundaryAnswer, firstOf, newFaults, storedAs, writtenOf};
 use edit_answers::FaceAnswer;
 use edit_answers::FaceEditError;
 use errors::Check;
 use errors::WireCheck;
-use errors::WireError;
 use face_parts::are_uses;
 use face_parts::face_part;
 use face_parts::first_backs;
@@ -39,17 +38,6 @@ use words::index;
 pub enum Judged {
     Fine,
     Unfit(FaceEditError),
-}
-
-// What is wrong with a wire, as the refusal of a face edit.
-fn wire_error(e: WireError) -> FaceEditError
-    ensures { λ r. ⌜ r ≡ wireError e ⌝ }
-{
-    match e {
-        WireError::EmptyWire => FaceEditError::EmptyWire,
-        WireError::NotClosedWire => FaceEditError::NotClosedWire,
-        WireError::NotSimpleWire => FaceEditError::NotSimpleWire,
-    }
 }
 
 // Whether a wire that meets no point twice shares none with the uses `own`. The stamp is above all
@@ -87,13 +75,13 @@ fn judge_wire(
     requires { ⌜ Named (now fronts) (now backs) (now wire) ⌝ }
     requires { ⌜ Named (now fronts) (now backs) (now own) ⌝ }
     requires { ⌜ (length (now own) ≤ 4096) × (n ≤ 1024) ⌝ }
-    ensures { λ r. ⌜ r ≡ firstOf (boundaryFaults (now (fronts .entry)) (now (backs .entry)) (now (own .entry)) n (now (wire .entry)) m k) ⌝ }
+    ensures { λ r. ⌜ r ≡ firstOf (newFaults (now (fronts .entry)) (now (backs .entry)) (now (own .entry)) n (now (wire .entry)) m k) ⌝ }
 {
     let mut marks = [0u16; 2048];
     let answer = check_wire(wire, fronts, backs, &mut marks, 1);
     match answer {
         WireCheck::Refused(e) => {
-            return Judged::Unfit(wire_error(e));
+            return Judged::Unfit(FaceEditError::Wire(e));
         }
         WireCheck::Simple => {}
     }

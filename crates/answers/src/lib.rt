@@ -60,7 +60,8 @@ pub fn unread(f: Refusal) -> Answer
     }
 }
 
-// Refused by the call: a number, and for a solid the shell.
+// Refused by the call: a number; for a solid with the shell, for a lent slice that is too short with
+// the length that the file needs.
 pub fn refused(number: usize, first: usize) -> Answer
     ensures { λ r. ⌜ r ≡ refusedAnswer number first ⌝ }
 {
@@ -102,7 +103,7 @@ pub fn written_values(a: Written) -> Answer
     match a {
         Written::Length(n) => done_with(n, 0, 0),
         Written::Refused(f) => unread(f),
-        Written::NoSpace => refused(17, 0),
+        Written::NoSpace(n) => refused(17, n),
     }
 }
 
@@ -151,7 +152,7 @@ pub fn cut_values(a: CutAnswer, w: Written) -> Answer
         CutAnswer::Cut(e, g) => match w {
             Written::Length(n) => done_with(index(e.0), index(g.0), n),
             Written::Refused(f) => unread(f),
-            Written::NoSpace => refused(17, 0),
+            Written::NoSpace(n) => refused(17, n),
         },
         CutAnswer::Refused(f) => unread(f),
         CutAnswer::Not(e) => refused(edit_number(e), 0),
@@ -166,7 +167,7 @@ pub fn join_values(a: JoinAnswer, w: Written) -> Answer
         JoinAnswer::Joined(e) => match w {
             Written::Length(n) => done_with(index(e.0), 0, n),
             Written::Refused(f) => unread(f),
-            Written::NoSpace => refused(17, 0),
+            Written::NoSpace(n) => refused(17, n),
         },
         JoinAnswer::Refused(f) => unread(f),
         JoinAnswer::Not(e) => refused(edit_number(e), 0),

@@ -40,6 +40,13 @@ there-picked : (b : Bool) → pick b There NoShell ≡ There → b ≡ true
 there-picked true h = refl
 there-picked false h = cc
 
+-- a call that is refused has no shell
+pub refused-apart : (f : Refusal) → Refused f ≡ There → true ≡ false
+refused-apart f h = cc
+
+pub no-shell-apart : NoShell ≡ There → true ≡ false
+no-shell-apart h = cc
+
 there-none : (fs : List Refusal) (c : Content) (n : ℕ) → presenceOf fs c n ≡ There → fs ≡ []
 there-none [] c n h = refl
 there-none (f ∷ fs) c n h = cc

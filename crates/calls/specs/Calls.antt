@@ -9,7 +9,7 @@ use Rattle.calls.specs.declared.Presence.the-variants.{NoShell, Refused,
 use Rattle.calls.specs.declared.Presence.{Presence}
 use Rattle.calls.specs.declared.ShellFigure.the-variants.{Components, Condition, Connected, Openings, Singular}
 use Rattle.calls.specs.declared.ShellFigure.{ShellFigure}
-use Rattle.errors.specs.Numbers.{body, number, recordNumber}
+use Rattle.errors.specs.Numbers.{Reply, done, refused, unread}
 use Rattle.errors.specs.declared.Refusal.{Refusal}
 use Rattle.lists.specs.Lists.{pick}
 use Rattle.pattern.specs.Checks.{patternFaults}
@@ -28,15 +28,15 @@ whenThere There g = Found g
 whenThere (Refused f) g = Answer·Refused f
 whenThere NoShell g = Answer·NoShell
 
--- document 01's number and values of an answer: 0 with the figure's; a refusal's number with body and record; 3 alone for a shell that does not exist
-abbrev pub numberAndValues : FigureAnswer → ℕ × List ℕ
-numberAndValues (Found (Condition w)) = (0, w .0 ∷ [])
-numberAndValues (Found (Openings k m l)) = (0, k ∷ m ∷ l ∷ [])
-numberAndValues (Found (Connected b)) = (0, pick b 1 0 ∷ [])
-numberAndValues (Found (Components k m)) = (0, k ∷ m ∷ [])
-numberAndValues (Found (Singular k)) = (0, k ∷ [])
-numberAndValues (Answer·Refused f) = (number f, body f ∷ recordNumber f ∷ [])
-numberAndValues Answer·NoShell = (3, [])
+-- number and values: the figure's; 3 alone for a shell that does not exist
+abbrev pub figureReply : FigureAnswer → Reply
+figureReply (Found (Condition w)) = done (w .0 ∷ [])
+figureReply (Found (Openings k m l)) = done (k ∷ m ∷ l ∷ [])
+figureReply (Found (Connected b)) = done (pick b 1 0 ∷ [])
+figureReply (Found (Components k m)) = done (k ∷ m ∷ [])
+figureReply (Found (Singular k)) = done (k ∷ [])
+figureReply (Answer·Refused f) = unread f
+figureReply Answer·NoShell = refused 3 []
 
 -- what is written: nothing unless the shell is there
 abbrev pub ifThere {ℓ} : {A : Type ℓ} → Presence → List A → List A

@@ -5,7 +5,6 @@ ghost use mathlib.Core.Path.{_≡_};
 ghost use Prim.Native.Nat.{_<_, _≤_, suc, ℕ};
 ghost use lib.ListN.{getD, length, replicate, take};
 ghost use Rattle.lists.specs.Lists.{padded, sum, tabulate};
-ghost use Rattle.listing.specs.Parts.{faceStart, turnedUses};
 ghost use Rattle.columns.specs.Columns.{Made};
 ghost use Rattle.columns.specs.Sound.{Faultless};
 use listing::put_face_starts;
@@ -26,30 +25,6 @@ fn short_known(s: &[u16]) -> u16
     ensures { λ _. ⌜ ((k : ℕ) → getD (now (s .entry)) k 0 < 65536) ⌝ }
 {
     s[0]
-}
-
-// Writes the turned uses of the first wires.
-fn put_turned<'a>(uses: &'a [u16], ucount: usize, wires: &'a [u16], wcount: usize, out: &mut [u16])
-    requires { ⌜ (ucount ≤ 4096) × (ucount ≤ length (now uses)) × (wcount ≤ 1024) × (wcount ≤ length (now wires)) ⌝ }
-    requires { ⌜ (sum (take wcount (now wires)) ≡ ucount) × (now out ≡ replicate 4096 0) ⌝ }
-    ensures { λ _. ⌜ now (out .exit) ≡ padded 4096 0 (turnedUses (take wcount (now (wires .entry))) (take ucount (now (uses .entry)))) ⌝ }
-{
-    put_turned_uses(&uses[0..ucount], &wires[0..wcount], out);
-}
-
-// Writes where the uses of the first faces begin.
-fn put_starts<'a>(
-    wires: &'a [u16],
-    wcount: usize,
-    counts: &'a [u16],
-    fcount: usize,
-    out: &mut [usize],
-)
-    requires { ⌜ (wcount ≤ 1024) × (wcount ≤ length (now wires)) × (fcount ≤ 256) × (fcount ≤ length (now counts)) ⌝ }
-    requires { ⌜ (sum (take fcount (now counts)) ≡ wcount) × (now out ≡ replicate 257 0) ⌝ }
-    ensures { λ _. ⌜ now (out .exit) ≡ padded 257 0 (tabulate (suc fcount) (faceStart (take fcount (now (counts .entry))) (take wcount (now (wires .entry))))) ⌝ }
-{
-    put_face_starts(&wires[0..wcount], counts, fcount, out);
 }
 
 // Writes where the wires of each of the first n faces begin, and where the last one's end; or the
@@ -89,8 +64,11 @@ pub fn put_columns(
     let shells = shells_in(t);
     short_known(uses);
     short_known(listings_in(t));
-    put_turned(uses, counts[2], wires, counts[3], turned);
-    put_starts(wires, counts[3], faces, counts[4], starts);
-    put_firsts(faces, counts[4], firsts);
+    let ucount = counts[2];
+    let wcount = counts[3];
+    let fcount = counts[4];
+    put_turned_uses(&uses[0..ucount], &wires[0..wcount], turned);
+    put_face_starts(&wires[0..wcount], faces, fcount, starts);
+    put_firsts(faces, fcount, firsts);
     put_firsts(shells, counts[5], places);
 }

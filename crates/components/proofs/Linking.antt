@@ -7,11 +7,12 @@ use native.Mathlib.Omega.{arith}
 use lib.ListN.{List·getD-map, drop, getD, getD-replicate, length, length-drop, length-map, length-replicate, length-take, replicate, take}
 use lib.Seq.{getD-drop, getD-take, length-take-le, take-add, take-all}
 use Rattle.components.proofs.Loops.{length-owners, owners-next}
-use Rattle.components.proofs.Members.{all-member, all-replicate, links-append}
+use Rattle.components.proofs.Members.{all-replicate, links-append}
 use Rattle.components.specs.Pairs.{Linkable, Within, memberLinks, owners, useTrees}
 use Rattle.edge.specs.Uses.{edgeNumber}
 use Rattle.groups.proofs.All.{Joins, Pairs, forest-all, joined-all-long, joined-append, joins-end, joins-next}
 use Rattle.groups.proofs.Laws.{grouped-start, inside-links}
+use Rattle.groups.proofs.Members.{all-member}
 use Rattle.groups.specs.Forest.{Forest, Trees, joined, joinedAll, started, trees}
 use Rattle.groups.specs.Groups.{Inside, links}
 use Rattle.lists.proofs.Count.{all-each, all-map}

@@ -6,13 +6,14 @@ use native.Mathlib.Omega.{arith}
 use lib.ListN.{drop, getD, length, length-append, length-drop, length-replicate, replicate, take}
 use lib.Seq.{length-sets, sets}
 use Rattle.components.proofs.Loops.{roots-long}
-use Rattle.components.proofs.Members.{all-member, edgesOf, of-use-links}
+use Rattle.components.proofs.Members.{of-use-links}
 use Rattle.components.proofs.Theorem.{roots-same}
 use Rattle.components.specs.Pairs.{Linkable, Paired, Rooted, pairRoots, useLinks, useTrees}
 use Rattle.edge.specs.Uses.{edgeNumber}
 use Rattle.groups.proofs.All.{joined-all-long}
 use Rattle.groups.proofs.Climbing.{root-below}
 use Rattle.groups.proofs.Laws.{grouped-all, grouped-climbs, grouped-start}
+use Rattle.groups.proofs.Members.{all-member}
 use Rattle.groups.specs.Forest.{Grouped, rootOf, started}
 use Rattle.groups.specs.Groups.{Inside, sameGroup}
 use Rattle.lists.proofs.Count.{All, all-at, all-each, all-map, all-split}
@@ -23,6 +24,7 @@ use Rattle.lists.specs.Lists.{flat, split, tabulate}
 use Rattle.sequence.proofs.Loops.{key-groups-few, key-groups-long}
 use Rattle.sequence.proofs.Only.{groups-same}
 use Rattle.sequence.specs.Keys.{Keyed, keyGroups, named, sameKey}
+use Rattle.shell.proofs.Components.{edgesOf}
 use Rattle.shell.specs.Components.{componentsOf, groupsOf, pairLinks}
 
 module _ (spans uses : List ℕ) (edges : ℕ) (u : Linkable spans uses edges) where

@@ -8,13 +8,14 @@ use native.Mathlib.Omega.{arith}
 use lib.Dec.{eqb}
 use lib.ListN.{length}
 use borrow.Author.Tests.{eq-eqb, ne-eqb}
-use Rattle.components.proofs.Members.{edgesOf, in-pair-links, in-use-links, of-pair-links, of-use-links}
+use Rattle.components.proofs.Members.{in-use-links, of-use-links}
 use Rattle.components.specs.Pairs.{useLinks}
 use Rattle.groups.proofs.Meaning.{linked-same-group, same-linked}
 use Rattle.groups.specs.Forest.{Grouped, rootOf}
 use Rattle.groups.specs.Groups.{Inside, Linked, against, along, here, link, sameGroup}
 use Rattle.lists.proofs.Laws.{cases}
 use Rattle.lists.specs.Lists.{split, sum}
+use Rattle.shell.proofs.Components.{edgesOf, in-pair-links, of-pair-links}
 use Rattle.shell.specs.Components.{pairLinks}
 
 module _ (edges : ℕ) (spans uses : List ℕ) (e : sum spans ≡ length uses)

@@ -1,33 +1,34 @@
 -- The refusals of a join in sequence, from the two edges; then from the content that has them.
 use Prim.Native.Nat.{_+_, _<_, _≤_, ℕ}
 use Prim.{⊥}
-use mathlib.Core.Bool.{Bool, _&&_, false, not, true}
+use mathlib.Core.Bool.{Bool, _&&_, false, true}
 use mathlib.Core.List.{List, [], _++_, _∷_}
 use mathlib.Core.Path.{_∙_, _≡_, refl, sym}
 use native.Mathlib.Omega.{arith}
-use lib.Dec.{eqb, leb, ltb}
-use lib.ListN.{List·getD-map, getD, length, take}
+use lib.Dec.{eqb, ltb}
+use lib.ListN.{getD, length, take}
 use lib.Seq.{getD-take}
-use borrow.Author.Tests.{eq-eqb, leb-true, le-leb, le-ltb, lt-leb, lt-ltb, ne-eqb}
-use Rattle.concat.specs.Joins.{endFaults, joinedEnds, joint, meetFaults, useBack, useFront}
+use borrow.Author.Tests.{eq-eqb, le-leb, le-ltb, lt-leb, lt-ltb, ne-eqb}
+use Rattle.concat.specs.Joins.{joint}
 use Rattle.concat.specs.declared.Joint.{Joint}
 use Rattle.concat.specs.declared.Joint.the-variants.{Not, Whole}
 use Rattle.curve.specs.Curves.{joinCurves, joinedSpan}
 use Rattle.curve.specs.declared.Joined.{Joined}
 use Rattle.curve.specs.declared.Joined.the-variants.{Refused as NotJoined, Whole as WholeCurve}
 use Rattle.edge.proofs.Laws.{noEdge}
-use Rattle.edge.specs.Edges.{backNumber, edge, frontNumber, isSpan}
-use Rattle.edge.specs.Uses.{edgeNumber, frontOf}
+use Rattle.edge.specs.Edges.{edge, isSpan}
+use Rattle.edge.specs.Uses.{edgeNumber}
 use Rattle.edge.specs.declared.Curve.{Curve}
 use Rattle.edge.specs.declared.Edge.{Edge}
 use Rattle.edit_answers.specs.declared.EditError.{EditError}
 use Rattle.edit_answers.specs.declared.EditError.the-variants.{Disconnected, NoSpace, SameEnds, SpanRefused, Unnamed}
-use Rattle.errors.proofs.Laws.{none-right, unless-passes}
+use Rattle.errors.proofs.Laws.{none-right}
 use Rattle.lists.proofs.Flat.{getD-any}
 use Rattle.lists.specs.Lists.{pick, unless}
 use Rattle.pattern.specs.Contents.{Content, zeroEdge}
-use Rattle.shell.specs.Openings.{backIn, frontIn}
-use Rattle.shell_edits.specs.Edits.{concatFaults, edgeOf, isJoined, joinFaults, joinedEdge}
+use Rattle.shell_edits.proofs.Remove.{join-allowed}
+use Rattle.shell_edits.specs.Edits.{concatFaults, edgeOf, endFaults, joinFaults, joinedEdge, meetFaults}
+use Rattle.shell_edits.specs.NewEdges.{joinedEnds, useBack, useFront}
 use Rattle.vertex.specs.declared.VertexID.{VertexID}
 
 -- ---- the two curves
@@ -64,24 +65,6 @@ module _ (a : Edge) (u : ℕ) (b : Edge) (v edges : ℕ) {f g : VertexID} (ef : 
   pub ends-meet : f .0 ≡ g .0 → {r : Joint} → r ≡ joint (endFaults a u b v edges) (joinedEnds a u b v) → r ≡ joint (meetFaults a u b v edges) (joinedEnds a u b v)
   ends-meet h e = rw (← ef, ← eg, eq-eqb (f .0) (g .0) h) e
 
--- ---- the ends of a use, from its edge
-field-picked : (b : Bool) (v w : VertexID) → pick b v w .0 ≡ pick b (v .0) (w .0)
-field-picked true v w = refl
-field-picked false v w = refl
-
-module _ (c : Content) (u : ℕ) where
-  pub front-is : frontIn c u ≡ useFront (edgeOf c u) u .0
-  unfolding frontOf
-  front-is =
-      rw (List·getD-map frontNumber (c .edges) (edgeNumber u) zeroEdge, List·getD-map backNumber (c .edges) (edgeNumber u) zeroEdge)
-      (sym (field-picked (leb 32768 u) (edgeOf c u .back) (edgeOf c u .front)))
-
-  pub back-is : backIn c u ≡ useBack (edgeOf c u) u .0
-  unfolding frontOf
-  back-is =
-      rw (List·getD-map frontNumber (c .edges) (edgeNumber u) zeroEdge, List·getD-map backNumber (c .edges) (edgeNumber u) zeroEdge)
-      (sym (field-picked (leb 32768 u) (edgeOf c u .front) (edgeOf c u .back)))
-
 -- edge e of the first n, as the code reads it
 pub edge-read : (es : List Edge) (n e : ℕ) → n ≤ length es → e < n → getD es e noEdge ≡ getD (take n es) e zeroEdge
 edge-read es n e l h = getD-any es e noEdge zeroEdge (omega arith) ∙ sym (getD-take n es e zeroEdge h)
@@ -89,19 +72,16 @@ edge-read es n e l h = getD-any es e noEdge zeroEdge (omega arith) ∙ sym (getD
 -- ---- the joined edge and the refusals are those of the content
 module _ (c : Content) (u v edges : ℕ) {a b : Edge} (ea : a ≡ edgeOf c u) (eb : b ≡ edgeOf c v) (counted : length (c .edges) ≡ edges) where
   pub joined-is : joinedEnds a u b v ≡ joinedEdge c u v
-  joined-is = rw (front-is c u, back-is c v, ea, eb)
+  joined-is = rw (ea, eb)
 
   pub joins-are : endFaults a u b v edges ≡ joinFaults c u v
-  joins-are = rw (front-is c u, back-is c v, ea, eb, counted)
-
-  meets-are : meetFaults a u b v edges ≡ unless (eqb (backIn c u) (frontIn c v)) Disconnected ++ joinFaults c u v
-  meets-are = rw (back-is c u, front-is c v, ← joins-are, ea, eb)
+  joins-are = rw (ea, eb, counted)
 
   pub concat-judged : edgeNumber u < edges → edgeNumber v < edges → {r : Joint} → r ≡ joint (meetFaults a u b v edges) (joinedEnds a u b v)
       → r ≡ joint (concatFaults c u v) (joinedEdge c u v)
-  concat-judged h i e = e ∙ rw (meets-are, joined-is, counted, lt-ltb (edgeNumber u) edges h, lt-ltb (edgeNumber v) edges i)
+  concat-judged h i e = e ∙ rw (ea, eb, counted, lt-ltb (edgeNumber u) edges h, lt-ltb (edgeNumber v) edges i)
 
-and-false : (a b : Bool) → b ≡ false → (a && b) ≡ false
+pub and-false : (a b : Bool) → b ≡ false → (a && b) ≡ false
 and-false true b h = h
 and-false false b h = refl
 
@@ -118,17 +98,14 @@ joint-none [] d h = refl
 joint-none (e ∷ es) d h = cc
 
 pub room-there : (c : Content) (u v : ℕ) → joinFaults c u v ≡ [] → length (c .edges) < 1024
-room-there c u v h =
-    let ends = unless (not (eqb (frontIn c u) (backIn c v))) SameEnds ++ unless (isJoined (joinCurves (edgeOf c u .curve) (edgeOf c v .curve))) SpanRefused in
-    let room = leb (length (c .edges) + 1) 1024 in
-    omega (arith, leb-true (length (c .edges) + 1) 1024 (unless-passes room NoSpace (none-right ends (unless room NoSpace) h)))
+room-there c u v h = omega (arith, join-allowed c u v h .room)
 
 -- where two uses are joined, no refusal of the join is left
 joins-none : (c : Content) (u v : ℕ) (d : Edge) {k : Edge} → joint (concatFaults c u v) d ≡ Whole k → joinFaults c u v ≡ []
 joins-none c u v d h =
     let named = unless (ltb (edgeNumber u) (length (c .edges)) && ltb (edgeNumber v) (length (c .edges))) Unnamed in
-    let met = unless (eqb (backIn c u) (frontIn c v)) Disconnected in
-    none-right (named ++ met) (joinFaults c u v) (joint-none (concatFaults c u v) d h)
+    let met = unless (eqb (useBack (edgeOf c u) u .0) (useFront (edgeOf c v) v .0)) Disconnected in
+    none-right met (joinFaults c u v) (none-right named (met ++ joinFaults c u v) (joint-none (concatFaults c u v) d h))
 
 pub concat-room : (c : Content) (u v : ℕ) (d : Edge) {k : Edge} → joint (concatFaults c u v) d ≡ Whole k → length (c .edges) < 1024
 concat-room c u v d h = room-there c u v (joins-none c u v d h)

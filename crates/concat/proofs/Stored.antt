@@ -23,8 +23,7 @@ use Rattle.pattern.specs.Contents.{Content, Pattern, content, storedIn}
 use Rattle.shell_edits.proofs.Storage.{seven-are}
 use Rattle.shell_edits.specs.Answers.{joinAnswer, nextEdge, patternAfter}
 use Rattle.shell_edits.specs.Edits.{edgeOf, edited}
-use Rattle.shell_wires.proofs.Facts.{Fine, fine, stored-edited, uses-kept, wires-kept}
-use Rattle.store.proofs.View.{held-full, held-seven}
+use Rattle.shell_wires.proofs.Facts.{Fine, stored-edited, uses-kept, wires-kept}
 use Rattle.store.specs.Store.{countTable, edgeIn, held}
 use Rattle.concat.proofs.Judged.{edge-read}
 use Rattle.concat.specs.Joins.{appended, joint}
@@ -95,10 +94,6 @@ module _ (p : Pattern) (s : Fine p) where
 -- an edge stored after the others, then their count
 pub append-view : (p q r : Pattern) (n : ℕ) (d : Edge) → n ≡ getD (p .counts) 1 0 → q ≡ withEdges p (set (p .edges) n d) → r ≡ withCounts q (set (q .counts) 1 (n + 1)) → r ≡ appended p d
 append-view p q r n d en eq er = er ∙ rw (eq, en)
-
--- the pattern in a store, without fault
-pub held-fine : (t : List ℕ) (spans : List Float) → length t ≡ 12312 → patternFaults (held t spans) ≡ [] → Fine (held t spans)
-held-fine t spans long ok = fine (held t spans) ok (held-seven t spans long) (held-full t spans long)
 
 -- the edge of a use, as the code reads it
 pub held-edge-of : (t : List ℕ) (spans : List Float) → Fine (held t spans) → (u i : ℕ) → i ≡ edgeNumber u → edgeNumber u < getD (countTable t) 1 0 → edgeIn t spans i ≡ edgeOf (content (held t spans)) u

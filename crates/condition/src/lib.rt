@@ -1,6 +1,7 @@
 // The condition of a shell, and the tally of its uses (shell.rs: ShellCondition, Boundaries).
 ghost use mathlib.Core.Path.{_≡_};
 ghost use Prim.Native.Nat.{ℕ, _%_, _+_, _-_, _<_, _≤_, min};
+ghost use lib.Dec.{eqb};
 ghost use lib.ListN.{drop, length, replicate, take};
 ghost use Rattle.edge.specs.Uses.{edgeNumber};
 ghost use Rattle.condition.specs.Tallies.{conditionIn, digit, inserted, insertedAll, least, nextState, oddsIn, useCondition, withDigit};
@@ -17,6 +18,13 @@ impl Condition {
     pub const ORIENTED: Condition = Condition(2);
 
     pub const CLOSED: Condition = Condition(3);
+
+    // Whether it is this one.
+    pub fn is(self, other: Condition) -> bool
+        ensures { λ r. ⌜ r ≡ eqb (self .0) (other .0) ⌝ }
+    {
+        self.0 == other.0
+    }
 
     // Joining two takes the lower.
     pub fn join(self, other: Condition) -> Condition

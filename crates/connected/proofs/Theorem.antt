@@ -2,11 +2,12 @@
 use Prim.Native.Nat.{_<_, ℕ}
 use mathlib.Core.List.{List, List·Memᴰ, List·Memᴰ·append-cases, List·Memᴰ·tail, Memᴰ·append-left, Memᴰ·append-right, Memᴰ·cast, Memᴰ·map, Memᴰ·of-map, [], _++_, _∷_, map}
 use mathlib.Core.Logic.{_⊎_, inl, inr, ⊎-elim}
-use mathlib.Core.Path.{_≡_, ap, refl, sym}
+use mathlib.Core.Path.{_≡_, sym}
 use lib.ListN.{drop, getD, length}
 use Rattle.lists.specs.Lists.{flat}
 use Rattle.groups.proofs.Alike.{Under, Within, in-flat, in-flat-map, member-at, of-flat, of-flat-map, one-group-alike, within-flat, within-flat-map, within-map}
 use Rattle.groups.proofs.Laws.{inside-links}
+use Rattle.groups.proofs.Members.{links-map}
 use Rattle.groups.specs.Groups.{Inside, Link, link, links, oneGroup}
 use Rattle.shell.specs.Connected.{connectedOf, faceLinks, firstPoints}
 use Rattle.connected.specs.Wired.{neighbours}
@@ -24,11 +25,6 @@ module _ (front back : ℕ → ℕ) where
   abbrev useLink : ℕ → Link
   useLink u = link (front u) (back u)
 
-  links-map : (us : List ℕ) → links (map front us) (map back us) ≡ map useLink us
-  unfolding links
-  links-map [] = refl
-  links-map (u ∷ us) = ap (λ (L : List Link). useLink u ∷ L) (links-map us)
-
   abbrev wireLinks : List (List ℕ) → List Link
   wireLinks w = neighbours (firstPoints front back w)
 
@@ -39,7 +35,7 @@ module _ (front back : ℕ → ℕ) where
   -- ---- the links of a face
   use-in : (w : List (List ℕ)) (u : ℕ) → List·Memᴰ u (flat w) → List·Memᴰ (useLink u) (faceLinks front back w)
   unfolding faceLinks
-  use-in w u m = rw (links-map (flat w)) (Memᴰ·append-left (wireLinks w) (Memᴰ·map useLink m))
+  use-in w u m = rw (links-map front back (flat w)) (Memᴰ·append-left (wireLinks w) (Memᴰ·map useLink m))
 
   wire-in : (w : List (List ℕ)) (l : Link) → List·Memᴰ l (wireLinks w) → List·Memᴰ l (faceLinks front back w)
   unfolding faceLinks
@@ -50,7 +46,7 @@ module _ (front back : ℕ → ℕ) where
   unfolding faceLinks
   of-face w l m =
       ⊎-elim
-      (λ (o : List·Memᴰ l (links (map front (flat w)) (map back (flat w)))). inl (Memᴰ·of-map useLink (flat w) (rw (links-map (flat w)) at o)))
+      (λ (o : List·Memᴰ l (links (map front (flat w)) (map back (flat w)))). inl (Memᴰ·of-map useLink (flat w) (rw (links-map front back (flat w)) at o)))
       (λ (o : List·Memᴰ l (wireLinks w)). inr o)
       (List·Memᴰ·append-cases (links (map front (flat w)) (map back (flat w))) m)
 
@@ -59,7 +55,7 @@ module _ (front back : ℕ → ℕ) where
   apart-faces W l m =
       ⊎-elim
       (λ (o : List·Memᴰ l (links (map front (flat (flat W))) (map back (flat (flat W))))).
-      let q = Memᴰ·of-map useLink (flat (flat W)) (rw (links-map (flat (flat W))) at o) in
+      let q = Memᴰ·of-map useLink (flat (flat W)) (rw (links-map front back (flat (flat W))) at o) in
       let r = of-flat (flat W) (q .1) in
       let s = of-flat W (r .1) in
       in-flat-map (faceLinks front back) (s .1) (Memᴰ·cast (sym (q .2)) (use-in (s .0) (q .0) (in-flat (s .0) (s .2) (r .2)))))
@@ -77,7 +73,7 @@ module _ (front back : ℕ → ℕ) where
       let r = of-flat-map (faceLinks front back) W m in
       ⊎-elim
       (λ (o : (u : ℕ) × List·Memᴰ u (flat (r .0)) × (useLink u ≡ l)).
-      rw (links-map (flat (flat W)), ← o .2)
+      rw (links-map front back (flat (flat W)), ← o .2)
       (Memᴰ·append-left (flat (map wireLinks W)) (Memᴰ·map useLink (use-of W (r .0) (o .0) (r .1) (o .1)))))
       (λ (o : List·Memᴰ l (wireLinks (r .0))).
       Memᴰ·append-right (links (map front (flat (flat W))) (map back (flat (flat W)))) (in-flat-map wireLinks (r .1) o))

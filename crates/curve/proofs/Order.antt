@@ -1,18 +1,17 @@
--- The order of finite values is the order of their units.
-use Prim.Native.Nat.{Ordering, Ordering·eq, Ordering·gt, Ordering·lt, compare, ℕ, suc, zero, _*_, _+_, _<_, _^_, _≤_}
+-- The order of finite values is the order of their sizes over a common denominator.
+use Prim.Native.Nat.{Ordering, Ordering·eq, Ordering·gt, Ordering·lt, compare, ℕ, suc, zero, _*_, _+_, _<_, _≤_}
 use native.Mathlib.Nat.{add-comm, add-mul, add-zero, le-of-eq, le-of-lt, mul-comm, mul-pos, zero-add, zero-mul}
 use native.Mathlib.Omega.{arith}
 use mathlib.Core.Bool.{Bool, _&&_, _||_, and-false, false, not, true}
 use mathlib.Core.Path.{_∙_, _≡_, ap, refl, sym}
 use borrow.Author.Tests.{eq-eqb, le-ltb, lt-ltb, ltb-false, ltb-true, ne-eqb}
 use lib.Dec.{T, eqb, eqb·suc-zero, eqb·zero-suc, eqb→eq, ltb}
-use lib.Ieee.{Float, Format, below, down, fin, fits, inf, le, level, low, lt, nan, up}
+use lib.Ieee.{Float, below, down, fin, inf, le, level, lt, nan, up}
 use lib.Ieee.Fits.{down-pos, eq→eqb}
 use lib.Ieee.Scale.{finite}
-use lib.Pow.{pow-pos}
 use Rattle.curve.proofs.Rounding.{Compared, compared}
-use Rattle.curve.proofs.Sums.{ltb-scale, same-test}
-use Rattle.curve.proofs.Units.{amount, amount-over, left, leftOf, right, rightOf}
+use Rattle.curve.proofs.Sums.{ltb-scale, over, same-test}
+use Rattle.curve.proofs.Units.{Value, left, leftOf, right, rightOf}
 
 -- ---- signed numbers
 eqb-swap : (a b : ℕ) → eqb a b ≡ eqb b a
@@ -57,25 +56,27 @@ left-scale true a x c l h = h
 left-scale false a x c l h = zero-mul l ∙ sym (zero-mul c)
 
 -- ---- values
-pub lt-is : (f : Format) (x y : Float) → T (fits f x) → T (fits f y) → T (finite x) → T (finite y) → lt x y ≡ ltb (right f x + left f y) (right f y + left f x)
+lt-is : (L : ℕ) → 0 < L → (x y : Float) (v : Value L x) (w : Value L y) → lt x y ≡ ltb (right v + left w) (right w + left v)
 unfolding lt
-lt-is f nan y a b p q = absurd p
-lt-is f (inf s) y a b p q = absurd p
-lt-is f (fin s m e) nan a b p q = absurd q
-lt-is f (fin s m e) (inf t) a b p q = absurd q
-lt-is f (fin s m e) (fin t n d) a b p q =
+lt-is L P nan y v w = absurd (v .is)
+lt-is L P (inf s) y v w = absurd (v .is)
+lt-is L P (fin s m e) nan v w = absurd (w .is)
+lt-is L P (fin s m e) (inf t) v w = absurd (w .is)
+lt-is L P (fin s m e) (fin t n d) v w =
     let i = m * up e * down d in
     let j = n * up d * down e in
     let c = down e * down d in
-    let l = 2 ^ low f in
-    let x = amount f (fin s m e) in
-    let y = amount f (fin t n d) in
-    let hx : i * l ≡ x * c = amount-over f s m e d a in
-    let hy : j * l ≡ y * c = amount-over f t n d e b ∙ ap (λ (z : ℕ). y * z) (mul-comm (down d) (down e)) in
-    below-is s i t j
-    ∙ ltb-scale (rightOf s i + leftOf t j) (rightOf t j + leftOf s i) c (rightOf s x + leftOf t y) (rightOf t y + leftOf s x) l (mul-pos (down-pos e) (down-pos d)) (pow-pos (low f))
-    (rw (add-mul (rightOf s i) (leftOf t j) l, add-mul (rightOf s x) (leftOf t y) c, right-scale s i x c l hx, left-scale t j y c l hy) refl)
-    (rw (add-mul (rightOf t j) (leftOf s i) l, add-mul (rightOf t y) (leftOf s x) c, right-scale t j y c l hy, left-scale s i x c l hx) refl)
+    let x = v .size in
+    let y = w .size in
+    let hx : i * L ≡ x * c = over L (m * up e) (down e) (down d) x (v .is .1) in
+    let hy : j * L ≡ y * c = over L (n * up d) (down d) (down e) y (w .is .1) ∙ ap (λ (z : ℕ). y * z) (mul-comm (down d) (down e)) in
+    let p = v .sign in
+    let q = w .sign in
+    (λ k. below (v .is .0 k) i (w .is .0 k) j)
+    ∙ below-is p i q j
+    ∙ ltb-scale (rightOf p i + leftOf q j) (rightOf q j + leftOf p i) c (rightOf p x + leftOf q y) (rightOf q y + leftOf p x) L (mul-pos (down-pos e) (down-pos d)) P
+    (rw (add-mul (rightOf p i) (leftOf q j) L, add-mul (rightOf p x) (leftOf q y) c, right-scale p i x c L hx, left-scale q j y c L hy) refl)
+    (rw (add-mul (rightOf q j) (leftOf p i) L, add-mul (rightOf q y) (leftOf p x) c, right-scale q j y c L hy, left-scale p i x c L hx) refl)
 
 pub le-is : (x y : Float) → T (finite x) → T (finite y) → le x y ≡ not (lt y x)
 unfolding le
@@ -85,38 +86,32 @@ le-is (fin s m e) nan p q = absurd q
 le-is (fin s m e) (inf t) p q = absurd q
 le-is (fin s m e) (fin t n d) p q = level-is s (m * up e * down d) t (n * up d * down e)
 
--- ---- finite values that fit
-pub record Known (f : Format) (x : Float) : Type 0 where
-  pub fit : T (fits f x)
-  pub fine : T (finite x)
+-- ---- what a comparison says, and what makes it
+module _ (L : ℕ) (P : 0 < L) where
+  module _ {x y : Float} (v : Value L x) (w : Value L y) where
+    pub less : lt x y ≡ true → right v + left w < right w + left v
+    less h = ltb-true _ _ (sym (lt-is L P x y v w) ∙ h)
 
-module _ (f : Format) (x y : Float) (p : Known f x) (q : Known f y) where
-  in-units : lt x y ≡ ltb (right f x + left f y) (right f y + left f x)
-  in-units = lt-is f x y (p .fit) (q .fit) (p .fine) (q .fine)
+    pub not-less : lt x y ≡ false → right w + left v ≤ right v + left w
+    not-less h = ltb-false _ _ (sym (lt-is L P x y v w) ∙ h)
 
-  pub less : lt x y ≡ true → right f x + left f y < right f y + left f x
-  less h = ltb-true _ _ (sym in-units ∙ h)
+    pub make-less : right v + left w < right w + left v → lt x y ≡ true
+    make-less h = lt-is L P x y v w ∙ lt-ltb _ _ h
 
-  pub not-less : lt x y ≡ false → right f y + left f x ≤ right f x + left f y
-  not-less h = ltb-false _ _ (sym in-units ∙ h)
+    pub make-not-less : right w + left v ≤ right v + left w → lt x y ≡ false
+    make-not-less h = lt-is L P x y v w ∙ le-ltb _ _ h
 
-  pub make-less : right f x + left f y < right f y + left f x → lt x y ≡ true
-  make-less h = in-units ∙ lt-ltb _ _ h
+  module _ {x y z : Float} (u : Value L x) (v : Value L y) (w : Value L z) where
+    -- z ≤ x < y
+    pub not-below : lt x z ≡ false → lt x y ≡ true → lt y z ≡ false
+    not-below h k = make-not-less v w (go _ _ _ _ _ _ (not-less u w h) (less u v k))
+      where
+        go : (rx lx ry ly rz lz : ℕ) → rz + lx ≤ rx + lz → rx + ly < ry + lx → rz + ly ≤ ry + lz
+        go rx lx ry ly rz lz a b = omega arith
 
-  pub make-not-less : right f y + left f x ≤ right f x + left f y → lt x y ≡ false
-  make-not-less h = in-units ∙ le-ltb _ _ h
-
-module _ (f : Format) (x y z : Float) (p : Known f x) (q : Known f y) (r : Known f z) where
-  -- z ≤ x < y
-  pub not-below : lt x z ≡ false → lt x y ≡ true → lt y z ≡ false
-  not-below h k = make-not-less f y z q r (go _ _ _ _ _ _ (not-less f x z p r h) (less f x y p q k))
-    where
-      go : (rx lx ry ly rz lz : ℕ) → rz + lx ≤ rx + lz → rx + ly < ry + lx → rz + ly ≤ ry + lz
-      go rx lx ry ly rz lz a b = omega arith
-
-  -- x < y ≤ z
-  pub not-above : lt x y ≡ true → lt z y ≡ false → lt z x ≡ false
-  not-above h k = make-not-less f z x r p (go _ _ _ _ _ _ (less f x y p q h) (not-less f z y r q k))
-    where
-      go : (rx lx ry ly rz lz : ℕ) → rx + ly < ry + lx → ry + lz ≤ rz + ly → rx + lz ≤ rz + lx
-      go rx lx ry ly rz lz a b = omega arith
+    -- x < y ≤ z
+    pub not-above : lt x y ≡ true → lt z y ≡ false → lt z x ≡ false
+    not-above h k = make-not-less w u (go _ _ _ _ _ _ (less u v h) (not-less w v k))
+      where
+        go : (rx lx ry ly rz lz : ℕ) → rx + ly < ry + lx → ry + lz ≤ rz + ly → rx + lz ≤ rz + lx
+        go rx lx ry ly rz lz a b = omega arith

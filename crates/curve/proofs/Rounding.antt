@@ -1,63 +1,19 @@
--- Rounding a whole number of units: how many binary digits are dropped, and that the result is within half a unit in the last place.
-use Prim.Native.Nat.{Ordering, Ordering·eq, Ordering·gt, Ordering·lt, compare, ℕ, suc, _%_, _*_, _+_, _-_, _/_, _<_, _^_, _≤_}
-use native.Mathlib.Nat.{div-add-mod', le-of-eq, le-trans, mod-lt, mul-assoc, mul-div-cancel, mul-le-mul-right, mul-pos, suc-mul}
+-- Rounding a fraction n / L, where L is a multiple of the denominator of the format's smallest value: the result is within half a unit in the last place.
+use Prim.Native.Nat.{Ordering, Ordering·eq, Ordering·gt, Ordering·lt, compare, ℕ, _%_, _*_, _+_, _-_, _/_, _<_, _^_, _≤_}
+use native.Mathlib.Nat.{add-mul, div-add-mod', div-lt-iff-lt-mul, le-of-eq, le-of-mul-le-mul-right, le-trans, lt-of-lt-of-le, lt-of-mul-lt-mul-right, mod-lt, mul-assoc, mul-comm, mul-le-mul-right, mul-left-comm, mul-lt-mul-of-pos-right, mul-pos, mul-right-comm, suc-mul}
 use native.Mathlib.Omega.{arith}
-use mathlib.Core.Bool.{Bool, cond, false, not, true}
-use mathlib.Core.Path.{_∙_, _≡_, ap, subst}
+use mathlib.Core.Bool.{Bool, not}
+use mathlib.Core.Path.{_∙_, _≡_, ap, subst, sym}
 use lib.Arith.{lt-of-le-ne}
-use lib.Dec.{T, eqb, eqb-refl, eqb→eq, isEq, isLe, leb→le, ltb, ltb→lt, nleb→lt}
-use lib.Ieee.{Float, Format, fin, inf, low, nan, nearest, odd, prec, round, size, units}
+use lib.Dec.{T, eqb, eqb-refl, eqb→eq, isEq, isLe, leb→le, nleb→lt}
+use lib.Ieee.{Float, Format, low, nearest, prec, round, size}
 use lib.Ieee.Digits.{size-le}
 use lib.Ieee.Exact.{HasValue, units-val}
 use lib.Ieee.Fits.{nearest-le, round-is}
-use lib.Ieee.Nearest.{closest, closest-same, nearest-ge}
-use lib.Ieee.Scale.{finite, overflow}
+use lib.Ieee.Nearest.{closest, nearest-ge}
+use lib.Ieee.Scale.{overflow}
 use lib.Pow.{pow-mono, pow-pos}
-use Rattle.curve.proofs.Units.{amount, amount-of, negative}
-
--- how many of n's binary digits a precision of p drops
-abbrev pub dropped : ℕ → ℕ → ℕ
-dropped p n = size n - p
-
--- a unit in the last place of n
-abbrev pub lastUnit : ℕ → ℕ → ℕ
-lastUnit p n = 2 ^ dropped p n
-
--- n rounded
-abbrev pub rounded : ℕ → ℕ → ℕ
-rounded p n = closest n (lastUnit p n) * lastUnit p n
-
--- ---- `round` of a whole number of units is `rounded`
-pub round-units : (f : Format) (s : Bool) (n : ℕ) → round f s n (2 ^ low f) ≡ units f s (closest n (lastUnit (prec f) n)) (dropped (prec f) n)
-round-units f s n =
-    let l = 2 ^ low f in
-    let u = lastUnit (prec f) n in
-    round-is f s n l
-    ∙ ap (λ (z : ℕ). units f s (closest (n * l) (l * lastUnit (prec f) z)) (dropped (prec f) z)) (mul-div-cancel n (pow-pos (low f)))
-    ∙ ap (λ (z : ℕ). units f s z (dropped (prec f) n)) (closest-same (n * l) (l * u) n u (mul-pos (pow-pos (low f)) (pow-pos (dropped (prec f) n))) (pow-pos (dropped (prec f) n)) (mul-assoc n l u))
-
-in-reach : (f : Format) (s : Bool) (q k : ℕ) → T (finite (units f s q k)) → q * 2 ^ k < overflow f
-unfolding units
-in-reach f s q k = go (ltb (q * 2 ^ k) (overflow f)) (ltb→lt (q * 2 ^ k) (overflow f))
-  where
-    go : (b : Bool) → (T b → q * 2 ^ k < overflow f) → T (finite (cond b (odd (suc (prec f)) s q k (low f)) (inf s))) → q * 2 ^ k < overflow f
-    go true p h = p tt
-    go false p h = absurd h
-
--- what is finite has the rounded magnitude, and what is rounded below the overflow is finite
-pub round-value : (f : Format) (s : Bool) (n : ℕ) → rounded (prec f) n < overflow f → HasValue (round f s n (2 ^ low f)) s (rounded (prec f) n) (2 ^ low f)
-round-value f s n h = rw (round-units f s n) (units-val f s (closest n (lastUnit (prec f) n)) (dropped (prec f) n) h)
-
-pub round-amount : (f : Format) (s : Bool) (n : ℕ) → T (finite (round f s n (2 ^ low f))) → (negative (round f s n (2 ^ low f)) ≡ s) × (amount f (round f s n (2 ^ low f)) ≡ rounded (prec f) n)
-round-amount f s n h = amount-of f (round f s n (2 ^ low f)) s (rounded (prec f) n) (round-value f s n (in-reach f s (closest n (lastUnit (prec f) n)) (dropped (prec f) n) (rw (← round-units f s n) h)))
-
-pub round-finite : (f : Format) (s : Bool) (n : ℕ) → rounded (prec f) n < overflow f → T (finite (round f s n (2 ^ low f)))
-round-finite f s n h = go (round f s n (2 ^ low f)) (round-value f s n h)
-  where
-    go : (x : Float) → HasValue x s (rounded (prec f) n) (2 ^ low f) → T (finite x)
-    go nan v = absurd v
-    go (inf t) v = absurd v
-    go (fin t m e) v = tt
+use Rattle.curve.proofs.Units.{value-times}
 
 -- ---- half a unit in the last place
 -- x and y differ by at most half of u
@@ -85,15 +41,83 @@ nearest-half q r u n Ordering·eq e l c =
     (omega arith, omega arith)
 nearest-half q r u n Ordering·gt e l c = rw (suc-mul q u) (omega arith, omega arith)
 
-pub closest-half : (n u : ℕ) → 0 < u → Half (closest n u * u) n u
+closest-half : (n u : ℕ) → 0 < u → Half (closest n u * u) n u
 closest-half n u h = nearest-half (n / u) (n % u) u n (compare (n % u * 2) u) (div-add-mod' n u) (mod-lt n h) (compared (n % u * 2) u)
 
-pub rounded-half : (p n : ℕ) → Half (rounded p n) n (lastUnit p n)
-rounded-half p n = closest-half n (lastUnit p n) (pow-pos (dropped p n))
-
--- a number below 2 ^ (p + k) drops at most k digits
-pub dropped-in : (p k n : ℕ) → n < 2 ^ (p + k) → lastUnit p n ≤ 2 ^ k
-dropped-in p k n h = pow-mono (few (size n) (size-le n (p + k) h))
+-- the same of halves a common factor smaller
+half-less : (x y u l : ℕ) → 0 < l → Half (x * l) (y * l) (u * l) → Half x y u
+half-less x y u l h p = (less x y (p .0), less y x (p .1))
   where
-    few : (z : ℕ) → z ≤ p + k → z - p ≤ k
-    few z h = omega arith
+    less : (a b : ℕ) → a * l * 2 ≤ b * l * 2 + u * l → a * 2 ≤ b * 2 + u
+    less a b q =
+        let left : a * 2 * l ≡ a * l * 2 = mul-right-comm a 2 l in
+        let right : (b * 2 + u) * l ≡ b * l * 2 + u * l = add-mul (b * 2) u l ∙ ap (λ (z : ℕ). z + u * l) (mul-right-comm b 2 l) in
+        le-of-mul-le-mul-right (le-trans (le-of-eq left) (le-trans q (le-of-eq (sym right)))) h
+
+-- ---- n / L with L = 2 ^ low · M and n below 2 ^ (prec + k) · M: at most k digits are dropped
+module _ (f : Format) (s : Bool) (n M k : ℕ) (P : 0 < M) where
+  abbrev l : ℕ
+  l = 2 ^ low f
+
+  abbrev L : ℕ
+  L = l * M
+
+  abbrev dropped : ℕ
+  dropped = size (n * l / L) - prec f
+
+  abbrev q : ℕ
+  q = closest (n * l) (L * 2 ^ dropped)
+
+  -- what the result has of 1 / L
+  abbrev pub rounded : ℕ
+  rounded = q * 2 ^ dropped * M
+
+  deep : 0 < l
+  deep = pow-pos (low f)
+
+  half : Half rounded n (M * 2 ^ dropped)
+  half =
+      let u = 2 ^ dropped in
+      let one : q * (L * u) ≡ rounded * l = simp (mul-assoc, mul-comm, mul-left-comm) in
+      let two : L * u ≡ M * u * l = simp (mul-assoc, mul-comm) in
+      let h = closest-half (n * l) (L * u) (mul-pos (mul-pos deep P) (pow-pos dropped)) in
+      half-less rounded n (M * u) l deep (rw (← one, ← two) h)
+
+  module _ (below : n < 2 ^ (prec f + k) * M) where
+    few : dropped ≤ k
+    few =
+        let b = 2 ^ (prec f + k) in
+        let less : n * l < b * L = lt-of-lt-of-le (mul-lt-mul-of-pos-right below deep) (le-of-eq (mul-assoc b M l ∙ ap (λ (z : ℕ). b * z) (mul-comm M l))) in
+        digits (size (n * l / L)) (prec f) (size-le (n * l / L) (prec f + k) (div-lt-iff-lt-mul (mul-pos deep P) .1 less))
+      where
+        digits : (z p : ℕ) → z ≤ p + k → z - p ≤ k
+        digits z p h = omega arith
+
+    -- E is half a unit in the last place, or more
+    module _ (E : ℕ) (wide : 2 ^ k ≤ 2 * E) where
+      unit : M * 2 ^ dropped ≤ 2 * (E * M)
+      unit =
+          let h : 2 ^ dropped * M ≤ 2 * E * M = mul-le-mul-right M (le-trans (pow-mono few) wide) in
+          le-trans (le-of-eq (mul-comm M (2 ^ dropped))) (le-trans h (le-of-eq (mul-assoc 2 E M)))
+
+      pub near : Half rounded n (2 * (E * M))
+      near = go rounded n (M * 2 ^ dropped) (2 * (E * M)) half unit
+        where
+          go : (x y u v : ℕ) → Half x y u → u ≤ v → Half x y v
+          go x y u v h le = (omega (arith, h .0), omega (arith, h .1))
+
+      -- and the result is finite
+      pub round-value : 2 ^ (prec f + k) + E ≤ overflow f → HasValue (round f s n L) s rounded L
+      round-value room =
+          value-times (round f s n L) s (q * 2 ^ dropped) l M
+          (subst (λ (x : Float). HasValue x s (q * 2 ^ dropped) l) (sym (round-is f s n L)) (units-val f s q dropped (lt-of-lt-of-le reach room)))
+        where
+          reach : q * 2 ^ dropped < 2 ^ (prec f + k) + E
+          reach =
+              let g = q * 2 ^ dropped in
+              let b = 2 ^ (prec f + k) in
+              let sum : (b + E) * M ≡ b * M + E * M = add-mul b E M in
+              lt-of-mul-lt-mul-right M (less (g * M) n (b * M) (E * M) ((b + E) * M) (near .0) below sum)
+            where
+              less : (x n b e t : ℕ) → x * 2 ≤ n * 2 + 2 * e → n < b → t ≡ b + e → x < t
+              less x n b e t h i j = omega arith

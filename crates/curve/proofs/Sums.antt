@@ -1,16 +1,17 @@
 -- The sum of two finite values is one rounding of their exact sum.
 use Prim.Native.Nat.{ℕ, _*_, _+_, _-_, _<_, _^_, _≤_}
-use native.Mathlib.Nat.{add-mul, le-trans, lt-of-le-of-lt, lt-of-mul-lt-mul-right, mul-comm, mul-lt-mul-of-pos-right, mul-pos, mul-sub}
+use native.Mathlib.Nat.{add-mul, lt-of-le-of-lt, lt-of-mul-lt-mul-right, mul-assoc, mul-comm, mul-lt-mul-of-pos-right, mul-pos, mul-right-comm, mul-sub}
 use native.Mathlib.Omega.{arith}
 use mathlib.Core.Bool.{Bool, Bool·beq, _&&_, cond, false, not, true}
 use mathlib.Core.Path.{_∙_, _≡_, ap, refl, subst, sym}
 use lib.Dec.{T, lt→ltb, ltb, ltb→lt, nltb→le}
-use lib.Ieee.{Float, Format, add, down, fin, fits, inf, low, nan, prec, round, sum, up}
+use lib.Ieee.{Float, Format, add, down, fin, inf, low, nan, prec, round, sum, up}
+use lib.Ieee.Exact.{HasValue}
 use lib.Ieee.Fits.{down-pos}
-use lib.Ieee.Scale.{finite, overflow, round-same}
+use lib.Ieee.Scale.{overflow, round-same}
 use lib.Pow.{pow-pos}
-use Rattle.curve.proofs.Rounding.{dropped-in, lastUnit, round-amount, round-finite, rounded, rounded-half}
-use Rattle.curve.proofs.Units.{amount, amount-over, left, leftOf, negative, right, rightOf}
+use Rattle.curve.proofs.Rounding.{near, round-value, rounded}
+use Rattle.curve.proofs.Units.{Value, left, leftOf, right, rightOf}
 
 -- ---- the exact sum of two signed numbers
 abbrev sumSign : Bool → ℕ → Bool → ℕ → Bool
@@ -76,68 +77,77 @@ sum-scale f s a t b c x y l C L p q =
     ∙ ap (λ (z : Bool). round f (cond (Bool·beq s t) s (cond (ltb x y) t (s && z))) (sumSize s a t b) c) (ltb-scale b a c y x l C L q p)
     ∙ round-same f (sumSign s x t y) (sumSize s a t b) c (sumSize s x t y) l C L (size-scale s a t b c x y l p q)
 
--- ---- r is one rounding of x + y, which is `size` units with the sign `sign`
-pub record OneRounding (f : Format) (x y r : Float) : Type 0 where
-  pub sign : Bool
-  pub size : ℕ
-  pub is : r ≡ round f sign size (2 ^ low f)
-  pub exact : rightOf sign size + left f x + left f y ≡ leftOf sign size + right f x + right f y
+-- a fraction over a common denominator
+pub over : (L a d c n : ℕ) → a * L ≡ n * d → a * c * L ≡ n * (d * c)
+over L a d c n h = mul-right-comm a c L ∙ ap (λ (z : ℕ). z * c) h ∙ mul-assoc n d c
 
-pub add-rounds : (f : Format) (x y : Float) → T (fits f x) → T (fits f y) → T (finite x) → T (finite y) → OneRounding f x y (add f x y)
+-- ---- r is one rounding of x + y, which is `size` parts of 1 / L with the sign `sign`
+record OneRounding (f : Format) (L : ℕ) {x y : Float} (v : Value L x) (w : Value L y) (r : Float) : Type 0 where
+  sign : Bool
+  size : ℕ
+  is : r ≡ round f sign size L
+  exact : rightOf sign size + left v + left w ≡ leftOf sign size + right v + right w
+  few : size ≤ v .size + w .size
+
+size-few : (s : Bool) (a : ℕ) (t : Bool) (b : ℕ) → sumSize s a t b ≤ a + b
+size-few s a t b = go (Bool·beq s t)
+  where
+    go : (same : Bool) → cond same (a + b) (a - b + (b - a)) ≤ a + b
+    go true = omega arith
+    go false = omega arith
+
+add-rounds : (f : Format) (L : ℕ) → 0 < L → (x y : Float) (v : Value L x) (w : Value L y) → OneRounding f L v w (add f x y)
 unfolding add
-add-rounds f nan y a b p q = absurd p
-add-rounds f (inf s) y a b p q = absurd p
-add-rounds f (fin s m e) nan a b p q = absurd q
-add-rounds f (fin s m e) (inf t) a b p q = absurd q
-add-rounds f (fin s m e) (fin t n d) a b p q =
-    let x = amount f (fin s m e) in
-    let y = amount f (fin t n d) in
+add-rounds f L P nan y v w = absurd (v .is)
+add-rounds f L P (inf s) y v w = absurd (v .is)
+add-rounds f L P (fin s m e) nan v w = absurd (w .is)
+add-rounds f L P (fin s m e) (inf t) v w = absurd (w .is)
+add-rounds f L P (fin s m e) (fin t n d) v w =
+    let a = m * up e * down d in
+    let b = n * up d * down e in
+    let c = down e * down d in
     record {
-      sign = sumSign s x t y;
-      size = sumSize s x t y;
-      is = sum-scale f s (m * up e * down d) t (n * up d * down e) (down e * down d) x y (2 ^ low f) (mul-pos (down-pos e) (down-pos d)) (pow-pos (low f)) (amount-over f s m e d a) (amount-over f t n d e b ∙ ap (λ (z : ℕ). y * z) (mul-comm (down d) (down e)));
-      exact = sum-exact s x t y;
+      sign = sumSign (v .sign) (v .size) (w .sign) (w .size);
+      size = sumSize (v .sign) (v .size) (w .sign) (w .size);
+      is = (λ i. sum f (v .is .0 i) a (w .is .0 i) b c)
+          ∙ sum-scale f (v .sign) a (w .sign) b c (v .size) (w .size) L (mul-pos (down-pos e) (down-pos d)) P (over L (m * up e) (down e) (down d) (v .size) (v .is .1))
+          (over L (n * up d) (down d) (down e) (w .size) (w .is .1) ∙ ap (λ (z : ℕ). w .size * z) (mul-comm (down d) (down e)));
+      exact = sum-exact (v .sign) (v .size) (w .sign) (w .size);
+      few = size-few (v .sign) (v .size) (w .sign) (w .size);
     }
 
--- ---- r is within E units of x + y
-pub record Near (f : Format) (x y r : Float) (E : ℕ) : Type 0 where
-  pub over : right f r + left f x + left f y ≤ left f r + right f x + right f y + E
-  pub under : left f r + right f x + right f y ≤ right f r + left f x + left f y + E
+-- ---- r is within E parts of x + y
+pub record Near (L : ℕ) {x y r : Float} (v : Value L x) (w : Value L y) (z : Value L r) (E : ℕ) : Type 0 where
+  pub over : right z + left v + left w ≤ left z + right v + right w + E
+  pub under : left z + right v + right w ≤ right z + left v + left w + E
 
--- E is half a unit in the last place, or more
-pub rounding-near : (f : Format) (x y r : Float) (E : ℕ) (o : OneRounding f x y r) → T (finite r) → lastUnit (prec f) (o .size) ≤ 2 * E → Near f x y r E
-rounding-near f x y r E o h small =
-    let n = o .size in
-    let v = round-amount f (o .sign) n (subst (λ (z : Float). T (finite z)) (o .is) h) in
-    let half = rounded-half (prec f) n in
-    let sign : negative r ≡ o .sign = ap negative (o .is) ∙ v .0 in
-    let z = go (o .sign) (amount f r) (rounded (prec f) n) n (lastUnit (prec f) n) (left f x) (left f y) (right f x) (right f y) (ap (amount f) (o .is) ∙ v .1) (half .0) (half .1) small (o .exact) in
-    record { over = rw sign (z .0); under = rw sign (z .1) }
-  where
-    go : (w : Bool) (m d n u lx ly rx ry : ℕ) → m ≡ d → d * 2 ≤ n * 2 + u → n * 2 ≤ d * 2 + u → u ≤ 2 * E → rightOf w n + lx + ly ≡ leftOf w n + rx + ry
-        → (rightOf w m + lx + ly ≤ leftOf w m + rx + ry + E) × (leftOf w m + rx + ry ≤ rightOf w m + lx + ly + E)
-    go true m d n u lx ly rx ry e a b c x = (omega arith, omega arith)
-    go false m d n u lx ly rx ry e a b c x = (omega arith, omega arith)
+-- over 2 ^ low · M: a sum of magnitudes below 2 ^ (prec + k) · M is finite, and within E · M, where E is 2 ^ k / 2 or more
+module _ (f : Format) (M : ℕ) (P : 0 < M) (x y : Float) (v : Value (2 ^ low f * M) x) (w : Value (2 ^ low f * M) y) (k E : ℕ)
+    (small : v .size + w .size < 2 ^ (prec f + k) * M) (wide : 2 ^ k ≤ 2 * E) (room : 2 ^ (prec f + k) + E ≤ overflow f) where
+  abbrev L : ℕ
+  L = 2 ^ low f * M
 
--- ---- a sum of magnitudes below 2 ^ (prec + k) units is finite and within 2 ^ k / 2 units
-size-le : (w s t : Bool) (n a b : ℕ) → rightOf w n + leftOf s a + leftOf t b ≡ leftOf w n + rightOf s a + rightOf t b → n ≤ a + b
-size-le true true true n a b e = omega arith
-size-le true true false n a b e = omega arith
-size-le true false true n a b e = omega arith
-size-le true false false n a b e = omega arith
-size-le false true true n a b e = omega arith
-size-le false true false n a b e = omega arith
-size-le false false true n a b e = omega arith
-size-le false false false n a b e = omega arith
+  one : OneRounding f L v w (add f x y)
+  one = add-rounds f L (mul-pos (pow-pos (low f)) P) x y v w
 
-pub sum-near : (f : Format) (x y : Float) (k E : ℕ) → T (fits f x) → T (fits f y) → T (finite x) → T (finite y) → amount f x + amount f y < 2 ^ (prec f + k) → 2 ^ k ≤ 2 * E → 2 ^ (prec f + k) + E ≤ overflow f → T (finite (add f x y)) × Near f x y (add f x y) E
-sum-near f x y k E a b p q small half room =
-    let o = add-rounds f x y a b p q in
-    let n = o .size in
-    let m : n < 2 ^ (prec f + k) = lt-of-le-of-lt (size-le (o .sign) (negative x) (negative y) n (amount f x) (amount f y) (o .exact)) small in
-    let u : lastUnit (prec f) n ≤ 2 * E = le-trans (dropped-in (prec f) k n m) half in
-    let h : T (finite (add f x y)) = subst (λ (z : Float). T (finite z)) (sym (o .is)) (round-finite f (o .sign) n (go (rounded (prec f) n) n (lastUnit (prec f) n) (2 ^ (prec f + k)) (overflow f) (rounded-half (prec f) n .0) u m room)) in
-    (h, rounding-near f x y (add f x y) E o h u)
-  where
-    go : (d n u b v : ℕ) → d * 2 ≤ n * 2 + u → u ≤ 2 * E → n < b → b + E ≤ v → d < v
-    go d n u b v p q r s = omega arith
+  below : one .size < 2 ^ (prec f + k) * M
+  below = lt-of-le-of-lt (one .few) small
+
+  pub sum-value : Value L (add f x y)
+  sum-value = record {
+    sign = one .sign;
+    size = rounded f (one .sign) (one .size) M k P;
+    is = subst (λ (r : Float). HasValue r (one .sign) (rounded f (one .sign) (one .size) M k P) L) (sym (one .is)) (round-value f (one .sign) (one .size) M k P below E wide room);
+  }
+
+  pub sum-near : Near L v w sum-value (E * M)
+  unfolding sum-value one
+  sum-near =
+      let h = near f (one .sign) (one .size) M k P below E wide in
+      let z = go (one .sign) (rounded f (one .sign) (one .size) M k P) (one .size) (left v) (left w) (right v) (right w) (E * M) (h .0) (h .1) (one .exact) in
+      record { over = z .0; under = z .1 }
+    where
+      go : (s : Bool) (m n lx ly rx ry E : ℕ) → m * 2 ≤ n * 2 + 2 * E → n * 2 ≤ m * 2 + 2 * E → rightOf s n + lx + ly ≡ leftOf s n + rx + ry
+          → (rightOf s m + lx + ly ≤ leftOf s m + rx + ry + E) × (leftOf s m + rx + ry ≤ rightOf s m + lx + ly + E)
+      go true m n lx ly rx ry E a b x = (omega arith, omega arith)
+      go false m n lx ly rx ry E a b x = (omega arith, omega arith)

@@ -1,9 +1,6 @@
 // Cutting a curve at a parameter, and joining two (the Rust's edge.rs, `cut` and `concat`).
-ghost use mathlib.Core.Bool.{true};
 ghost use mathlib.Core.Path.{_≡_};
-ghost use Rattle.edge.specs.Edges.{isSpan};
 ghost use Rattle.curve.specs.Curves.{cutCurve, joinCurves, parameterOf, refuses};
-ghost use Rattle.curve.specs.Spans.{areSpans};
 use edge::Curve;
 
 // Where the search put a point on a curve.
@@ -50,7 +47,6 @@ fn curve_refuses(k: Curve, t: f64) -> bool
 // Cuts a curve where the search put a point.
 pub fn cut_curve(k: Curve, at: Parameter) -> Halves
     ensures { λ r. ⌜ r ≡ cutCurve k at ⌝ }
-    ensures { λ _. ⌜ (isSpan k ≡ true → areSpans (cutCurve k at) ≡ true) ⌝ }
 {
     match at {
         Parameter::Nowhere => Halves::Refused,

@@ -4,47 +4,44 @@ use mathlib.Core.Bool.{Bool, _&&_, false, not, true, true≢false}
 use mathlib.Core.List.{List, [], _++_, _∷_, map}
 use mathlib.Core.Path.{_∙_, _≡_, ap, refl, sym}
 use native.Mathlib.Omega.{arith}
-use lib.Dec.{eqb, leb, ltb}
+use lib.Dec.{leb, ltb}
 use lib.ListN.{List·getD-append, getD, length, length-map, replicate, take}
 use borrow.Author.Tests.{leb-true, ltb-true}
 use Rattle.curve.specs.Curves.{cutCurve}
 use Rattle.curve.specs.declared.Halves.{Halves}
 use Rattle.curve.specs.declared.Halves.the-variants.{Both, Refused}
 use Rattle.curve.specs.declared.Parameter.{Parameter}
-use Rattle.cut_edge.proofs.Stored.{cut-stored}
-use Rattle.cut_edge.proofs.Wires.{cuts-has, cuts-long, each-long, each-same, uses-flagged}
+use Rattle.cut_edge.proofs.Wires.{cuts-has, cuts-long, each-same, uses-flagged}
 use Rattle.cut_edge.specs.Cutting.{cutStored}
 use Rattle.cut_edge_wires.specs.Halves.{cutFlagged}
 use Rattle.cut_edge_faults.specs.Flags.{cutsWhere, usesWhere}
-use Rattle.cut_edge_faults.specs.Judgement.{judgement, laterFaults}
+use Rattle.cut_edge_faults.specs.Judgement.{foundFaults, judgement}
 use Rattle.cut_edge_faults.specs.declared.Judgement.the-variants.{Accepted, Not as Jdg·Not}
-use Rattle.edge.specs.Edges.{backNumber, edge, frontNumber, isSpan}
+use Rattle.edge.specs.Edges.{backNumber, frontNumber}
 use Rattle.edge.specs.Uses.{edgeNumber}
 use Rattle.edge.specs.declared.Curve.{Curve}
 use Rattle.edit_answers.specs.Answers.{judged}
 use Rattle.edit_answers.specs.declared.CutAnswer.the-variants.{Cut, Not as Rfs, Refused as Ref}
 use Rattle.edit_answers.specs.declared.EditError.{EditError}
 use Rattle.edit_answers.specs.declared.EditError.the-variants.{CurveRefuses, EdgeNotInShell, NoSpace, SharedFace, Unnamed, VertexInShell}
-use Rattle.errors.proofs.Laws.{each-record, none-left, none-right, unless-passes}
-use Rattle.errors.specs.Faults.{each, first}
+use Rattle.errors.proofs.Laws.{none-left, none-right, unless-passes}
+use Rattle.errors.specs.Faults.{first}
 use Rattle.errors.specs.declared.Check.the-variants.{Refused as Check·Refused}
 use Rattle.errors.specs.declared.Refusal.{Refusal}
-use Rattle.errors.specs.declared.Refusal.the-variants.{SameVertex, Span, Unnamed as Rsl·Unnamed}
 use Rattle.lists.proofs.Flat.{getD-tabulate}
 use Rattle.lists.proofs.Laws.{left-true, length-split, length-tabulate, map-tabulate, map-take, right-true}
 use Rattle.lists.proofs.Parts.{flat-split}
 use Rattle.lists.specs.Lists.{flat, has, numbers, pick, unless}
-use Rattle.pattern.proofs.Counts.{edges-counted, points-counted, shells-counted, uses-counted, wires-counted}
-use Rattle.pattern.specs.Checks.{edgeFaults, patternFaults, recordFaults}
-use Rattle.pattern.specs.Contents.{Content, Pattern, content, storedIn, zeroEdge}
+use Rattle.pattern.proofs.Counts.{edges-counted, points-counted, shells-counted, uses-counted}
+use Rattle.pattern.specs.Checks.{patternFaults}
+use Rattle.pattern.specs.Contents.{Pattern, content, storedIn}
 use Rattle.shell.specs.Openings.{frontIn}
-use Rattle.shell_edits.proofs.CutTheorem.{cut-pattern-accepted}
 use Rattle.shell_edits.specs.Answers.{afterCut, cutAnswer, nextEdge}
-use Rattle.shell_edits.specs.Edits.{cutContent, cutFaults, cutWire, cutWires, eachWire, edgeAt, edited, isCut, sharesFace, usesIn, wiresIn, wiresOf}
-use Rattle.shell_wires.proofs.Facts.{Fine, records-fine, wires-sum}
+use Rattle.shell_edits.specs.Edits.{cutContent, cutFaults, cutWire, cutWires, eachWire, edgeAt, laterFaults, sharesFace, usesIn, wiresIn, wiresOf}
+use Rattle.shell_edits.specs.NewEdges.{halfEdges, isCut}
+use Rattle.shell_wires.proofs.Facts.{Fine, wires-sum}
 use Rattle.shell_wires.specs.ShellWires.{marksOf}
 use Rattle.wire.specs.Wires.{points}
-use Rattle.curve.specs.Spans.{areSpans}
 
 -- ---- lists of refusals
 
@@ -65,7 +62,7 @@ accepted-are (x ∷ es) h k l j = (cc, cc)
 accepted-are [] (Both m n) k l j = (refl, cc)
 accepted-are [] Refused k l j = (refl, cc)
 
-module _ (shared met : Bool) (cuts : ℕ) (h : Halves) (edges uses : ℕ) (none : laterFaults shared met cuts h edges uses ≡ []) where
+module _ (shared met : Bool) (cuts : ℕ) (h : Halves) (edges uses : ℕ) (none : foundFaults shared met cuts h edges uses ≡ []) where
   abbrev three : List EditError
   three = unless (not shared) SharedFace ++ unless (not met) VertexInShell ++ unless (ltb 0 cuts) EdgeNotInShell
 
@@ -86,24 +83,11 @@ module _ (shared met : Bool) (cuts : ℕ) (h : Halves) (edges uses : ℕ) (none 
 
 all-faults : (named shared met met′ edge : Bool) (cuts : ℕ) (h : Halves) (edges edges′ total uses : ℕ)
     → named ≡ true → met ≡ met′ → edge ≡ ltb 0 cuts → edges ≡ edges′ → total ≡ uses + cuts
-    → unless named Unnamed ++ unless (not shared) SharedFace ++ unless (not met) VertexInShell ++ unless edge EdgeNotInShell ++ unless (isCut h) CurveRefuses ++ unless (leb (edges + 2) 1024 && leb total 4096) NoSpace
-    ≡ laterFaults shared met′ cuts h edges′ uses
+    → unless named Unnamed ++ laterFaults shared met edge h (edges + 2) total ≡ foundFaults shared met′ cuts h edges′ uses
 all-faults named shared met met′ edge cuts h edges edges′ total uses n m e a t = rw (n, m, e, a, t)
 
 same-numbers : (x y z w : ℕ) → z ≡ x → w ≡ y → Cut (record { 0 = x }) (record { 0 = y }) ≡ Cut (record { 0 = z }) (record { 0 = w })
 same-numbers x y z w e f = rw (e, f)
-
--- an edge's curve is a span
-edge-span : (c : Content) → recordFaults c ≡ [] → (k : ℕ) → k < length (c .edges) → isSpan (edgeAt c k .curve) ≡ true
-edge-span c ok k h =
-    let d = edgeAt c k in
-    let m = length (c .points) in
-    let all : each (edgeFaults m) 0 (c .edges) ≡ [] = none-left _ _ (none-left _ _ (none-left _ _ (none-left _ _ (none-left _ _ ok)))) in
-    unless-passes (isSpan (d .curve)) (Span (0 + k))
-    (none-right
-    (unless (ltb (frontNumber d) m && ltb (backNumber d) m) (Rsl·Unnamed 1 (0 + k)) ++ unless (not (eqb (frontNumber d) (backNumber d))) (SameVertex (0 + k)))
-    (unless (isSpan (d .curve)) (Span (0 + k)))
-    (each-record (edgeFaults m) zeroEdge 0 (c .edges) all k h))
 
 -- ---- a pattern without fault
 
@@ -160,7 +144,7 @@ module _ (p : Pattern) (s : Fine p) (n e v : ℕ) (at : Parameter) where
   halves = cutCurve (edgeAt (content p) e .curve) at
 
   abbrev later : List EditError
-  later = laterFaults (sharesFace (content p) n) met (cutsWhere flags e 0 wires) halves a uses
+  later = foundFaults (sharesFace (content p) n) met (cutsWhere flags e 0 wires) halves a uses
 
   abbrev faults : List EditError
   faults = cutFaults (content p) n e v at
@@ -201,17 +185,6 @@ module _ (p : Pattern) (s : Fine p) (n e v : ℕ) (at : Parameter) where
     pub refused-not {ℓ} : {A : Type ℓ} (refused : Refusal → A) (refuse : EditError → A) (done : A) (x : EditError) → judgement faults halves ≡ Jdg·Not x → refuse x ≡ judged (patternFaults p) faults refused refuse done
     refused-not refused refuse done x j = judgement-judged refused refuse done faults halves x some-cut j ∙ past refused refuse done
 
-    -- the pattern has no fault afterwards, since cutting a span gives spans
-    pub after-fine : areSpans halves ≡ true → patternFaults (afterCut p n e v at) ≡ []
-    after-fine spans = cut-pattern-accepted p n e v at (s .ok) (s .full) (s .seven) spans
-
-    pub curve-span : isSpan (edgeAt (content p) e .curve) ≡ true
-    curve-span = edge-span (content p) (records-fine p s) e (omega (arith, names here .1, edges-counted p (s .limits) (s .full)))
-
-  wires-long : length (map length (cutWires (content p) n e)) ≡ getD (p .counts) 3 0
-  wires-long =
-      length-map (cutWires (content p) n e) length ∙ each-long _ 0 wires ∙ length-split (content p .wires) (content p .uses) ∙ wires-counted p (s .limits) (s .full)
-
   module _ (none : faults ≡ []) where
     done-is {ℓ} : {A : Type ℓ} (refused : Refusal → A) (refuse : EditError → A) (done : A) → done ≡ judged (patternFaults p) faults refused refuse done
     done-is refused refuse done = ap (λ (es : List EditError). judged [] es refused refuse done) (sym none) ∙ past refused refuse done
@@ -224,10 +197,7 @@ module _ (p : Pattern) (s : Fine p) (n e v : ℕ) (at : Parameter) where
 
     -- the storage, from what the code stores
     pub pattern-cut : (k l : Curve) → halves ≡ Both k l
-        → cutStored p (edge (edgeAt (content p) e .front) (record { 0 = v }) k) (edge (record { 0 = v }) (edgeAt (content p) e .back) l) (cutWires (content p) n e) ≡ afterCut p n e v at
+        → cutStored p (halfEdges (edgeAt (content p) e) v (Both k l)) (cutWires (content p) n e) ≡ afterCut p n e v at
     pattern-cut k l h =
-        let made = cutWires (content p) n e in
-        let same : edited (content p) (edge (edgeAt (content p) e .front) (record { 0 = v }) k ∷ edge (record { 0 = v }) (edgeAt (content p) e .back) l ∷ []) (flat made) (map length made) ≡ cutContent (content p) n e v at = rw h in
-        cut-stored p s (edge (edgeAt (content p) e .front) (record { 0 = v }) k) (edge (record { 0 = v }) (edgeAt (content p) e .back) l) made wires-long
-        ∙ ap (storedIn p) same
+        ap (λ (x : Halves). cutStored p (halfEdges (edgeAt (content p) e) v x) (cutWires (content p) n e)) (sym h)
         ∙ done-is (λ (f : Refusal). p) (λ (x : EditError). p) (storedIn p (cutContent (content p) n e v at))

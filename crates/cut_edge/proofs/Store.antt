@@ -3,6 +3,7 @@ use Prim.Native.Nat.{ℕ, suc, zero, _+_, _-_, _<_, _≤_}
 use mathlib.Core.Bool.{Bool, _&&_, true}
 use mathlib.Core.List.{List, [], _∷_, map}
 use mathlib.Core.Path.{_≡_, _∙_, ap, refl, sym}
+use native.Mathlib.Numerals.{add-one}
 use native.Mathlib.Omega.{arith}
 use lib.Dec.{ltb}
 use lib.Ieee.{Float}
@@ -13,17 +14,16 @@ use Rattle.curve.specs.Curves.{cutCurve}
 use Rattle.curve.specs.declared.Halves.{Halves}
 use Rattle.curve.specs.declared.Halves.the-variants.{Both}
 use Rattle.curve.specs.declared.Parameter.{Parameter}
-use Rattle.cut_edge.proofs.Answer.{accepted-are, after-fine, answer-cut, curve-span, faults-are, pattern-cut, refused-not, rooms, wires-are}
-use Rattle.cut_edge.proofs.Stored.{back-low, edge-at, extended, front-low, new-halved, new-named}
-use Rattle.cut_edge.proofs.Wires.{each-long}
+use Rattle.cut_edge.proofs.Answer.{accepted-are, answer-cut, faults-are, pattern-cut, refused-not, rooms, wires-are}
+use Rattle.cut_edge.proofs.Stored.{back-low, cut-stored, cutTables, edge-at, extended, front-low, new-halved, new-named}
 use Rattle.cut_edge.specs.Cutting.{cutIn, cutStored, withHalves}
 use Rattle.cut_edge_faults.specs.Flags.{cutsWhere, usesWhere}
-use Rattle.cut_edge_faults.specs.Judgement.{judgement, laterFaults}
+use Rattle.cut_edge_faults.specs.Judgement.{foundFaults, judgement}
 use Rattle.cut_edge_faults.specs.declared.Judgement.{Judgement}
 use Rattle.cut_edge_faults.specs.declared.Judgement.the-variants.{Accepted, Not as Judgement·Not}
 use Rattle.cut_edge_wires.specs.Halves.{Halved, cutFlagged}
 use Rattle.edge.proofs.Laws.{noEdge}
-use Rattle.edge.specs.Edges.{backNumber, edge, frontNumber, isSpan}
+use Rattle.edge.specs.Edges.{backNumber, edge, frontNumber}
 use Rattle.edge.specs.declared.Curve.{Curve}
 use Rattle.edge.specs.declared.Edge.{Edge}
 use Rattle.edit_answers.specs.Answers.{judged}
@@ -36,19 +36,23 @@ use Rattle.lists.proofs.Sets.{take-sets}
 use Rattle.lists.specs.Lists.{flat, has, split, sum}
 use Rattle.pattern.specs.Checks.{patternFaults}
 use Rattle.pattern.specs.Contents.{Pattern, content}
+use Rattle.shell_edits.proofs.CutTheorem.{cut-pattern-accepted}
+use Rattle.shell_edits.proofs.Wires.{each-long}
 use Rattle.shell_edits.specs.Answers.{afterCut, cutAnswer}
 use Rattle.shell_edits.specs.Edits.{cutFaults, cutWires, eachWire, edgeAt}
-use Rattle.shell_wires.proofs.Facts.{Fine, fine, uses-named, wires-sum}
+use Rattle.shell_edits.specs.NewEdges.{halfEdges}
+use Rattle.shell_wires.proofs.Facts.{Fine, uses-named, wires-sum}
+use Rattle.shell_wires.proofs.Held.{held-fine, held-listed}
 use Rattle.shell_wires.specs.Lent.{Listed}
 use Rattle.shell_wires.specs.ShellWires.{marksOf}
 use Rattle.shell_wires.specs.declared.Marks.{Marks}
 use Rattle.store.proofs.Parts.{part-at, part-long}
-use Rattle.store.proofs.View.{held-backs, held-fronts, held-full, held-seven, held-wire-counts}
+use Rattle.store.proofs.View.{held-backs, held-fronts}
 use Rattle.store.specs.Store.{countTable, edgeIn, held, listingTable, shellTable, useTable, wireTable}
 use Rattle.vertex.specs.declared.VertexID.{VertexID}
-use Rattle.wire.specs.Wires.{Named, points}
+use Rattle.wire.specs.Named.{Named}
+use Rattle.wire.specs.Wires.{points}
 use Rattle.store.specs.Columns.{backTable, faceTable, frontTable, withCounts, withEdges, withUses, withWires}
-use Rattle.curve.specs.Spans.{areSpans}
 
 map-set {ℓ} : {A B : Type ℓ} (f : A → B) (l : List A) (i : ℕ) (x : A) → map f (set l i x) ≡ set (map f l) i (f x)
 map-set f [] i x = refl
@@ -59,16 +63,18 @@ map-set {B = B} f (y ∷ l) (suc i) x = ap (λ (r : List B). f y ∷ r) (map-set
 pub halves-view : (t : List ℕ) (spans : List Float) (p₁ p₂ : Pattern) (a e : ℕ) (v : VertexID) (k l : Curve) (i : ℕ) (d h₁ h₂ : Edge)
     → i ≡ e → d ≡ edgeIn t spans i → h₁ ≡ edge (d .front) v k → h₂ ≡ edge v (d .back) l
     → p₁ ≡ withEdges (held t spans) (set (held t spans .edges) a h₁) → p₂ ≡ withEdges p₁ (set (p₁ .edges) (a + 1) h₂)
-    → p₂ ≡ withHalves (held t spans) a (edge (edgeIn t spans e .front) v k) (edge v (edgeIn t spans e .back) l)
-halves-view t spans p₁ p₂ a e v k l i d h₁ h₂ hi hd e₁ e₂ s₁ s₂ = s₂ ∙ rw (s₁, e₁, e₂, hd, hi)
+    → p₂ ≡ withHalves (held t spans) a (halfEdges (edgeIn t spans e) (v .0) (Both k l))
+halves-view t spans p₁ p₂ a e v k l i d h₁ h₂ hi hd e₁ e₂ s₁ s₂ = s₂ ∙ rw (s₁, e₁, e₂, hd, hi, add-one a)
 
 -- the stores of a cut one after the other
-pub cut-view : (p p₁ p₂ p₃ p₄ p₅ : Pattern) (a total : ℕ) (h₁ h₂ : Edge) (ws : List (List ℕ)) (us ls : List ℕ)
-    → a ≡ getD (p .counts) 1 0 → total ≡ length (flat ws) → us ≡ flat ws → ls ≡ map length ws
-    → p₁ ≡ withHalves p a h₁ h₂ → p₂ ≡ withUses p₁ (sets (p₁ .uses) 0 us) → p₃ ≡ withWires p₂ (sets (p₂ .wires) 0 ls)
+pub cut-view : (p p₁ p₂ p₃ p₄ p₅ : Pattern) → Fine p → (a total : ℕ) (h₁ h₂ : Edge) (ws : List (List ℕ)) (us ls : List ℕ)
+    → a ≡ getD (p .counts) 1 0 → total ≡ length (flat ws) → us ≡ flat ws → ls ≡ map length ws → length (map length ws) ≡ getD (p .counts) 3 0
+    → p₁ ≡ withHalves p a (h₁ ∷ h₂ ∷ []) → p₂ ≡ withUses p₁ (sets (p₁ .uses) 0 us) → p₃ ≡ withWires p₂ (sets (p₂ .wires) 0 ls)
     → p₄ ≡ withCounts p₃ (set (p₃ .counts) 1 (a + 2)) → p₅ ≡ withCounts p₄ (set (p₄ .counts) 2 total)
-    → p₅ ≡ cutStored p h₁ h₂ ws
-cut-view p p₁ p₂ p₃ p₄ p₅ a total h₁ h₂ ws us ls ha ht hu hl e u w b c = c ∙ rw (b, w, u, e, hu, hl, ht, ha)
+    → p₅ ≡ cutStored p (h₁ ∷ h₂ ∷ []) ws
+cut-view p p₁ p₂ p₃ p₄ p₅ s a total h₁ h₂ ws us ls ha ht hu hl long e u w b c =
+    let is : p₅ ≡ cutTables p h₁ h₂ ws = c ∙ rw (b, w, u, e, hu, hl, ht, ha) in
+    is ∙ cut-stored p s h₁ h₂ ws long
 
 -- the wires ws written to lists of zeros: what is then stored of these
 pub record Written (ws : List (List ℕ)) (wired total : ℕ) (out sizes : List ℕ) : Type 0 where
@@ -77,6 +83,7 @@ pub record Written (ws : List (List ℕ)) (wired total : ℕ) (out sizes : List 
   pub wired-few : wired ≤ 1024
   pub wide : length sizes ≡ 1024
   pub size : total ≡ length (flat ws)
+  pub wired-all : length (map length ws) ≡ wired
   pub uses : take (total - 0) out ≡ flat ws
   pub wires : take (wired - 0) sizes ≡ map length ws
 
@@ -93,6 +100,7 @@ written ws wired total out sizes hw few₁ few₂ ht ho hs =
       wired-few = few₁;
       wide = ap length hs ∙ length-sets {A = ℕ} (replicate 1024 0) 0 (map length ws) ∙ zeros′;
       size = ht;
+      wired-all = hw;
       uses = rw (z, ho) (take-sets (replicate 4096 0) (flat ws) total (sym ht) (omega arith));
       wires = rw (z′, hs) (take-sets (replicate 1024 0) (map length ws) wired hw (omega arith));
     }
@@ -121,36 +129,28 @@ module _ {t : List ℕ} {spans : List Float} (sound : Sound t spans) where
   abbrev w : ℕ
   w = getD (countTable t) 3 0
 
-  pub held-fine : Fine P
-  held-fine = fine P (sound .ok) (held-seven t spans (sound .long)) (held-full t spans (sound .long))
+  pub sound-fine : Fine P
+  sound-fine = held-fine t spans (sound .long) (sound .ok)
 
-  pub held-listed : Listed P (countTable t) (faceTable t) (shellTable t) (listingTable t)
-  held-listed = record {
-    ok = sound .ok;
-    seven = held-seven t spans (sound .long);
-    full = held-full t spans (sound .long);
-    counts-are = refl;
-    faces-are = held-wire-counts t spans (sound .long);
-    shells-are = refl;
-    listings-are = refl;
-  }
+  pub sound-listed : Listed P (countTable t) (faceTable t) (shellTable t) (listingTable t)
+  sound-listed = held-listed t spans (sound .long) (sound .ok)
 
   pub held-edge-at : (e : ℕ) → e < a → edgeIn t spans e ≡ edgeAt (content P) e
-  held-edge-at e h = sym (edge-at P held-fine e h ∙ getD-tabulate 1024 (edgeIn t spans) e noEdge (omega (arith, h, held-fine .limits .edges)))
+  held-edge-at e h = sym (edge-at P sound-fine e h ∙ getD-tabulate 1024 (edgeIn t spans) e noEdge (omega (arith, h, sound-fine .limits .edges)))
 
   -- what the counts are at most
   pub held-rooms : (u ≤ length (useTable t)) × (u ≤ 4096) × (w ≤ length (wireTable t)) × (w ≤ 1024) × (a ≤ length (frontTable t)) × (a ≤ length (backTable t)) × (a ≤ 1024)
   held-rooms =
-      let s = held-fine in
+      let s = sound-fine in
       let fronts = part-long t 8 1024 (omega (arith, sound .long)) in
       let backs = part-long t 1032 1024 (omega (arith, sound .long)) in
       (omega (arith, s .limits .uses, s .full .uses), s .limits .uses, omega (arith, s .limits .wires, s .full .wires), s .limits .wires, omega (arith, s .limits .edges, fronts), omega (arith, s .limits .edges, backs), s .limits .edges)
 
   held-named : Named (take a (frontTable t)) (take a (backTable t)) (take u (useTable t))
-  held-named = rw (held-fronts t spans (sound .long), held-backs t spans (sound .long)) (uses-named P held-fine)
+  held-named = rw (held-fronts t spans (sound .long), held-backs t spans (sound .long)) (uses-named P sound-fine)
 
   held-sum : sum (take w (wireTable t)) ≡ u
-  held-sum = wires-sum P held-fine
+  held-sum = wires-sum P sound-fine
 
   module _ {n e v : ℕ} (at : Parameter) (here : Here t n e v) where
     held-here : (ltb n (getD (countTable t) 5 0) && ltb e a && ltb v (getD (countTable t) 0 0)) ≡ true
@@ -164,11 +164,10 @@ module _ {t : List ℕ} {spans : List Float} (sound : Sound t spans) where
 
     -- refused by the judgement
     pub held-refused {ℓ} : {A : Type ℓ} (refused : Refusal → A) (refuse : EditError → A) (done : A) {x : EditError} → judgement faults halves ≡ Judgement·Not x → refuse x ≡ judged (patternFaults P) faults refused refuse done
-    held-refused refused refuse done {x} j = refused-not P held-fine n e v at held-here refused refuse done x j
+    held-refused refused refuse done {x} j = refused-not P sound-fine n e v at held-here refused refuse done x j
 
-    -- cutting a span gives spans
-    pub held-after : {d : Edge} → d ≡ edgeAt (content P) e → (isSpan (d .curve) ≡ true → areSpans (cutCurve (d .curve) at) ≡ true) → patternFaults (afterCut P n e v at) ≡ []
-    held-after is spans = after-fine P held-fine n e v at held-here (rw is at spans (curve-span P held-fine n e v at held-here))
+    pub held-after : patternFaults (afterCut P n e v at) ≡ []
+    held-after = cut-pattern-accepted P n e v at (sound .ok) (sound-fine .full)
 
     module _ {m : Marks} (marked : m ≡ marksOf P n) where
       -- the tables as they are lent
@@ -181,12 +180,12 @@ module _ {t : List ℕ} {spans : List Float} (sound : Sound t spans) where
             rw (hc, hu, hw, hf, hb) ((r .0, r .1, r .2, omega (arith, r .3), r .3, r .4, r .5, r .6), (held-named, held-sum))
 
         pub held-judged : {h : Halves} {d : Edge} → d ≡ edgeAt (content P) e → h ≡ cutCurve (d .curve) at → {r : Judgement}
-            → r ≡ judgement (laterFaults (m .shared) (has v (points (take (getD counts 1 0) fronts) (take (getD counts 1 0) backs) (usesWhere (m .wires) 0 (split (take (getD counts 3 0) wires) (take (getD counts 2 0) uses))))) (cutsWhere (m .wires) e 0 (split (take (getD counts 3 0) wires) (take (getD counts 2 0) uses))) h (getD counts 1 0) (getD counts 2 0)) h
+            → r ≡ judgement (foundFaults (m .shared) (has v (points (take (getD counts 1 0) fronts) (take (getD counts 1 0) backs) (usesWhere (m .wires) 0 (split (take (getD counts 3 0) wires) (take (getD counts 2 0) uses))))) (cutsWhere (m .wires) e 0 (split (take (getD counts 3 0) wires) (take (getD counts 2 0) uses))) h (getD counts 1 0) (getD counts 2 0)) h
             → r ≡ judgement faults halves
-        held-judged is cut j = j ∙ rw (marked, cut, is, hc, hu, hw, hf, hb, held-fronts t spans (sound .long), held-backs t spans (sound .long), faults-are P held-fine n e v at held-here)
+        held-judged is cut j = j ∙ rw (marked, cut, is, hc, hu, hw, hf, hb, held-fronts t spans (sound .long), held-backs t spans (sound .long), faults-are P sound-fine n e v at held-here)
 
       held-cut : cutIn (m .wires) e t ≡ cutWires (content P) n e
-      held-cut = rw (marked, wires-are P held-fine n e v at)
+      held-cut = rw (marked, wires-are P sound-fine n e v at)
 
       -- accepted by the judgement
       module _ {k l : Curve} (accepted : judgement faults halves ≡ Accepted k l) where
@@ -194,27 +193,27 @@ module _ {t : List ℕ} {spans : List Float} (sound : Sound t spans) where
         parts = accepted-are faults halves k l accepted
 
         pub accepted-room : (a + 2 ≤ 1024) × (length (flat (cutIn (m .wires) e t)) ≤ 4096)
-        accepted-room = rw held-cut (rooms P held-fine n e v at held-here (parts .0))
+        accepted-room = rw held-cut (rooms P sound-fine n e v at held-here (parts .0))
 
         pub accepted-answer : Cut (record { 0 = a }) (record { 0 = a + 1 }) ≡ cutAnswer P n e v at
-        accepted-answer = answer-cut P held-fine n e v at (parts .0)
+        accepted-answer = answer-cut P sound-fine n e v at (parts .0)
 
-        pub accepted-pattern : cutStored P (edge (edgeIn t spans e .front) (record { 0 = v }) k) (edge (record { 0 = v }) (edgeIn t spans e .back) l) (cutIn (m .wires) e t) ≡ afterCut P n e v at
+        pub accepted-pattern : cutStored P (halfEdges (edgeIn t spans e) v (Both k l)) (cutIn (m .wires) e t) ≡ afterCut P n e v at
         accepted-pattern =
-            ap (λ (d : Edge). cutStored P (edge (d .front) (record { 0 = v }) k) (edge (record { 0 = v }) (d .back) l) (cutIn (m .wires) e t)) (held-edge-at e (here .edge))
-            ∙ rw held-cut (pattern-cut P held-fine n e v at (parts .0) k l (parts .1))
+            ap (λ (d : Edge). cutStored P (halfEdges d v (Both k l)) (cutIn (m .wires) e t)) (held-edge-at e (here .edge))
+            ∙ rw held-cut (pattern-cut P sound-fine n e v at (parts .0) k l (parts .1))
 
   -- the halves of edge e stored after the edges, with the counts as they were read
   module _ (e : ℕ) (v : VertexID) (k l : Curve) (here : e < a) (point : v .0 < getD (countTable t) 0 0) (room : a + 2 ≤ 1024) {counts : List ℕ} (hc : counts ≡ countTable t)
-      (t₂ : List ℕ) (spans₂ : List Float) (long₂ : length t₂ ≡ 12312) (stored : held t₂ spans₂ ≡ withHalves P (getD counts 1 0) (edge (edgeIn t spans e .front) v k) (edge v (edgeIn t spans e .back) l)) where
+      (t₂ : List ℕ) (spans₂ : List Float) (long₂ : length t₂ ≡ 12312) (stored : held t₂ spans₂ ≡ withHalves P (getD counts 1 0) (halfEdges (edgeIn t spans e) (v .0) (Both k l))) where
     abbrev h₁ : Edge
     h₁ = edge (edgeIn t spans e .front) v k
 
     abbrev h₂ : Edge
     h₂ = edge v (edgeIn t spans e .back) l
 
-    is : held t₂ spans₂ ≡ withHalves P a h₁ h₂
-    is = stored ∙ rw hc
+    is : held t₂ spans₂ ≡ withEdges P (set (set (P .edges) a h₁) (a + 1) h₂)
+    is = stored ∙ rw (hc, add-one a)
 
     fronts-then : frontTable t₂ ≡ extended (frontTable t) a (getD (frontTable t) e 0) (v .0)
     fronts-then =
@@ -240,7 +239,7 @@ module _ {t : List ℕ} {spans : List Float} (sound : Sound t spans) where
     halves-are : Halved (frontTable t₂) (backTable t₂) e a
     halves-are =
         rw (fronts-then, backs-then)
-        (new-halved (frontTable t) (backTable t) a e (v .0) here room (part-long t 8 1024 (omega (arith, sound .long))) (part-long t 1032 1024 (omega (arith, sound .long))) (omega (arith, held-fine .limits .points)) (rw (held-fronts t spans (sound .long)) (front-low P held-fine e here)) (rw (held-backs t spans (sound .long)) (back-low P held-fine e here)))
+        (new-halved (frontTable t) (backTable t) a e (v .0) here room (part-long t 8 1024 (omega (arith, sound .long))) (part-long t 1032 1024 (omega (arith, sound .long))) (omega (arith, sound-fine .limits .points)) (rw (held-fronts t spans (sound .long)) (front-low P sound-fine e here)) (rw (held-backs t spans (sound .long)) (back-low P sound-fine e here)))
 
     -- what writing the wires asks, of the tables as they are lent then
     module _ (flags : List Bool) {uses wires : List ℕ} (hu : uses ≡ useTable t₂) (hw : wires ≡ wireTable t₂) where

@@ -2,10 +2,9 @@
 use Prim.Native.Nat.{_+_, _<_, _≤_, ℕ}
 use mathlib.Core.List.{List, [], _∷_, map}
 use mathlib.Core.Path.{_∙_, _≡_, ap, sym}
-use native.Mathlib.Numerals.{add-one}
 use native.Mathlib.Omega.{arith}
 use lib.ListN.{getD, length, length-set, length-take, set, take}
-use lib.Seq.{getD-set-other, getD-set-same, getD-take, set-getD}
+use lib.Seq.{getD-set-other, getD-set-same, getD-take, set-getD, sets}
 use Rattle.cut_edge.specs.Cutting.{cutStored}
 use Rattle.cut_edge_wires.proofs.Halves.{against, along, turned-small}
 use Rattle.cut_edge_wires.specs.Halves.{Halved}
@@ -15,10 +14,10 @@ use Rattle.edge.specs.Uses.{edgeNumber, frontOf, turned}
 use Rattle.edge.specs.declared.Edge.{Edge}
 use Rattle.lists.proofs.Flat.{getD-any}
 use Rattle.lists.specs.Lists.{flat}
-use Rattle.pattern.specs.Contents.{Pattern, content, storedIn, zeroEdge}
-use Rattle.shell_edits.specs.Edits.{edgeAt, edited}
+use Rattle.pattern.specs.Contents.{Pattern, content, zeroEdge}
+use Rattle.shell_edits.specs.Edits.{edgeAt}
 use Rattle.shell_wires.proofs.Facts.{Fine, front-point, front-taken, stored-edited}
-use Rattle.wire.specs.Wires.{Named}
+use Rattle.wire.specs.Named.{Named}
 
 -- a list with two elements stored after the first a
 module _ (xs : List ℕ) (a x y : ℕ) where
@@ -113,12 +112,24 @@ module _ (p : Pattern) (s : Fine p) (e : ℕ) (here : e < getD (p .counts) 1 0) 
       omega (arith, against fronts backs e small, front-point p s (turned e) (omega (arith, n)), s .limits .points)
 
 -- the pattern after the cut, as the code makes it
+abbrev pub cutTables : Pattern → Edge → Edge → List (List ℕ) → Pattern
+cutTables p h₁ h₂ ws = record {
+  counts = set (set (p .counts) 1 (getD (p .counts) 1 0 + 2)) 2 (length (flat ws));
+  points = p .points;
+  edges = sets (p .edges) (getD (p .counts) 1 0) (h₁ ∷ h₂ ∷ []);
+  uses = sets (p .uses) 0 (flat ws);
+  wires = sets (p .wires) 0 (map length ws);
+  faces = p .faces;
+  shells = p .shells;
+  listings = p .listings;
+}
+
 pub cut-stored : (p : Pattern) (s : Fine p) (h₁ h₂ : Edge) (ws : List (List ℕ)) → length (map length ws) ≡ getD (p .counts) 3 0
-    → cutStored p h₁ h₂ ws ≡ storedIn p (edited (content p) (h₁ ∷ h₂ ∷ []) (flat ws) (map length ws))
+    → cutTables p h₁ h₂ ws ≡ cutStored p (h₁ ∷ h₂ ∷ []) ws
 cut-stored p s h₁ h₂ ws long =
     let a = getD (p .counts) 1 0 in
     let two = set (set (p .counts) 1 (a + 2)) 2 (length (flat ws)) in
     let third : getD two 3 0 ≡ getD (p .counts) 3 0 =
     getD-set-other (set (p .counts) 1 (a + 2)) 2 3 (length (flat ws)) 0 (λ e. omega arith) ∙ getD-set-other (p .counts) 1 3 (a + 2) 0 (λ e. omega arith) in
     let kept : set two 3 (length (map length ws)) ≡ two = ap (set two 3) (long ∙ sym third) ∙ set-getD two 3 0 in
-    sym (stored-edited p s (h₁ ∷ h₂ ∷ []) (flat ws) (map length ws) ∙ rw (kept, add-one a))
+    sym (stored-edited p s (h₁ ∷ h₂ ∷ []) (flat ws) (map length ws) ∙ rw kept)

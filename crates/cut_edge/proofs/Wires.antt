@@ -138,8 +138,3 @@ pub each-same : (f g : ℕ → List ℕ → List ℕ) (k : ℕ) (wires : List (L
 unfolding eachWire
 each-same f g k [] h = refl
 each-same f g k (us ∷ wires) h = rw (h k us (omega arith), each-same f g (suc k) wires (λ w vs l. h w vs (omega arith)))
-
-pub each-long : (f : ℕ → List ℕ → List ℕ) (k : ℕ) (wires : List (List ℕ)) → length (eachWire f k wires) ≡ length wires
-unfolding eachWire
-each-long f k [] = refl
-each-long f k (us ∷ wires) = ap suc (each-long f (suc k) wires)

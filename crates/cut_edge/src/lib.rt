@@ -4,10 +4,11 @@ ghost use mathlib.Core.Path.{_≡_};
 ghost use Prim.Native.Nat.{_+_, _<_, _≤_};
 ghost use lib.ListN.{getD, length};
 ghost use Rattle.lists.specs.Lists.{flat};
-ghost use Rattle.edge.specs.Edges.{edge};
+ghost use Rattle.curve.specs.declared.Halves.the-variants.{Both};
 ghost use Rattle.edit_answers.specs.declared.CutAnswer.the-variants.{Cut};
 ghost use Rattle.pattern.specs.Checks.{patternFaults};
 ghost use Rattle.shell_edits.specs.Answers.{afterCut, cutAnswer};
+ghost use Rattle.shell_edits.specs.NewEdges.{halfEdges};
 ghost use Rattle.store.specs.Store.{countTable, edgeIn, held};
 ghost use Rattle.cut_edge.specs.Cutting.{cutIn, cutStored, withHalves};
 use curve::Parameter;
@@ -54,7 +55,7 @@ fn store_halves(
     l: Curve,
 )
     requires { ⌜ (a + 2 ≤ 1024) × (e .0 < 1024) ⌝ }
-    ensures { λ _. ⌜ held (now (t .exit)) (now (spans .exit)) ≡ withHalves (held (now (t .entry)) (now (spans .entry))) a (edge (edgeIn (now (t .entry)) (now (spans .entry)) (e .0) .front) v k) (edge v (edgeIn (now (t .entry)) (now (spans .entry)) (e .0) .back) l) ⌝ }
+    ensures { λ _. ⌜ held (now (t .exit)) (now (spans .exit)) ≡ withHalves (held (now (t .entry)) (now (spans .entry))) a (halfEdges (edgeIn (now (t .entry)) (now (spans .entry)) (e .0)) (v .0) (Both k l)) ⌝ }
 {
     let d = edge_in(t, spans, index(e.0));
     let front = d.front;
@@ -77,7 +78,7 @@ fn store_cut(
     requires { ⌜ (patternFaults (held (now t) (now spans)) ≡ []) × (e .0 < getD (countTable (now t)) 1 0) × (v .0 < getD (countTable (now t)) 0 0) × (length (now flags) ≡ 1024) ⌝ }
     requires { ⌜ (getD (countTable (now t)) 1 0 + 2 ≤ 1024) × (length (flat (cutIn (now flags) (e .0) (now t))) ≤ 4096) ⌝ }
     ensures { λ r. ⌜ r ≡ Cut (record { 0 = getD (countTable (now (t .entry))) 1 0 }) (record { 0 = getD (countTable (now (t .entry))) 1 0 + 1 }) ⌝ }
-    ensures { λ _. ⌜ held (now (t .exit)) (now (spans .exit)) ≡ cutStored (held (now (t .entry)) (now (spans .entry))) (edge (edgeIn (now (t .entry)) (now (spans .entry)) (e .0) .front) v k) (edge v (edgeIn (now (t .entry)) (now (spans .entry)) (e .0) .back) l) (cutIn (now (flags .entry)) (e .0) (now (t .entry))) ⌝ }
+    ensures { λ _. ⌜ held (now (t .exit)) (now (spans .exit)) ≡ cutStored (held (now (t .entry)) (now (spans .entry))) (halfEdges (edgeIn (now (t .entry)) (now (spans .entry)) (e .0)) (v .0) (Both k l)) (cutIn (now (flags .entry)) (e .0) (now (t .entry))) ⌝ }
 {
     tables_known(t);
     let counts = counts_in(t);

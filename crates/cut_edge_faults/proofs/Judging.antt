@@ -7,7 +7,7 @@ use lib.Dec.{ltb}
 use borrow.Author.Tests.{le-leb, le-ltb, lt-leb, lt-ltb}
 use Rattle.curve.specs.declared.Halves.{Halves}
 use Rattle.curve.specs.declared.Halves.the-variants.{Both, Refused}
-use Rattle.cut_edge_faults.specs.Judgement.{judgement, laterFaults}
+use Rattle.cut_edge_faults.specs.Judgement.{foundFaults, judgement}
 use Rattle.cut_edge_faults.specs.declared.Judgement.{Judgement}
 use Rattle.cut_edge_faults.specs.declared.Judgement.the-variants.{Accepted, Not}
 use Rattle.edge.specs.declared.Curve.{Curve}
@@ -16,7 +16,7 @@ use Rattle.edit_answers.specs.declared.EditError.the-variants.{CurveRefuses, Ed
 -- as the code judges
 module _ (shared met : Bool) (cuts : ℕ) (halves : Halves) (edges uses : ℕ) where
   abbrev answer : Judgement
-  answer = judgement (laterFaults shared met cuts halves edges uses) halves
+  answer = judgement (foundFaults shared met cuts halves edges uses) halves
 
   pub judge-shared : shared ≡ true → Not SharedFace ≡ answer
   judge-shared s = sym (rw s)

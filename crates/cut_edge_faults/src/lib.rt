@@ -8,9 +8,10 @@ ghost use lib.Dec.{ltb};
 ghost use lib.ListN.{length, take};
 ghost use Rattle.lists.specs.Lists.{has, pick, split, sum};
 ghost use Rattle.edge.specs.Uses.{edgeNumber};
-ghost use Rattle.wire.specs.Wires.{Named, points};
+ghost use Rattle.wire.specs.Named.{Named};
+ghost use Rattle.wire.specs.Wires.{points};
 ghost use Rattle.cut_edge_faults.specs.Flags.{cutsWhere, usesWhere};
-ghost use Rattle.cut_edge_faults.specs.Judgement.{judgement, laterFaults};
+ghost use Rattle.cut_edge_faults.specs.Judgement.{foundFaults, judgement};
 use curve::Halves;
 use edge::Curve;
 use edge::EdgeID;
@@ -113,7 +114,7 @@ fn judge(
     ucount: usize,
 ) -> Judgement
     requires { ⌜ (cuts ≤ 1024) × (ecount ≤ 1024) × (ucount ≤ 4096) ⌝ }
-    ensures { λ r. ⌜ r ≡ judgement (laterFaults shared met cuts halves ecount ucount) halves ⌝ }
+    ensures { λ r. ⌜ r ≡ judgement (foundFaults shared met cuts halves ecount ucount) halves ⌝ }
 {
     if shared {
         return Judgement::Not(EditError::SharedFace);
@@ -156,7 +157,7 @@ pub fn judge_cut<'a, 'b>(
     requires { ⌜ (ucount ≤ length (now uses)) × (ucount ≤ 4096) × (wcount ≤ length (now wires)) × (wcount ≤ length (now flags)) × (wcount ≤ 1024) × (ecount ≤ length (now fronts)) × (ecount ≤ length (now backs)) × (ecount ≤ 1024) ⌝ }
     requires { ⌜ Named (take ecount (now fronts)) (take ecount (now backs)) (take ucount (now uses)) ⌝ }
     requires { ⌜ sum (take wcount (now wires)) ≡ ucount ⌝ }
-    ensures { λ r. ⌜ r ≡ judgement (laterFaults shared (has (v .0) (points (take ecount (now (fronts .entry))) (take ecount (now (backs .entry))) (usesWhere (now (flags .entry)) 0 (split (take wcount (now (wires .entry))) (take ucount (now (uses .entry))))))) (cutsWhere (now (flags .entry)) (e .0) 0 (split (take wcount (now (wires .entry))) (take ucount (now (uses .entry))))) halves ecount ucount) halves ⌝ }
+    ensures { λ r. ⌜ r ≡ judgement (foundFaults shared (has (v .0) (points (take ecount (now (fronts .entry))) (take ecount (now (backs .entry))) (usesWhere (now (flags .entry)) 0 (split (take wcount (now (wires .entry))) (take ucount (now (uses .entry))))))) (cutsWhere (now (flags .entry)) (e .0) 0 (split (take wcount (now (wires .entry))) (take ucount (now (uses .entry))))) halves ecount ucount) halves ⌝ }
 {
     let met = meets_vertex(
         &uses[0..ucount],

@@ -16,7 +16,7 @@ use Rattle.lists.proofs.Parts.{all-place}
 use Rattle.lists.specs.Lists.{pick}
 use Rattle.shell_edits.specs.Edits.{halvesOf}
 use Rattle.wire_swaps.specs.Swaps.{sameEnds}
-use Rattle.wire.specs.Wires.{Named}
+use Rattle.wire.specs.Named.{Named}
 
 pub halves-long : (a u : ℕ) → length (halvesOf a u) ≡ 2
 halves-long a u =

@@ -1,79 +1,35 @@
--- The cut of an outline is the cut of the face that has it; the refusals before it, in sequence; what a pattern without fault says.
+-- The refusals before the cut of an outline, in sequence; the cut of an outline is the cut of the face that has it; what a pattern without fault says.
 use Prim.Native.Nat.{_<_, _≤_, ℕ}
 use Prim.{⊥}
 use mathlib.Core.Bool.{_&&_, false, true}
-use mathlib.Core.List.{List, [], _++_, _∷_, append-nil, map}
-use mathlib.Core.Logic.{⊎-elim}
+use mathlib.Core.List.{List, []}
 use mathlib.Core.Path.{_∙_, _≡_, refl, sym}
 use native.Mathlib.Omega.{arith}
-use lib.Dec.{ltb}
 use lib.ListN.{getD, length, length-map}
 use borrow.Author.Tests.{eq-eqb, ne-eqb}
-use Rattle.cut_face_outline.specs.Cuts.{begins, cutAlong, cutOutline, ends, fromEnd, stop}
+use Rattle.cut_face_outline.specs.Cuts.{cutOutline}
 use Rattle.cut_face_results.proofs.Results.{Owes}
-use Rattle.cut_face_results.specs.Results.{PointEnds, cutAfter, cutTwo, firstOf, keeps, outcome, secondOf}
+use Rattle.cut_face_results.specs.Results.{PointEnds, outcome}
 use Rattle.edge.specs.Edges.{frontNumber}
-use Rattle.edge.specs.Uses.{backOf, frontOf}
 use Rattle.edit_answers.specs.declared.FaceAnswer.{FaceAnswer}
 use Rattle.edit_answers.specs.declared.FaceAnswer.the-variants.{Not}
 use Rattle.edit_answers.specs.declared.FaceEditError.{FaceEditError}
-use Rattle.edit_answers.specs.declared.FaceEditError.the-variants.{EndsNotOnWire, FaceRule, NoSpace, NotOneWire, Unnamed}
-use Rattle.face_edits.proofs.CutTheorem.{has-begun}
-use Rattle.face_edits.specs.FaceEdits.{areUses, backsIn, boundaries, cutFaceFaults, cutInTwo, endsOn, firstCut, fits, frontsIn, isFace, keepsRule, nameEdges, outlineOf, secondCut}
+use Rattle.edit_answers.specs.declared.FaceEditError.the-variants.{NotOneWire, Unnamed}
+use Rattle.face_edits.proofs.CutTheorem.{flat-only}
+use Rattle.face_edits.specs.FaceEdits.{areUses, backsIn, boundaries, cutFaceFaults, cutInTwo, frontsIn, isFace, nameEdges, outlineOf}
 use Rattle.face_parts.proofs.Facts.{backs-count, face-named, fronts-count, uses-few, uses-named}
 use Rattle.face_parts.proofs.Owed.{Owed}
-use Rattle.lists.proofs.Laws.{cases}
-use Rattle.lists.specs.Lists.{flat, has, unless}
+use Rattle.lists.specs.Lists.{flat}
 use Rattle.pattern.proofs.Counts.{points-counted}
 use Rattle.pattern.proofs.Named.{back-named, front-named}
 use Rattle.pattern.proofs.Passed.{records-passed}
 use Rattle.pattern.specs.Checks.{patternFaults}
 use Rattle.pattern.specs.Contents.{Content, Pattern, content}
 use Rattle.shell.specs.Shells.{faceNumber}
-use Rattle.shell_edits.specs.Edits.{placeIn}
 use Rattle.shell_wires.proofs.Facts.{Fine, records-fine}
-use Rattle.wire.specs.Wires.{endFrom}
 use Rattle.edge.specs.Below.{EdgesBelow}
 
--- ---- the cut of an outline, as the definitions have it
-module _ (c : Content) (os us : List ℕ) (m n : ℕ) where
-  abbrev wholeFaults : List FaceEditError
-  wholeFaults =
-      unless (endsOn c os us) EndsNotOnWire
-      ++ unless (keepsRule c (firstCut c os us ∷ []) && keepsRule c (secondCut c os us ∷ [])) FaceRule
-      ++ unless (fits (firstCut c os us ∷ secondCut c os us ∷ []) m n) NoSpace
-
-  abbrev fs : List ℕ
-  fs = frontsIn c
-
-  abbrev bs : List ℕ
-  bs = backsIn c
-
-  front-found : has (begins fs bs us) (map (backOf fs bs) (fromEnd fs bs os us)) ≡ has (begins fs bs us) (map (backOf fs bs) os)
-  unfolding fromEnd
-  front-found = has-begun (begins fs bs us) (backOf fs bs) (placeIn (endFrom bs fs 0 (ends fs bs us) os)) os
-
-  whole-is : cutOutline fs bs os us m n ≡ outcome wholeFaults (firstCut c os us ∷ secondCut c os us ∷ [])
-  unfolding cutOutline cutAlong cutAfter cutTwo firstOf secondOf fromEnd stop keeps outcome
-  whole-is =
-      let t = ltb 0 (length us) && has (ends fs bs us) (map (frontOf fs bs) os) in
-      let s = has (begins fs bs us) (map (backOf fs bs) os) in
-      ⊎-elim
-      (λ (e : t ≡ true).
-      ⊎-elim
-      (λ (d : s ≡ true). rw (e, front-found, d))
-      (λ (d : s ≡ false). rw (e, front-found, d))
-      (cases s))
-      (λ (e : t ≡ false). rw e)
-      (cases t)
-
 -- ---- the answer on a face
-
-flat-only : (ws : List (List ℕ)) → length ws ≡ 1 → flat ws ≡ getD ws 0 []
-unfolding flat
-flat-only [] h = absurd (omega arith)
-flat-only (w ∷ []) h = append-nil w
-flat-only (w ∷ v ∷ ws) h = absurd (omega arith)
 
 module _ (p : Pattern) (f : ℕ) (us uses lens : List ℕ) (ok : patternFaults p ≡ []) where
   abbrev c : Content
@@ -99,11 +55,11 @@ module _ (p : Pattern) (f : ℕ) (us uses lens : List ℕ) (ok : patternFaults p
 
     pub cut-owed : length (boundaries c f) ≡ 1 → (fronts backs own : List ℕ) (r : FaceAnswer) (uses′ lens′ : List ℕ) → fronts ≡ frontsIn c → backs ≡ backsIn c → own ≡ flat (boundaries c f)
         → Owes (cutOutline fronts backs own us m k) r uses uses′ lens lens′ → Owed p es (cutInTwo c f us) uses lens r uses′ lens′
-    unfolding outcome
+    unfolding cutOutline outcome
     cut-owed one fronts backs own r uses′ lens′ ef eb eo o =
         let e = eq-eqb (length (boundaries c f)) 1 one in
         let is : own ≡ outlineOf c f = eo ∙ flat-only (boundaries c f) one in
-        rw (ok, named, e) (rw (ef, eb, is, whole-is c (outlineOf c f) us m k) at o)
+        rw (ok, named, e) (rw (ef, eb, is) at o)
 
 -- ---- what a pattern without fault says
 

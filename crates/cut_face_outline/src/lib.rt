@@ -5,8 +5,10 @@ ghost use Prim.Native.Nat.{_<_, _≤_};
 ghost use lib.ListN.{length, take};
 ghost use lib.Seq.{sets};
 ghost use Rattle.lists.specs.Lists.{flat};
-ghost use Rattle.wire.specs.Wires.{Named, endFrom};
-ghost use Rattle.cut_face_outline.specs.Cuts.{begins, cutAlong, cutOutline, ends, rotatedTo};
+ghost use Rattle.wire.specs.Named.{Named};
+ghost use Rattle.wire.specs.Wires.{endFrom};
+ghost use Rattle.face_edits.specs.FaceEdits.{firstPoint, fromPlace, lastPoint};
+ghost use Rattle.cut_face_outline.specs.Cuts.{cutAlong, cutOutline};
 ghost use Rattle.cut_face_results.specs.Results.{PointEnds};
 ghost use Rattle.edge.specs.Below.{EdgesBelow};
 use cut_face_results::cut_after;
@@ -22,7 +24,7 @@ use words::copy_u16s;
 fn first_point(wire: &[u16], fronts: &[u16], backs: &[u16]) -> VertexID
     requires { ⌜ 0 < length (now wire) ⌝ }
     requires { ⌜ Named (now fronts) (now backs) (now wire) ⌝ }
-    ensures { λ r. ⌜ r .0 ≡ begins (now (fronts .entry)) (now (backs .entry)) (now (wire .entry)) ⌝ }
+    ensures { λ r. ⌜ r .0 ≡ firstPoint (now (fronts .entry)) (now (backs .entry)) (now (wire .entry)) ⌝ }
 {
     let u = EdgeUse::from_number(wire[0]);
     u.front(fronts, backs)
@@ -32,7 +34,7 @@ fn first_point(wire: &[u16], fronts: &[u16], backs: &[u16]) -> VertexID
 fn last_point(wire: &[u16], fronts: &[u16], backs: &[u16]) -> VertexID
     requires { ⌜ 0 < length (now wire) ⌝ }
     requires { ⌜ Named (now fronts) (now backs) (now wire) ⌝ }
-    ensures { λ r. ⌜ r .0 ≡ ends (now (fronts .entry)) (now (backs .entry)) (now (wire .entry)) ⌝ }
+    ensures { λ r. ⌜ r .0 ≡ lastPoint (now (fronts .entry)) (now (backs .entry)) (now (wire .entry)) ⌝ }
 {
     let u = EdgeUse::from_number(wire[wire.len() - 1]);
     u.back(fronts, backs)
@@ -49,7 +51,7 @@ fn find_begin(uses: &[u16], fronts: &[u16], backs: &[u16], v: VertexID) -> Found
 // Writes an outline from place i on, and then its first i uses.
 fn rotate_to(outline: &[u16], i: usize, out: &mut [u16])
     requires { ⌜ (i ≤ length (now outline)) × (length (now outline) ≤ length (now out)) ⌝ }
-    ensures { λ _. ⌜ now (out .exit) ≡ sets (now (out .entry)) 0 (rotatedTo i (now (outline .entry))) ⌝ }
+    ensures { λ _. ⌜ now (out .exit) ≡ sets (now (out .entry)) 0 (fromPlace i (now (outline .entry))) ⌝ }
 {
     let n = outline.len();
     copy_u16s(&outline[i..n], out, 0);

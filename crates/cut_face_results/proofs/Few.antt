@@ -10,14 +10,14 @@ use lib.Dec.{leb, ltb}
 use lib.ListN.{drop, getD, length, length-append, take}
 use lib.Seq.{take-take}
 use borrow.Author.Tests.{le-leb, lt-leb, ltb-false, ltb-true}
-use Rattle.cut_face_results.specs.Results.{PointEnds, firstOf, keeps, secondOf}
+use Rattle.cut_face_results.specs.Results.{PointEnds}
 use Rattle.edge.specs.Uses.{edgeNumber, frontOf, turned}
 use Rattle.errors.specs.Faults.{each}
 use Rattle.errors.specs.declared.WireCheck.the-variants.{Refused, Simple}
 use Rattle.errors.specs.declared.WireError.{WireError}
 use Rattle.errors.specs.declared.Refusal.the-variants.{Wire}
 use Rattle.face.specs.Faces.{sharedFaults}
-use Rattle.face_edits.specs.FaceEdits.{noFault}
+use Rattle.face_edits.specs.FaceEdits.{firstOf, keepsRule, noFault, secondOf}
 use Rattle.face_parts.proofs.Laws.{simple-short}
 use Rattle.lists.proofs.Count.{All, all-append, all-drop, all-each, all-map, all-reverse, all-take}
 use Rattle.lists.proofs.Laws.{cases}
@@ -26,7 +26,8 @@ use Rattle.lists.proofs.Parts.{all-place}
 use Rattle.lists.proofs.Split.{drop-take}
 use Rattle.lists.specs.Lists.{pick}
 use Rattle.wire.proofs.Laws.{named-drop, named-take, simple-sound}
-use Rattle.wire.specs.Wires.{Named, points, wireFaults}
+use Rattle.wire.specs.Named.{Named}
+use Rattle.wire.specs.Wires.{points, wireFaults}
 use Rattle.edge.specs.Below.{EdgesBelow}
 use Rattle.errors.specs.Sequence.{firstOfWire}
 
@@ -108,50 +109,50 @@ module _ (fronts backs : List ℕ) where
   some-more [] e h = cc
   some-more (d ∷ es) e h = refl
 
-  pub keeps-simple : (us : List ℕ) → firstOfWire (wireFaults fronts backs us) ≡ Simple → keeps fronts backs us ≡ true
-  unfolding keeps each sharedFaults
+  pub keeps-simple : (us : List ℕ) → firstOfWire (wireFaults fronts backs us) ≡ Simple → keepsRule fronts backs (us ∷ []) ≡ true
+  unfolding each sharedFaults
   keeps-simple us h = rw (disjoint-nil (points fronts backs us)) (no-more (wireFaults fronts backs us) h)
 
-  pub keeps-refused : (us : List ℕ) (e : WireError) → firstOfWire (wireFaults fronts backs us) ≡ Refused e → keeps fronts backs us ≡ false
-  unfolding keeps each sharedFaults
+  pub keeps-refused : (us : List ℕ) (e : WireError) → firstOfWire (wireFaults fronts backs us) ≡ Refused e → keepsRule fronts backs (us ∷ []) ≡ false
+  unfolding each sharedFaults
   keeps-refused us e h = rw (disjoint-nil (points fronts backs us)) (some-more (wireFaults fronts backs us) e h)
 
   none-simple : (es : List WireError) → noFault (map (Wire 0) es ++ [] ++ ([] ++ [])) ≡ true → firstOfWire es ≡ Simple
   none-simple [] h = refl
   none-simple (e ∷ es) h = cc
 
-  kept-simple : (us : List ℕ) → keeps fronts backs us ≡ true → firstOfWire (wireFaults fronts backs us) ≡ Simple
-  unfolding keeps each sharedFaults
+  kept-simple : (us : List ℕ) → keepsRule fronts backs (us ∷ []) ≡ true → firstOfWire (wireFaults fronts backs us) ≡ Simple
+  unfolding each sharedFaults
   kept-simple us h = none-simple (wireFaults fronts backs us) (rw (disjoint-nil (points fronts backs us)) at h)
 
-  pub kept-few : (us : List ℕ) → Named fronts backs us → keeps fronts backs us ≡ true → length us ≤ 2048
+  pub kept-few : (us : List ℕ) → Named fronts backs us → keepsRule fronts backs (us ∷ []) ≡ true → length us ≤ 2048
   kept-few us n h = simple-short fronts backs us n (simple-sound fronts backs us (kept-simple us h) .once)
 
   -- a wire of more than 2,048 uses
   pub long-breaks : (along us : List ℕ) (k : ℕ) → PointEnds fronts backs → EdgesBelow (length fronts) along → EdgesBelow (length fronts) us → 2048 < length us
-      → keeps fronts backs (firstOf along k us) ≡ false
+      → keepsRule fronts backs (firstOf along k us ∷ []) ≡ false
   unfolding firstOf
   long-breaks along us k s h g l =
       ⊎-elim
-      (λ (b : keeps fronts backs (firstOf along k us) ≡ true).
+      (λ (b : keepsRule fronts backs (firstOf along k us ∷ []) ≡ true).
       absurd (omega (arith, l, length-append (take k along) us, kept-few (firstOf along k us) (named-of fronts backs (firstOf along k us) s (first-uses (length fronts) along us h g k)) b)))
-      (λ (b : keeps fronts backs (firstOf along k us) ≡ false). b)
-      (cases (keeps fronts backs (firstOf along k us)))
+      (λ (b : keepsRule fronts backs (firstOf along k us ∷ []) ≡ false). b)
+      (cases (keepsRule fronts backs (firstOf along k us ∷ [])))
 
   -- the answer on two wires
   module _ (both : List ℕ) (n all : ℕ) where
     pub rule-first : (e : WireError) → firstOfWire (wireFaults fronts backs (take (n - 0) both)) ≡ Refused e
-        → false ≡ (keeps fronts backs (take n both) && keeps fronts backs (take (all - n) (drop n both)))
-    rule-first e h = let z : keeps fronts backs (take n both) ≡ false = rw (sub-zero n) at (keeps-refused (take (n - 0) both) e h) in rw z
+        → false ≡ (keepsRule fronts backs (take n both ∷ []) && keepsRule fronts backs (take (all - n) (drop n both) ∷ []))
+    rule-first e h = let z : keepsRule fronts backs (take n both ∷ []) ≡ false = rw (sub-zero n) at (keeps-refused (take (n - 0) both) e h) in rw z
 
     module _ (s : firstOfWire (wireFaults fronts backs (take (n - 0) both)) ≡ Simple) where
-      first-kept : keeps fronts backs (take n both) ≡ true
+      first-kept : keepsRule fronts backs (take n both ∷ []) ≡ true
       first-kept = rw (sub-zero n) at (keeps-simple (take (n - 0) both) s)
 
       pub rule-second : (e : WireError) → firstOfWire (wireFaults fronts backs (take (all - n) (drop n both))) ≡ Refused e
-          → false ≡ (keeps fronts backs (take n both) && keeps fronts backs (take (all - n) (drop n both)))
+          → false ≡ (keepsRule fronts backs (take n both ∷ []) && keepsRule fronts backs (take (all - n) (drop n both) ∷ []))
       rule-second e h = rw (first-kept, keeps-refused (take (all - n) (drop n both)) e h)
 
       pub rule-both : firstOfWire (wireFaults fronts backs (take (all - n) (drop n both))) ≡ Simple
-          → true ≡ (keeps fronts backs (take n both) && keeps fronts backs (take (all - n) (drop n both)))
+          → true ≡ (keepsRule fronts backs (take n both ∷ []) && keepsRule fronts backs (take (all - n) (drop n both) ∷ []))
       rule-both h = rw (first-kept, keeps-simple (take (all - n) (drop n both)) h)

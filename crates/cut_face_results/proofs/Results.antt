@@ -9,16 +9,17 @@ use lib.Dec.{leb}
 use lib.ListN.{drop, length, length-append, length-drop, set, take}
 use lib.Seq.{drop-at, length-take-le, sets, sets-eq, take-add, take-all, take-at}
 use borrow.Author.Tests.{le-leb, lt-leb}
-use Rattle.cut_face_results.specs.Results.{Cut, PointEnds, cutAfter, cutTwo, firstOf, keeps, outcome, secondOf}
+use Rattle.cut_face_results.specs.Results.{Cut, PointEnds, cutAfter, cutTwo, outcome}
 use Rattle.cut_face_results.proofs.Few.{both-uses, named-of}
 use Rattle.edge.specs.Uses.{turned}
 use Rattle.edit_answers.specs.declared.FaceAnswer.{FaceAnswer}
 use Rattle.edit_answers.specs.declared.FaceAnswer.the-variants.{Not, Written}
 use Rattle.edit_answers.specs.declared.FaceEditError.the-variants.{FaceRule, NoSpace}
+use Rattle.face_edits.specs.FaceEdits.{firstOf, keepsRule, secondOf}
 use Rattle.listing.proofs.Laws.{turned-keeps}
 use Rattle.lists.proofs.Sets.{sets-then}
 use Rattle.lists.specs.Lists.{flat}
-use Rattle.wire.specs.Wires.{Named}
+use Rattle.wire.specs.Named.{Named}
 use Rattle.edge.specs.Below.{EdgesBelow}
 
 -- ---- what is stored
@@ -98,11 +99,11 @@ module _ (fronts backs : List ℕ) where
     split-long : length (flat (first ∷ second ∷ [])) ≡ all
     split-long = ap length flat-is ∙ length-take-le all both k
 
-    pub two-broken : false ≡ (keeps fronts backs first && keeps fronts backs second) → Owes two (Not FaceRule) uses uses lens lens
+    pub two-broken : false ≡ (keepsRule fronts backs (first ∷ []) && keepsRule fronts backs (second ∷ [])) → Owes two (Not FaceRule) uses uses lens lens
     unfolding cutTwo outcome flat
     two-broken e = rw (← e) (refl, (refl, refl))
 
-    module _ (e : true ≡ (keeps fronts backs first && keeps fronts backs second)) where
+    module _ (e : true ≡ (keepsRule fronts backs (first ∷ []) && keepsRule fronts backs (second ∷ []))) where
       pub two-long : length uses < all → Owes two (Not NoSpace) uses uses lens lens
       unfolding cutTwo outcome flat
       two-long l = rw (← e, lt-leb (length (flat (first ∷ second ∷ []))) (length uses) (omega (arith, split-long, l))) (refl, (refl, refl))
@@ -120,7 +121,7 @@ module _ (fronts backs : List ℕ) where
 
   -- ---- an outline that begins at the wire's back
   module _ (along us uses lens : List ℕ) where
-    pub after-long : (k : ℕ) → keeps fronts backs (firstOf along k us) ≡ false
+    pub after-long : (k : ℕ) → keepsRule fronts backs (firstOf along k us ∷ []) ≡ false
         → Owes (cutAfter fronts backs along k us (length uses) (length lens)) (Not FaceRule) uses uses lens lens
     unfolding cutAfter cutTwo outcome flat
     after-long k e = rw e (refl, (refl, refl))

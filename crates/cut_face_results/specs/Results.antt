@@ -1,19 +1,15 @@
 -- The two results of a cut, as the code makes them: on lists of uses, with the ends of the edges in two columns.
 use Prim.Native.Nat.{ℕ, _<_}
-use mathlib.Core.Bool.{Bool, _&&_}
-use mathlib.Core.List.{List, [], _∷_, _++_, map, reverse}
+use mathlib.Core.List.{List, [], _∷_}
 use mathlib.Core.Path.{_≡_}
-use lib.ListN.{drop, getD, length, take}
-use Rattle.lists.specs.Lists.{flat, unless}
-use Rattle.edge.specs.Uses.{turned}
+use lib.ListN.{getD, length}
+use Rattle.lists.specs.Lists.{flat}
 use Rattle.edit_answers.specs.Answers.{judged}
 use Rattle.edit_answers.specs.declared.FaceAnswer.{FaceAnswer}
 use Rattle.edit_answers.specs.declared.FaceAnswer.the-variants.{Not, Refused, Written}
 use Rattle.edit_answers.specs.declared.FaceEditError.{FaceEditError}
-use Rattle.edit_answers.specs.declared.FaceEditError.the-variants.{FaceRule, NoSpace}
 use Rattle.errors.specs.declared.Refusal.{Refusal}
-use Rattle.face.specs.Faces.{faceFaults}
-use Rattle.face_edits.specs.FaceEdits.{fits, noFault}
+use Rattle.face_edits.specs.FaceEdits.{firstOf, secondOf, twoFaults}
 
 -- the answer, and the wires that are written
 pub record Cut : Type 0 where
@@ -27,13 +23,6 @@ outcome faults wires = record {
   out = judged [] faults (λ (f : Refusal). []) (λ (e : FaceEditError). []) wires;
 }
 
--- an outline that begins at the wire's back, cut after k uses: the two results
-unfoldable pub firstOf : List ℕ → ℕ → List ℕ → List ℕ
-firstOf along k us = take k along ++ us
-
-unfoldable pub secondOf : List ℕ → ℕ → List ℕ → List ℕ
-secondOf along k us = drop k along ++ map turned (reverse us)
-
 -- the numbers of the edges' ends, each of one of 2,048 points
 pub record PointEnds (fronts backs : List ℕ) : Type 0 where
   pub alike : length backs ≡ length fronts
@@ -41,13 +30,9 @@ pub record PointEnds (fronts backs : List ℕ) : Type 0 where
   pub back : (e : ℕ) → e < length fronts → getD backs e 0 < 2048
 
 module _ (fronts backs : List ℕ) where
-  -- a wire that keeps the face rule
-  unfoldable pub keeps : List ℕ → Bool
-  keeps us = noFault (faceFaults fronts backs 0 (us ∷ []))
-
   -- two wires, for lists of m uses and n lengths: 28, 17
   unfoldable pub cutTwo : List ℕ → List ℕ → ℕ → ℕ → Cut
-  cutTwo a b m n = outcome (unless (keeps a && keeps b) FaceRule ++ unless (fits (a ∷ b ∷ []) m n) NoSpace) (a ∷ b ∷ [])
+  cutTwo a b m n = outcome (twoFaults fronts backs a b m n) (a ∷ b ∷ [])
 
   -- an outline that begins at the wire's back, cut after k uses
   unfoldable pub cutAfter : List ℕ → ℕ → List ℕ → ℕ → ℕ → Cut

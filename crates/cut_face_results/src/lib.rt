@@ -1,13 +1,14 @@
 // The two results of cutting an outline, judged and written.
 ghost use mathlib.Core.Path.{_≡_};
 ghost use mathlib.Core.Bool.{_&&_};
-ghost use mathlib.Core.List.{_++_, map};
+ghost use mathlib.Core.List.{[], _++_, _∷_, map};
 ghost use Prim.Native.Nat.{_+_, _-_, _*_, _≤_};
 ghost use lib.ListN.{drop, length, take};
 ghost use lib.Seq.{sets};
 ghost use Rattle.lists.specs.Lists.{flat};
-ghost use Rattle.wire.specs.Wires.{Named};
-ghost use Rattle.cut_face_results.specs.Results.{cutAfter, cutTwo, PointEnds, firstOf, keeps, secondOf};
+ghost use Rattle.wire.specs.Named.{Named};
+ghost use Rattle.face_edits.specs.FaceEdits.{firstOf, keepsRule, secondOf};
+ghost use Rattle.cut_face_results.specs.Results.{cutAfter, cutTwo, PointEnds};
 ghost use Rattle.edge.specs.Below.{EdgesBelow};
 use edit_answers::FaceAnswer;
 use edit_answers::FaceEditError;
@@ -38,7 +39,7 @@ fn put_two(along: &[u16], k: usize, wire: &[u16], out: &mut [u16])
 fn keep_rule(both: &[u16], n: usize, all: usize, fronts: &[u16], backs: &[u16]) -> bool
     requires { ⌜ (n ≤ all) × (all ≤ length (now both)) ⌝ }
     requires { ⌜ Named (now fronts) (now backs) (take all (now both)) ⌝ }
-    ensures { λ r. ⌜ r ≡ (keeps (now (fronts .entry)) (now (backs .entry)) (take n (now (both .entry))) && keeps (now (fronts .entry)) (now (backs .entry)) (take (all - n) (drop n (now (both .entry))))) ⌝ }
+    ensures { λ r. ⌜ r ≡ (keepsRule (now (fronts .entry)) (now (backs .entry)) (take n (now (both .entry)) ∷ []) && keepsRule (now (fronts .entry)) (now (backs .entry)) (take (all - n) (drop n (now (both .entry))) ∷ [])) ⌝ }
 {
     let mut marks = [0u16; 2048];
     let first = check_wire(&both[0..n], fronts, backs, &mut marks, 1);

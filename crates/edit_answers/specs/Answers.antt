@@ -1,14 +1,18 @@
 -- The numbers of an edit's answers, as document 01 gives them; and which answer comes first.
 use Prim.Native.Nat.{ℕ}
 use mathlib.Core.List.{List, [], _∷_}
-use Rattle.errors.specs.Numbers.{number}
+use Rattle.errors.specs.Numbers.{Reply, done, refused, unread, wireNumber}
 use Rattle.errors.specs.declared.Refusal.{Refusal}
 use Rattle.edit_answers.specs.declared.CutAnswer.{CutAnswer}
 use Rattle.edit_answers.specs.declared.CutAnswer.the-variants.{Cut, Not, Refused}
 use Rattle.edit_answers.specs.declared.EditError.{EditError}
 use Rattle.edit_answers.specs.declared.EditError.the-variants.{CurveRefuses, Disconnected, EdgeNotInShell, NoSpace, NotOneOrTwoWires, SameEnds, SharedFace, SpanRefused, Unmatched, Unnamed, VertexInShell}
+use Rattle.edit_answers.specs.declared.FaceAnswer.{FaceAnswer}
+use Rattle.edit_answers.specs.declared.FaceAnswer.the-variants.{Not as Face·Not, Refused as Face·Refused, Written}
 use Rattle.edit_answers.specs.declared.FaceEditError.{FaceEditError}
-use Rattle.edit_answers.specs.declared.FaceEditError.the-variants.{EmptyWire, EndsNotOnWire, FaceRule, FacesDiffer, NoSpace as Face·NoSpace, NotClosedWire, NotDisjointWires, NothingRemains, NotOneWire, NotSimpleWire, OppositeEdges, Unnamed as Face·Unnamed}
+use Rattle.edit_answers.specs.declared.FaceEditError.the-variants.{EndsNotOnWire, FaceRule, FacesDiffer, NoSpace as Face·NoSpace, NotDisjointWires, NothingRemains, NotOneWire, OppositeEdges, Unnamed as Face·Unnamed, Wire}
+use Rattle.edit_answers.specs.declared.JoinAnswer.{JoinAnswer}
+use Rattle.edit_answers.specs.declared.JoinAnswer.the-variants.{Joined, Not as Join·Not, Refused as Join·Refused}
 
 -- an edit's own refusal, a number alone
 abbrev pub editNumber : EditError → ℕ
@@ -26,9 +30,7 @@ editNumber Disconnected = 29
 
 abbrev pub faceEditNumber : FaceEditError → ℕ
 faceEditNumber Face·Unnamed = 3
-faceEditNumber EmptyWire = 6
-faceEditNumber NotClosedWire = 7
-faceEditNumber NotSimpleWire = 8
+faceEditNumber (Wire e) = wireNumber e
 faceEditNumber NotDisjointWires = 9
 faceEditNumber Face·NoSpace = 17
 faceEditNumber NotOneWire = 18
@@ -38,11 +40,21 @@ faceEditNumber OppositeEdges = 21
 faceEditNumber NothingRemains = 22
 faceEditNumber FaceRule = 28
 
--- the number of a cut: that of the refusal; else 0
-abbrev pub cutNumber : CutAnswer → ℕ
-cutNumber (Cut a b) = 0
-cutNumber (Refused f) = number f
-cutNumber (Not e) = editNumber e
+-- number and values of the answers: the numbers of the new edges; how many uses and how many wires were written
+abbrev pub cutReply : CutAnswer → Reply
+cutReply (Cut a b) = done (a .0 ∷ b .0 ∷ [])
+cutReply (Refused f) = unread f
+cutReply (Not e) = refused (editNumber e) []
+
+abbrev pub joinReply : JoinAnswer → Reply
+joinReply (Joined a) = done (a .0 ∷ [])
+joinReply (Join·Refused f) = unread f
+joinReply (Join·Not e) = refused (editNumber e) []
+
+abbrev pub faceReply : FaceAnswer → Reply
+faceReply (Written m k) = done (m ∷ k ∷ [])
+faceReply (Face·Refused f) = unread f
+faceReply (Face·Not e) = refused (faceEditNumber e) []
 
 -- the reading checks come first, then the edit's own refusals
 abbrev pub judged {ℓ} : {A : Type ℓ} {E : Type 0} → List Refusal → List E → (Refusal → A) → (E → A) → A → A

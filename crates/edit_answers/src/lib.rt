@@ -3,6 +3,8 @@ ghost use mathlib.Core.Path.{_≡_};
 ghost use Rattle.edit_answers.specs.Answers.{editNumber, faceEditNumber};
 use edge::EdgeID;
 use errors::Refusal;
+use errors::WireError;
+use errors::wire_number;
 
 // The refusal of an edit of a shell, its own.
 pub enum EditError {
@@ -35,9 +37,7 @@ pub enum FaceEditError {
     // 3: a number that names nothing.
     Unnamed,
     // 6, 7, 8: what is wrong with the added wire.
-    EmptyWire,
-    NotClosedWire,
-    NotSimpleWire,
+    Wire(WireError),
     // 9: the added wire shares a point with the face's own.
     NotDisjointWires,
     // 17: the result is longer than a lent list.
@@ -102,9 +102,7 @@ pub fn face_edit_number(e: FaceEditError) -> usize
 {
     match e {
         FaceEditError::Unnamed => 3,
-        FaceEditError::EmptyWire => 6,
-        FaceEditError::NotClosedWire => 7,
-        FaceEditError::NotSimpleWire => 8,
+        FaceEditError::Wire(e) => wire_number(e),
         FaceEditError::NotDisjointWires => 9,
         FaceEditError::NoSpace => 17,
         FaceEditError::NotOneWire => 18,

@@ -1,5 +1,8 @@
--- Number, body and record of each refusal, as document 01 gives them.
+-- Number, body and record of each refusal, as document 01 gives them; what an answer says in numbers.
 use Prim.Native.Nat.{ℕ}
+use mathlib.Core.List.{List, [], _∷_}
+use Rattle.errors.specs.declared.Check.{Check}
+use Rattle.errors.specs.declared.Check.the-variants.{Accepted, Refused}
 use Rattle.errors.specs.declared.WireError.{WireError}
 use Rattle.errors.specs.declared.WireError.the-variants.{EmptyWire, NotClosedWire, NotSimpleWire}
 use Rattle.errors.specs.declared.Refusal.{Refusal}
@@ -35,3 +38,24 @@ recordNumber (Unnamed b k) = k
 recordNumber (Span k) = k
 recordNumber (SameVertex k) = k
 recordNumber (Wire k e) = k
+
+-- ---- an answer in numbers: how the call ended (0 done, 1 refused by the reading checks, 2 refused by the call itself), document 01's number, 0 if done, and the values
+pub record Reply : Type 0 where
+  pub outcome : ℕ
+  pub number : ℕ
+  pub values : List ℕ
+
+abbrev pub done : List ℕ → Reply
+done values = record { outcome = 0; number = 0; values = values }
+
+-- with body and record
+abbrev pub unread : Refusal → Reply
+unread f = record { outcome = 1; number = number f; values = body f ∷ recordNumber f ∷ [] }
+
+abbrev pub refused : ℕ → List ℕ → Reply
+refused n values = record { outcome = 2; number = n; values = values }
+
+-- the reading checks
+abbrev pub checkReply : Check → Reply
+checkReply Accepted = done []
+checkReply (Refused f) = unread f

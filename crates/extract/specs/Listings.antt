@@ -6,7 +6,7 @@ use lib.ListN.{getD, length, replicate}
 use lib.Seq.{sets}
 use Rattle.lists.specs.Lists.{flat}
 use Rattle.edge.specs.Uses.{frontOf}
-use Rattle.wire.specs.Wires.{Named}
+use Rattle.wire.specs.Named.{Named}
 use Rattle.shell.specs.Openings.{Walk, isFree}
 use Rattle.condition.specs.declared.Tally.{Tally}
 use Rattle.listing.specs.Parts.{Shows, partAt}

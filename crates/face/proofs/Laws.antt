@@ -23,7 +23,8 @@ use Rattle.lists.proofs.Split.{Walk, getD-split, split-run, walk-fits, walk-par
 use Rattle.lists.specs.Lists.{disjoint, noDup, split, sum, unless}
 use Rattle.lists.specs.Marks.{Below, met, stamped}
 use Rattle.wire.proofs.Laws.{faultless-noDup, named-part, points-below}
-use Rattle.wire.specs.Wires.{Named, points, wireFaults}
+use Rattle.wire.specs.Named.{Named}
+use Rattle.wire.specs.Wires.{points, wireFaults}
 use Rattle.errors.specs.Sequence.{firstOfWire}
 
 -- the answer for wire number w, as an answer of the checks

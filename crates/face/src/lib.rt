@@ -1,24 +1,34 @@
 // The face and the face rule (the Rust's face.rs, Face::try_new).
 ghost use mathlib.Core.Path.{_≡_};
 ghost use mathlib.Core.List.{[]};
-ghost use Prim.Native.Nat.{_+_, _<_, _≤_};
+ghost use Prim.Native.Nat.{_%_, _+_, _<_, _≤_};
 ghost use lib.ListN.{length, take};
 ghost use Rattle.lists.specs.Lists.{sum, split};
 ghost use Rattle.lists.specs.Marks.{Below};
 ghost use Rattle.errors.specs.Faults.{first as firstFault, each};
-ghost use Rattle.wire.specs.Wires.{Named};
+ghost use Rattle.wire.specs.Named.{Named};
 ghost use Rattle.face.specs.Faces.{outlineFaults, sharedFaults, faceFaults, faceRule};
 use errors::Check;
 use errors::Refusal;
 use errors::WireCheck;
 use errors::WireError;
 use wire::check_wire;
+use wire::outline;
 use wire::stamp_points;
 use words::index;
 use words::sum_of;
 
 // The number of a face is its identity.
 pub struct FaceID(pub u16);
+
+impl FaceID {
+    // The face of a listing: the listing's number without its sign.
+    pub fn of_listing(l: u16) -> FaceID
+        ensures { λ r. ⌜ r .0 ≡ l % 32768 ⌝ }
+    {
+        FaceID(l % 32768)
+    }
+}
 
 // A face: how many wires it has, taken in sequence, and its surface.
 #[repr(C)]
@@ -49,7 +59,8 @@ fn check_wires(
     let mut k: usize = 0;
     while k < lengths.len() {
         let n = index(lengths[k]);
-        let answer = check_wire(&uses[at..at + n], fronts, backs, marks, (stamp + k) as u16);
+        let wire = outline(uses, at, n);
+        let answer = check_wire(wire, fronts, backs, marks, (stamp + k) as u16);
         match answer {
             WireCheck::Refused(e) => {
                 return Check::Refused(Refusal::Wire(first + k, e));

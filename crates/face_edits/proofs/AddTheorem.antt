@@ -1,19 +1,19 @@
 -- A face with an added outline keeps the face rule, the turned outline of a reversed face too.
 use Prim.Native.Nat.{_+_, _<_, ℕ}
 use mathlib.Core.Bool.{Bool, _&&_, false, not, true}
-use mathlib.Core.List.{List, [], _++_, _∷_, map, map-append, reverse, reverse-cons}
+use mathlib.Core.List.{List, [], _++_, _∷_, map, reverse}
 use mathlib.Core.Logic.{_⊎_, inl, inr, ⊎-elim}
 use mathlib.Core.Path.{_∙_, _≡_, ap, refl, sym}
 use native.Mathlib.Omega.{arith}
 use lib.Dec.{eqb, leb}
 use lib.ListN.{length-map, length-reverse}
-use borrow.Author.Tests.{eq-eqb, eqb-true, not-true}
-use Rattle.edge.specs.Uses.{backOf, frontOf, turned}
+use borrow.Author.Tests.{eqb-true, not-true}
+use Rattle.edge.specs.Uses.{backOf, turned}
 use Rattle.edit_answers.specs.declared.FaceEditError.{FaceEditError}
-use Rattle.edit_answers.specs.declared.FaceEditError.the-variants.{NoSpace, NotDisjointWires, Unnamed}
+use Rattle.edit_answers.specs.declared.FaceEditError.the-variants.{NoSpace, NotDisjointWires, Unnamed, Wire}
 use Rattle.errors.proofs.Laws.{none-left, none-right, unless-passes}
 use Rattle.errors.specs.declared.WireError.{WireError}
-use Rattle.face_edits.specs.FaceEdits.{addFaults, added, areUses, backsIn, boundaries, fits, frontsIn, isFace, keepsRule, noFault, wireError}
+use Rattle.face_edits.specs.FaceEdits.{addFaults, added, areUses, backsIn, boundaries, fits, frontsIn, isFace, keepsRule, noFault}
 use Rattle.lists.proofs.Alike.{bit-none, noDup-count, none-has}
 use Rattle.lists.proofs.Count.{All, all-append, all-at, all-reverse, count-append, count-reverse}
 use Rattle.lists.proofs.Laws.{cases, flat-append, left-true, right-true}
@@ -24,12 +24,13 @@ use Rattle.pattern.specs.Contents.{Content}
 use Rattle.shell.proofs.Chain.{from}
 use Rattle.shell.proofs.Level.{closed-level}
 use Rattle.shell.proofs.Rings.{points-count}
-use Rattle.shell.proofs.Turned.{turned-count, turned-front}
+use Rattle.shell.proofs.Shown.{closed-turned}
+use Rattle.shell.proofs.Turned.{turned-count}
 use Rattle.shell.proofs.Walked.{Ring}
 use Rattle.shell.specs.Shells.{faceNumber}
 use Rattle.shell_edits.proofs.Accepted.{Ruled, rule-fine, rule-ruled, ruled-face}
 use Rattle.wire.proofs.Laws.{Sound, faultless-sound}
-use Rattle.wire.specs.Wires.{closed, points, runs, wireFaults}
+use Rattle.wire.specs.Wires.{closed, points, wireFaults}
 
 -- a number of a list is in no list that is disjoint from it
 disjoint-has : (xs ys : List ℕ) (q : ℕ) → disjoint xs ys ≡ true → count (eqb q) xs ≡ 0 ⊎ count (eqb q) ys ≡ 0
@@ -43,48 +44,9 @@ disjoint-has (x ∷ xs) ys q d =
     ⊎-elim (λ z. inl (omega (arith, bit-none q x e, z))) (λ z. inr z) (disjoint-has xs ys q (right-true (not (has x ys)) (disjoint xs ys) d)))
     (cases (eqb q x))
 
--- ---- a closed wire turned is closed
+-- ---- the wire as the face stores it
 
 module _ (fs bs : List ℕ) where
-  runs-append : (us vs : List ℕ) (p q r : ℕ) → runs fs bs p us q ≡ true → runs fs bs q vs r ≡ true → runs fs bs p (us ++ vs) r ≡ true
-  unfolding runs
-  runs-append [] vs p q r h k = rw (eqb-true p q h) k
-  runs-append (u ∷ us) vs p q r h k =
-      let here : eqb p (frontOf fs bs u) ≡ true = left-true (eqb p (frontOf fs bs u)) (runs fs bs (backOf fs bs u) us q) h in
-      rw here (runs-append us vs (backOf fs bs u) q r (right-true (eqb p (frontOf fs bs u)) (runs fs bs (backOf fs bs u) us q) h) k)
-
-  -- a use turned runs from its back to its front
-  runs-use : (u p : ℕ) → u < 65536 → eqb p (frontOf fs bs u) ≡ true → runs fs bs (backOf fs bs u) (turned u ∷ []) p ≡ true
-  unfolding runs
-  runs-use u p l h =
-      let a : eqb (backOf fs bs u) (frontOf fs bs (turned u)) ≡ true = eq-eqb (backOf fs bs u) (frontOf fs bs (turned u)) (sym (turned-front fs bs u l)) in
-      let b : eqb (backOf fs bs (turned u)) p ≡ true = eq-eqb (backOf fs bs (turned u)) p (turned-front bs fs u l ∙ sym (eqb-true p (frontOf fs bs u) h)) in
-      rw (a, b)
-
-  runs-turned : (us : List ℕ) → All (λ (u : ℕ). u < 65536) us → (p q : ℕ) → runs fs bs p us q ≡ true → runs fs bs q (map turned (reverse us)) p ≡ true
-  unfolding runs
-  runs-turned [] l p q h = eq-eqb q p (sym (eqb-true p q h))
-  runs-turned (u ∷ us) l p q h =
-      let here = left-true (eqb p (frontOf fs bs u)) (runs fs bs (backOf fs bs u) us q) h in
-      let more = right-true (eqb p (frontOf fs bs u)) (runs fs bs (backOf fs bs u) us q) h in
-      rw (reverse-cons u us, map-append turned (reverse us) (u ∷ []))
-      (runs-append (map turned (reverse us)) (turned u ∷ []) q (backOf fs bs u) p (runs-turned us (l .1) (backOf fs bs u) q more) (runs-use u p (l .0) here))
-
-  closed-runs : (us : List ℕ) (p : ℕ) → runs fs bs p us p ≡ true → closed fs bs us ≡ true
-  unfolding runs closed
-  closed-runs [] p h = refl
-  closed-runs (u ∷ us) p h =
-      let here = eqb-true p (frontOf fs bs u) (left-true (eqb p (frontOf fs bs u)) (runs fs bs (backOf fs bs u) us p) h) in
-      rw here at (right-true (eqb p (frontOf fs bs u)) (runs fs bs (backOf fs bs u) us p) h)
-
-  closed-turned : (us : List ℕ) → All (λ (u : ℕ). u < 65536) us → closed fs bs us ≡ true → closed fs bs (map turned (reverse us)) ≡ true
-  unfolding runs closed
-  closed-turned [] l h = refl
-  closed-turned (u ∷ us) l h =
-      let p = frontOf fs bs u in
-      let all : runs fs bs p (u ∷ us) p ≡ true = rw (eq-eqb p p refl) h in
-      closed-runs (map turned (reverse (u ∷ us))) p (runs-turned (u ∷ us) l p p all)
-
   -- a closed wire turned meets its points as often
   turned-from : (us : List ℕ) → All (λ (u : ℕ). u < 65536) us → closed fs bs us ≡ true → (q : ℕ)
       → count (from fs bs q) (map turned (reverse us)) ≡ count (from fs bs q) us
@@ -96,7 +58,7 @@ module _ (fs bs : List ℕ) where
   -- the wire as the face stores it
   module _ (us : List ℕ) (low : All (λ (u : ℕ). u < 65536) us) (sound : Sound fs bs us) where
     shown-ring : (b : Bool) → Ring fs bs (pick b (map turned (reverse us)) us)
-    shown-ring true = (omega (arith, sound .used, length-map (reverse us) turned, length-reverse us), closed-turned us low (sound .loops))
+    shown-ring true = (omega (arith, sound .used, length-map (reverse us) turned, length-reverse us), closed-turned fs bs us low (sound .loops))
     shown-ring false = (sound .used, sound .loops)
 
     shown-from : (b : Bool) (q : ℕ) → count (from fs bs q) (pick b (map turned (reverse us)) us) ≡ count (from fs bs q) us
@@ -124,7 +86,7 @@ module _ (fs bs : List ℕ) where
 
 -- ---- the theorem
 
-no-faults : (es : List WireError) → map wireError es ≡ [] → es ≡ []
+no-faults : (es : List WireError) → map Wire es ≡ [] → es ≡ []
 no-faults [] h = refl
 no-faults (e ∷ es) h = cc
 
@@ -132,18 +94,21 @@ none-ruled : (fs bs : List ℕ) → Ruled fs bs []
 unfolding flat count
 none-ruled fs bs = record { rings = tt; once = λ q. omega arith }
 
+-- the outlines of each face of a pattern without fault
+pub stored-ruled : (c : Content) → contentFaults c ≡ [] → (f : ℕ) → Ruled (frontsIn c) (backsIn c) (boundaries c f)
+stored-ruled c ok f =
+    all-at (Ruled (frontsIn c) (backsIn c)) [] (none-ruled (frontsIn c) (backsIn c)) (outlines c) (rule-ruled (frontsIn c) (backsIn c) 0 (outlines c) (rule-fine c ok)) (faceNumber f)
+
 -- uses are numbers of 16 bits
 pub added-ruled : (c : Content) (f : ℕ) (us : List ℕ) (m k : ℕ) → All (λ (u : ℕ). u < 65536) us → contentFaults c ≡ [] → addFaults c f us m k ≡ []
-    → keepsRule c (added c f us) ≡ true
+    → keepsRule (frontsIn c) (backsIn c) (added c f us) ≡ true
 added-ruled c f us m k low ok none =
     let fs = frontsIn c in
     let bs = backsIn c in
-    let named = unless {A = FaceEditError} (isFace c f && areUses c us) Unnamed in
-    let wire = map wireError (wireFaults fs bs us) in
+    let wire = map Wire (wireFaults fs bs us) in
     let apart = unless {A = FaceEditError} (disjoint (points fs bs us) (points fs bs (flat (boundaries c f)))) NotDisjointWires in
     let room = unless {A = FaceEditError} (fits (added c f us) m k) NoSpace in
-    let three : named ++ wire ++ apart ≡ [] = none-left (named ++ wire ++ apart) room none in
-    let sound = faultless-sound fs bs us (no-faults (wireFaults fs bs us) (none-right named wire (none-left (named ++ wire) apart three))) in
-    let off = unless-passes (disjoint (points fs bs us) (points fs bs (flat (boundaries c f)))) NotDisjointWires (none-right (named ++ wire) apart three) in
-    let stored : Ruled fs bs (boundaries c f) = all-at (Ruled fs bs) [] (none-ruled fs bs) (outlines c) (rule-ruled fs bs 0 (outlines c) (rule-fine c ok)) (faceNumber f) in
-    ap noFault (ruled-face fs bs 0 (added c f us) (more-ruled fs bs us low sound (boundaries c f) stored off (leb 32768 f)))
+    let two : wire ++ apart ≡ [] = none-left (wire ++ apart) room (none-right (unless (isFace c f && areUses c us) Unnamed) (wire ++ apart ++ room) none) in
+    let sound = faultless-sound fs bs us (no-faults (wireFaults fs bs us) (none-left wire apart two)) in
+    let off = unless-passes (disjoint (points fs bs us) (points fs bs (flat (boundaries c f)))) NotDisjointWires (none-right wire apart two) in
+    ap noFault (ruled-face fs bs 0 (added c f us) (more-ruled fs bs us low sound (boundaries c f) (stored-ruled c ok f) off (leb 32768 f)))

@@ -12,7 +12,7 @@ use lib.Seq.{set-getD}
 use borrow.Author.Tests.{eq-eqb, eqb-true, ltb-false, ltb-true}
 use Rattle.edit_answers.specs.declared.FaceEditError.the-variants.{FaceRule, FacesDiffer, NoSpace, NothingRemains, OppositeEdges, Unnamed}
 use Rattle.errors.proofs.Laws.{none-left, none-right, unless-passes}
-use Rattle.face_edits.specs.FaceEdits.{andThen, boundaries, chainAt, chained, fits, glued, glueFaults, isFace, isSome, keepsRule, keptOf, meet, meetAll, meeting, surfaceOf}
+use Rattle.face_edits.specs.FaceEdits.{andThen, backsIn, boundaries, chainAt, chained, fits, frontsIn, glued, glueFaults, isFace, isSome, keepsRule, keptOf, leftFaults, meet, meetAll, meeting, metFaults, resultFaults, surfaceOf}
 use Rattle.lists.proofs.Count.{count-cons, count-flat}
 use Rattle.lists.proofs.Laws.{cases}
 use Rattle.lists.specs.Lists.{count, flat, has, numbers, pick, tabulate, unless}
@@ -126,8 +126,10 @@ module _ (c : Content) where
   glued-all f g kept e q = rw e (chained-counts c q (numbers (length (c .points))) kept (all-points kept (length (c .points)) (length-meeting f g kept e)))
 
   -- a glue that is not refused keeps the face rule
-  pub glue-kept : (f g m k : ℕ) → glueFaults c f g m k ≡ [] → keepsRule c (glued c f g) ≡ true
+  pub glue-kept : (f g m k : ℕ) → glueFaults c f g m k ≡ [] → keepsRule (frontsIn c) (backsIn c) (glued c f g) ≡ true
   glue-kept f g m k ok =
       let wires = glued c f g in
-      let before = unless (isFace c f && isFace c g) Unnamed ++ unless (eqb (surfaceOf c f) (surfaceOf c g) && eqb (f / 32768) (g / 32768)) FacesDiffer ++ unless (isSome (meeting c f g)) OppositeEdges ++ unless (ltb 0 (length wires)) NothingRemains in
-      unless-passes (keepsRule c wires) FaceRule (none-right before (unless (keepsRule c wires) FaceRule) (none-left (before ++ unless (keepsRule c wires) FaceRule) (unless (fits wires m k) NoSpace) ok))
+      let kept = keepsRule (frontsIn c) (backsIn c) wires in
+      let named = unless (isFace c f && isFace c g) Unnamed ++ unless (eqb (surfaceOf c f) (surfaceOf c g) && eqb (f / 32768) (g / 32768)) FacesDiffer in
+      let left = none-right (unless (isSome (meeting c f g)) OppositeEdges) (leftFaults c wires m k) (none-right named (metFaults c (meeting c f g) m k) ok) in
+      unless-passes kept FaceRule (none-left (unless kept FaceRule) (unless (fits wires m k) NoSpace) (none-right (unless (ltb 0 (length wires)) NothingRemains) (resultFaults kept wires m k) left))

@@ -7,12 +7,10 @@ use lib.Dec.{eqb, leb, ltb}
 use lib.ListN.{drop, getD, length, replicate, set, take}
 use Rattle.lists.specs.Lists.{count, disjoint, flat, has, numbers, pick, unless}
 use Rattle.edge.specs.Edges.{backNumber, frontNumber}
-use Rattle.edge.specs.Uses.{edgeNumber, turned}
+use Rattle.edge.specs.Uses.{backOf, edgeNumber, frontOf, turned}
 use Rattle.edit_answers.specs.declared.FaceEditError.{FaceEditError}
-use Rattle.edit_answers.specs.declared.FaceEditError.the-variants.{EmptyWire, EndsNotOnWire, FaceRule, FacesDiffer, NoSpace, NotClosedWire, NotDisjointWires, NothingRemains, NotOneWire, NotSimpleWire, OppositeEdges, Unnamed}
+use Rattle.edit_answers.specs.declared.FaceEditError.the-variants.{EndsNotOnWire, FaceRule, FacesDiffer, NoSpace, NotDisjointWires, NothingRemains, NotOneWire, OppositeEdges, Unnamed, Wire}
 use Rattle.errors.specs.declared.Refusal.{Refusal}
-use Rattle.errors.specs.declared.WireError.{WireError}
-use Rattle.errors.specs.declared.WireError.the-variants.{EmptyWire as Wire·Empty, NotClosedWire as Wire·NotClosed, NotSimpleWire as Wire·NotSimple}
 use Rattle.wire.specs.Wires.{endFrom, points, wireFaults}
 use Rattle.face.specs.Faces.{faceFaults}
 use Rattle.pattern.specs.Checks.{outlines}
@@ -49,76 +47,102 @@ abbrev pub noFault : List Refusal → Bool
 noFault [] = true
 noFault (f ∷ fs) = false
 
-abbrev pub keepsRule : Content → List (List ℕ) → Bool
-keepsRule c wires = noFault (faceFaults (frontsIn c) (backsIn c) 0 wires)
+abbrev pub keepsRule : List ℕ → List ℕ → List (List ℕ) → Bool
+keepsRule fronts backs wires = noFault (faceFaults fronts backs 0 wires)
 
 -- not longer than lists of so many uses and so many lengths
 abbrev pub fits : List (List ℕ) → ℕ → ℕ → Bool
 fits wires m k = leb (length (flat wires)) m && leb (length wires) k
 
--- ---- add an outline
+-- 28, 17: wires of which it is known whether they keep it
+abbrev pub resultFaults : Bool → List (List ℕ) → ℕ → ℕ → List FaceEditError
+resultFaults kept wires m k = unless kept FaceRule ++ unless (fits wires m k) NoSpace
 
-abbrev pub wireError : WireError → FaceEditError
-wireError Wire·Empty = EmptyWire
-wireError Wire·NotClosed = NotClosedWire
-wireError Wire·NotSimple = NotSimpleWire
+-- ---- add an outline
 
 -- a reversed face stores the wire turned
 abbrev pub added : Content → ℕ → List ℕ → List (List ℕ)
 added c f us = boundaries c f ++ (shownWire f us ∷ [])
 
+-- 6, 7, 8, 9, 17: a wire for a face that has the uses `own`
+abbrev pub boundaryFaults : List ℕ → List ℕ → List ℕ → List ℕ → Bool → List FaceEditError
+boundaryFaults fronts backs own us room =
+    map Wire (wireFaults fronts backs us)
+    ++ unless (disjoint (points fronts backs us) (points fronts backs own)) NotDisjointWires
+    ++ unless room NoSpace
+
 -- 3, 6, 7, 8, 9, 17
 abbrev pub addFaults : Content → ℕ → List ℕ → ℕ → ℕ → List FaceEditError
 addFaults c f us m k =
     unless (isFace c f && areUses c us) Unnamed
-    ++ map wireError (wireFaults (frontsIn c) (backsIn c) us)
-    ++ unless (disjoint (points (frontsIn c) (backsIn c) us) (points (frontsIn c) (backsIn c) (flat (boundaries c f)))) NotDisjointWires
-    ++ unless (fits (added c f us) m k) NoSpace
+    ++ boundaryFaults (frontsIn c) (backsIn c) (flat (boundaries c f)) us (fits (added c f us) m k)
 
 -- ---- cut a face
 
--- the first point of a wire, and the last
-abbrev pub firstPoint : Content → List ℕ → ℕ
-firstPoint c us = frontIn c (getD us 0 0)
+-- the first n uses of an outline, then the wire; the rest of it, then the wire turned
+unfoldable pub firstOf : List ℕ → ℕ → List ℕ → List ℕ
+firstOf along n us = take n along ++ us
 
-abbrev pub lastPoint : Content → List ℕ → ℕ
-lastPoint c us = backIn c (getD (reverse us) 0 0)
+unfoldable pub secondOf : List ℕ → ℕ → List ℕ → List ℕ
+secondOf along n us = drop n along ++ map turned (reverse us)
 
--- the outline from point p on
-abbrev pub begunAt : Content → ℕ → List ℕ → List ℕ
-begunAt c p us = let i = placeIn (endFrom (backsIn c) (frontsIn c) 0 p us) in drop i us ++ take i us
+-- an outline from place i on
+abbrev pub fromPlace : ℕ → List ℕ → List ℕ
+fromPlace i os = drop i os ++ take i os
 
--- how many uses run until point p
-abbrev pub until : Content → ℕ → List ℕ → ℕ
-until c p us = suc (placeIn (endFrom (frontsIn c) (backsIn c) 0 p us))
+module _ (fronts backs : List ℕ) where
+  -- the first point of a wire, and the last
+  abbrev pub firstPoint : List ℕ → ℕ
+  firstPoint us = frontOf fronts backs (getD us 0 0)
 
--- from the wire's back along the outline to the wire's front, then along the wire
-abbrev pub firstCut : Content → List ℕ → List ℕ → List ℕ
-firstCut c os us = let along = begunAt c (lastPoint c us) os in take (until c (firstPoint c us) along) along ++ us
+  abbrev pub lastPoint : List ℕ → ℕ
+  lastPoint us = backOf fronts backs (getD (reverse us) 0 0)
 
--- the rest of the outline, then the wire turned
-abbrev pub secondCut : Content → List ℕ → List ℕ → List ℕ
-secondCut c os us = let along = begunAt c (lastPoint c us) os in drop (until c (firstPoint c us) along) along ++ map turned (reverse us)
+  -- the outline from the wire's back on
+  abbrev pub fromBack : List ℕ → List ℕ → List ℕ
+  fromBack os us = fromPlace (placeIn (endFrom backs fronts 0 (lastPoint us) os)) os
+
+  -- how many uses run until the wire's front
+  abbrev pub toFront : List ℕ → List ℕ → ℕ
+  toFront along us = suc (placeIn (endFrom fronts backs 0 (firstPoint us) along))
+
+  -- from the wire's back along the outline to the wire's front, then along the wire
+  abbrev pub firstCut : List ℕ → List ℕ → List ℕ
+  firstCut os us = let along = fromBack os us in firstOf along (toFront along us) us
+
+  -- the rest of the outline, then the wire turned
+  abbrev pub secondCut : List ℕ → List ℕ → List ℕ
+  secondCut os us = let along = fromBack os us in secondOf along (toFront along us) us
+
+  -- the second is written after the first
+  abbrev pub twoCuts : List ℕ → List ℕ → List (List ℕ)
+  twoCuts os us = firstCut os us ∷ secondCut os us ∷ []
+
+  -- the wire has a use, and its ends are on the outline
+  abbrev pub endsOn : List ℕ → List ℕ → Bool
+  endsOn os us = ltb 0 (length us) && has (lastPoint us) (map (frontOf fronts backs) os) && has (firstPoint us) (map (backOf fronts backs) os)
+
+  -- 28, 17: each of two results by itself
+  abbrev pub twoFaults : List ℕ → List ℕ → ℕ → ℕ → List FaceEditError
+  twoFaults a b m k = resultFaults (keepsRule fronts backs (a ∷ []) && keepsRule fronts backs (b ∷ [])) (a ∷ b ∷ []) m k
+
+  -- 19, 28, 17: an outline and a wire
+  abbrev pub outlineCutFaults : List ℕ → List ℕ → ℕ → ℕ → List FaceEditError
+  outlineCutFaults os us m k = unless (endsOn os us) EndsNotOnWire ++ twoFaults (firstCut os us) (secondCut os us) m k
 
 -- the face's only outline
 abbrev pub outlineOf : Content → ℕ → List ℕ
 outlineOf c f = getD (boundaries c f) 0 []
 
 abbrev pub cutInTwo : Content → ℕ → List ℕ → List (List ℕ)
-cutInTwo c f us = firstCut c (outlineOf c f) us ∷ secondCut c (outlineOf c f) us ∷ []
-
--- the wire has a use, and its ends are on the outline
-abbrev pub endsOn : Content → List ℕ → List ℕ → Bool
-endsOn c os us = ltb 0 (length us) && has (lastPoint c us) (map (frontIn c) os) && has (firstPoint c us) (map (backIn c) os)
+cutInTwo c f us = twoCuts (frontsIn c) (backsIn c) (outlineOf c f) us
 
 -- 3, 18, 19, 28, 17
 abbrev pub cutFaceFaults : Content → ℕ → List ℕ → ℕ → ℕ → List FaceEditError
 cutFaceFaults c f us m k =
     unless (isFace c f && areUses c us) Unnamed
     ++ unless (eqb (length (boundaries c f)) 1) NotOneWire
-    ++ unless (endsOn c (outlineOf c f) us) EndsNotOnWire
-    ++ unless (keepsRule c (firstCut c (outlineOf c f) us ∷ []) && keepsRule c (secondCut c (outlineOf c f) us ∷ [])) FaceRule
-    ++ unless (fits (cutInTwo c f us) m k) NoSpace
+    ++ outlineCutFaults (frontsIn c) (backsIn c) (outlineOf c f) us m k
 
 -- ---- glue
 
@@ -165,12 +189,17 @@ isSome (some kept) = true
 abbrev pub surfaceOf : Content → ℕ → ℕ
 surfaceOf c f = getD (c .faces) (faceNumber f) zeroFace .surface
 
+-- 22, 28, 17: the chained outlines
+abbrev pub leftFaults : Content → List (List ℕ) → ℕ → ℕ → List FaceEditError
+leftFaults c wires m k = unless (ltb 0 (length wires)) NothingRemains ++ resultFaults (keepsRule (frontsIn c) (backsIn c) wires) wires m k
+
+-- 21, 22, 28, 17: what is kept
+abbrev pub metFaults : Content → Option Kept → ℕ → ℕ → List FaceEditError
+metFaults c kept m k = unless (isSome kept) OppositeEdges ++ leftFaults c (gluedOf c kept) m k
+
 -- 3, 20, 21, 22, 28, 17
 abbrev pub glueFaults : Content → ℕ → ℕ → ℕ → ℕ → List FaceEditError
 glueFaults c f g m k =
     unless (isFace c f && isFace c g) Unnamed
     ++ unless (eqb (surfaceOf c f) (surfaceOf c g) && eqb (f / 32768) (g / 32768)) FacesDiffer
-    ++ unless (isSome (meeting c f g)) OppositeEdges
-    ++ unless (ltb 0 (length (glued c f g))) NothingRemains
-    ++ unless (keepsRule c (glued c f g)) FaceRule
-    ++ unless (fits (glued c f g) m k) NoSpace
+    ++ metFaults c (meeting c f g) m k

@@ -1,2 +1,3 @@
 pub mod FaceEdits
 pub mod FaceAnswers
+pub mod FaceTheorems

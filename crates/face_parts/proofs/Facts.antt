@@ -23,14 +23,13 @@ use Rattle.lists.proofs.Split.{getD-split, split-run}
 use Rattle.lists.specs.Lists.{count, flat, split, sum}
 use Rattle.pattern.proofs.Counts.{edges-counted, faces-counted, points-counted}
 use Rattle.pattern.proofs.Named.{named, point-named}
-use Rattle.pattern.specs.Checks.{patternFaults}
 use Rattle.pattern.specs.Contents.{Content, Pattern, content}
 use Rattle.shell.specs.Shells.{faceNumber}
-use Rattle.shell_wires.proofs.Facts.{Fine, faces-sum, fine, records-fine, wires-sum}
-use Rattle.store.proofs.View.{held-backs, held-fronts, held-full, held-seven, held-wire-counts}
+use Rattle.shell_wires.proofs.Facts.{Fine, faces-sum, records-fine, wires-sum}
+use Rattle.store.proofs.View.{held-backs, held-fronts, held-wire-counts}
 use Rattle.store.specs.Store.{held, useTable, wireTable}
 use Rattle.wire.proofs.Laws.{named-part}
-use Rattle.wire.specs.Wires.{Named}
+use Rattle.wire.specs.Named.{Named}
 use Rattle.store.specs.Columns.{backTable, faceTable, frontTable}
 
 -- where face f stands in tables of uses and of wires' lengths
@@ -211,9 +210,6 @@ module _ (p : Pattern) (s : Fine p) where
 module _ (t : List ℕ) (spans : List Float) (long : length t ≡ 12312) where
   abbrev P : Pattern
   P = held t spans
-
-  pub held-fine : patternFaults P ≡ [] → Fine P
-  held-fine ok = fine P ok (held-seven t spans long) (held-full t spans long)
 
   module _ (s : Fine P) where
     pub fronts-lent : (xs : List ℕ) → xs ≡ take (getD (P .counts) 1 0) (frontTable t) → xs ≡ frontsIn (content P)

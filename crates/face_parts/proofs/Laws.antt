@@ -20,7 +20,8 @@ use Rattle.lists.specs.Lists.{count, noDup, only, split, sum}
 use Rattle.store.proofs.Parts.{part-long}
 use Rattle.store.specs.Store.{part}
 use Rattle.wire.proofs.Laws.{length-points, points-below}
-use Rattle.wire.specs.Wires.{Named, points}
+use Rattle.wire.specs.Named.{Named}
+use Rattle.wire.specs.Wires.{points}
 
 module _ {ℓ} {A : Type ℓ} where
   -- a part of the first m elements

@@ -1,11 +1,15 @@
 -- Reading, writing and each report on a pattern file, given by its bytes: what is answered, what is written.
-use Prim.Native.Nat.{ℕ}
-use mathlib.Core.List.{List}
+use Prim.Native.Nat.{ℕ, _<_}
+use mathlib.Core.List.{List, []}
+use mathlib.Core.Path.{_≡_}
+use lib.ListN.{length}
 use Rattle.answers.specs.Values.{checkValues, figureValues, placeValues, solidValues, writtenValues}
 use Rattle.answers.specs.declared.Answer.{Answer}
 use Rattle.group_calls.specs.GroupCalls.{componentsAnswer, componentsOut, connectedAnswer, singularAnswer, singularOut}
 use Rattle.shell_calls.specs.ShellCalls.{conditionAnswer, openingsAnswer, openingsOut}
 use Rattle.pattern.specs.Outlines.{wirePlace}
+use Rattle.pattern_file.specs.File.{fileContent, fileFaults}
+use Rattle.shell.specs.OpeningsHold.{OpeningsPromised}
 use Rattle.store_read.specs.Loading.{checkOf, patternOf}
 use Rattle.solid_calls.specs.Solids.{solidAnswer}
 use Rattle.store_write.specs.Writing.{written, writtenBytes}
@@ -32,6 +36,10 @@ fileOpenings s n = whenRead (checkOf s) (figureValues (openingsAnswer (patternOf
 
 abbrev pub fileOpeningsOut : List ℕ → ℕ → List (List ℕ)
 fileOpeningsOut s n = ifRead (checkOf s) (openingsOut (patternOf s) n)
+
+-- what is promised of the openings of shell n of an accepted file; demand 3
+abbrev pub FilePromised : List ℕ → ℕ → Type 0
+FilePromised s n = fileFaults s ≡ [] → n < length (fileContent s .shells) → OpeningsPromised (fileContent s) n
 
 abbrev pub fileConnected : List ℕ → ℕ → Answer
 fileConnected s n = whenRead (checkOf s) (figureValues (connectedAnswer (patternOf s) n))

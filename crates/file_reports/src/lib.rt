@@ -4,7 +4,7 @@ ghost use mathlib.Core.List.{map};
 ghost use lib.ListN.{length};
 ghost use lib.Seq.{sets};
 ghost use Rattle.lists.specs.Lists.{flat};
-ghost use Rattle.file_reports.specs.FileReports.{fileCheck, fileComponents, fileComponentsOut, fileCondition, fileConnected, fileOpenings, fileOpeningsOut, fileOutline, fileSingular, fileSingularOut, fileSolid, fileWritten, fileWrittenBytes};
+ghost use Rattle.file_reports.specs.FileReports.{fileCheck, fileComponents, fileComponentsOut, fileCondition, fileConnected, fileOpenings, fileOpeningsOut, fileOutline, FilePromised, fileSingular, fileSingularOut, fileSolid, fileWritten, fileWrittenBytes};
 use answers::Answer;
 use answers::check_values;
 use answers::figure_values;
@@ -80,6 +80,7 @@ pub fn file_openings(file: &[u8], n: usize, out: &mut [u16; 2048], lens: &mut [u
     ensures { λ r. ⌜ r ≡ fileOpenings (now (file .entry)) n ⌝ }
     ensures { λ _. ⌜ now (out .exit) ≡ sets (now (out .entry)) 0 (flat (fileOpeningsOut (now (file .entry)) n)) ⌝ }
     ensures { λ _. ⌜ now (lens .exit) ≡ sets (now (lens .entry)) 0 (map length (fileOpeningsOut (now (file .entry)) n)) ⌝ }
+    ensures { λ _. ⌜ FilePromised (now (file .entry)) n ⌝ }
 {
     let mut t = [0u16; TABLES];
     let mut spans = [0.0; SPANS];

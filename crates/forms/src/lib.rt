@@ -66,7 +66,7 @@ fn label_of(word: &[u8]) -> Token
 }
 
 // What a word of kind k says.
-pub fn token_of(k: u64, word: &[u8]) -> Token
+fn token_of(k: u64, word: &[u8]) -> Token
     ensures { λ r. ⌜ r ≡ token k (now (word .entry)) ⌝ }
 {
     if k == 0 {

@@ -2,11 +2,10 @@
 use Prim.Native.Nat.{_/_, _<_, _≤_, ℕ}
 use Prim.{⊥}
 use mathlib.Core.Bool.{Bool, _&&_, and-false, false, true}
-use mathlib.Core.List.{List, _++_}
-use mathlib.Core.Option.{Option}
+use mathlib.Core.List.{List}
 use mathlib.Core.Path.{_∙_, _≡_, ap, refl, sym}
 use native.Mathlib.Omega.{arith}
-use lib.Dec.{eqb, ltb}
+use lib.Dec.{eqb}
 use lib.Ieee.{Float}
 use lib.ListN.{getD, length}
 use lib.Seq.{getD-take}
@@ -14,38 +13,24 @@ use borrow.Author.Tests.{eq-eqb, ne-eqb}
 use Rattle.edge.specs.Uses.{edgeNumber}
 use Rattle.edit_answers.specs.declared.FaceAnswer.{FaceAnswer}
 use Rattle.edit_answers.specs.declared.FaceAnswer.the-variants.{Not}
-use Rattle.edit_answers.specs.declared.FaceEditError.{FaceEditError}
-use Rattle.edit_answers.specs.declared.FaceEditError.the-variants.{FaceRule, FacesDiffer, NoSpace, NothingRemains, OppositeEdges, Unnamed}
+use Rattle.edit_answers.specs.declared.FaceEditError.the-variants.{FacesDiffer, Unnamed}
 use Rattle.face.specs.declared.Face.{Face}
-use Rattle.face_edits.specs.FaceEdits.{backsIn, boundaries, fits, frontsIn, glueFaults, glued, gluedOf, isFace, isSome, keepsRule, meeting, surfaceOf}
+use Rattle.face_edits.specs.FaceEdits.{backsIn, boundaries, frontsIn, glueFaults, glued, isFace, meeting, metFaults, surfaceOf}
 use Rattle.face_parts.proofs.Facts.{backs-count, face-named, fronts-count, is-face, no-face}
 use Rattle.face_parts.proofs.Owed.{Owed}
 use Rattle.glue_walk.specs.Walks.{PartFits}
-use Rattle.glue_wires.specs.Glues.{Shown, Wrote, restFaults}
+use Rattle.glue_wires.specs.Glues.{Shown, Wrote}
 use Rattle.lists.proofs.Flat.{getD-tabulate}
-use Rattle.lists.specs.Lists.{flat, unless}
+use Rattle.lists.specs.Lists.{flat}
 use Rattle.pattern.proofs.Counts.{edges-counted, points-counted}
 use Rattle.pattern.proofs.Named.{point-named}
 use Rattle.pattern.specs.Contents.{Content, Pattern, content, zeroFace}
-use Rattle.shell.specs.Openings.{Kept}
 use Rattle.shell.specs.Shells.{faceNumber}
 use Rattle.shell_edits.proofs.Remove.{end-named}
 use Rattle.shell_wires.proofs.Facts.{Fine, records-fine}
 use Rattle.store.specs.Store.{faceIn, held}
 
 -- ---- 3 and 20, then the rest
-
-abbrev six : Bool → Bool → Content → Option Kept → ℕ → ℕ → List FaceEditError
-six a b c o m k =
-    unless a Unnamed
-    ++ unless b FacesDiffer
-    ++ unless (isSome o) OppositeEdges
-    ++ unless (ltb 0 (length (gluedOf c o))) NothingRemains
-    ++ unless (keepsRule c (gluedOf c o)) FaceRule
-    ++ unless (fits (gluedOf c o) m k) NoSpace
-
-six-rest : (a b : Bool) (c : Content) (o : Option Kept) (m k : ℕ) → a ≡ true → b ≡ true → six a b c o m k ≡ restFaults c o m k
-six-rest a b c o m k e f = rw (e, f)
 
 module _ (p : Pattern) (s : Fine p) (f g : ℕ) (us ls : List ℕ) where
   abbrev c : Content
@@ -113,14 +98,14 @@ module _ (p : Pattern) (s : Fine p) (f g : ℕ) (us ls : List ℕ) where
       parts-fit = rw (ex, ey) (within f x, within g y)
 
       pub glue-owed : surfaceOf c f ≡ surfaceOf c g → f / 32768 ≡ g / 32768 → (r : FaceAnswer) (us′ ls′ : List ℕ)
-          → ((c : Content) (f g : ℕ) → Shown c f g fronts backs first second points → Wrote (restFaults c (meeting c f g) m k) (glued c f g) us ls us′ ls′ r) → Glued r us′ ls′
+          → ((c : Content) (f g : ℕ) → Shown c f g fronts backs first second points → Wrote (metFaults c (meeting c f g) m k) (glued c f g) us ls us′ ls′ r) → Glued r us′ ls′
       glue-owed surfaces signs r us′ ls′ says =
           let shown : Shown c f g fronts backs first second points = record { columns = record { begin = sym ef; end = sym eb }; one = sym ex; other = sym ey; all = all } in
           let w = says c f g shown in
           let ok = s .ok in
           let same = eq-eqb (surfaceOf c f) (surfaceOf c g) surfaces in
           let side = eq-eqb (f / 32768) (g / 32768) signs in
-          let is : glueFaults c f g m k ≡ restFaults c (meeting c f g) m k = six-rest (isFace c f && isFace c g) alike c (meeting c f g) m k named (rw (same, side)) in
+          let is : glueFaults c f g m k ≡ metFaults c (meeting c f g) m k = rw (named, same, side) in
           rw (ok, is) (w .answer, (w .uses, w .lengths))
 
 -- ---- the surface of a face in the store

@@ -63,11 +63,9 @@ pub fn glue_at_boundaries(
     }
     let first = face_part(t, i);
     let second = face_part(t, j);
-    let mut kept = [65535u16; 2048];
-    let points = counts[0];
     let edges = counts[1];
     glue_parts(
-        &mut kept[0..points],
+        counts[0],
         uses_of(t, first),
         uses_of(t, second),
         first_fronts(t, edges),

@@ -21,7 +21,7 @@ use Rattle.openings.specs.Slots.{Holding, keptIn, slots}
 use Rattle.openings.specs.declared.Step.{Step}
 use Rattle.pattern.specs.Contents.{Content}
 use Rattle.shell.specs.Openings.{Found, Kept, backIn, chain, frontIn}
-use Rattle.glue_walk.specs.Walks.{Columns, Laid, Outline, Room, nothing, outlineAt}
+use Rattle.glue_walk.specs.Walks.{Columns, Laid, Outline, Room, keptChained, nothing, outlineAt}
 use Rattle.glue_walk.specs.declared.Chained.{Chained}
 
 -- wires written, and others after them
@@ -112,6 +112,7 @@ pub record Chaining (fronts backs kept₀ out₀ lens₀ kept out lens : List �
   pub done : List (List ℕ)
   pub low : q ≤ length kept₀
   pub same : (c : Content) → Columns c fronts backs → chained c (numbers (length kept₀)) (slots kept₀) ≡ done ++ chained c (drop q (numbers (length kept₀))) (slots kept)
+  pub left : (c : Content) → Columns c fronts backs → keptChained c (numbers (length kept₀)) (slots kept₀) ≡ keptChained c (drop q (numbers (length kept₀))) (slots kept)
   pub laid : Laid done out₀ lens₀ nothing out lens w
   pub room : Room fronts backs kept out lens w
   pub long : length kept ≡ length kept₀
@@ -123,6 +124,7 @@ module _ (fronts backs kept₀ out₀ lens₀ : List ℕ) where
     done = [];
     low = omega arith;
     same = λ c col. refl;
+    left = λ c col. refl;
     laid = record { written = refl; lengths = refl; place = omega arith; number = omega arith };
     room = r;
     long = refl;
@@ -142,23 +144,43 @@ module _ (fronts backs kept₀ out₀ lens₀ : List ℕ) where
         let e : chained c (numbers (length kept₀)) (slots kept₀) ≡ s .done = s .same c col ∙ rw (drop-of-length-le (numbers (length kept₀)) n) (append-nil (s .done)) in
         rw e (s .laid)
 
+    pub chaining-left : length kept ≤ q → (c : Content) → Columns c fronts backs → slots kept ≡ keptChained c (numbers (length kept₀)) (slots kept₀)
+    unfolding keptChained
+    chaining-left h c col =
+        let n : length (numbers (length kept₀)) ≤ q = omega (arith, length-tabulate (length kept₀) (λ (k : ℕ). k), s .long) in
+        sym (s .left c col ∙ rw (drop-of-length-le (numbers (length kept₀)) n))
+
     module _ (l : q < length kept) (kept′ out′ lens′ : List ℕ) (w′ : Chained) where
       abbrev turn : Outline
       turn = outlineAt (frontOf fronts backs) (backOf fronts backs) (getD (slots kept) q none) q (slots kept)
 
-      turn-is : (c : Content) → Columns c fronts backs → slots kept′ ≡ turn .kept
-          → chained c (drop q (numbers (length kept₀))) (slots kept) ≡ turn .wires ++ chained c (drop (suc q) (numbers (length kept₀))) (slots kept′)
-      turn-is c col left =
-          let ps = numbers (length kept₀) in
-          let n : length ps ≡ length kept₀ = length-tabulate (length kept₀) (λ (k : ℕ). k) in
-          let m : q < length ps = omega (arith, n, s .long) in
-          let at : getD ps q 0 ≡ q = getD-tabulate (length kept₀) (λ (k : ℕ). k) q 0 (omega (arith, s .long)) in
-          let is : outlineAt (frontIn c) (backIn c) (getD (slots kept) q none) q (slots kept) ≡ turn =
-          λ i. outlineAt (frontOf (col .begin i) (col .end i)) (frontOf (col .end i) (col .begin i)) (getD (slots kept) q none) q (slots kept) in
-          ap (λ (xs : List ℕ). chained c xs (slots kept)) (rw at at (drop-cons {A = ℕ} ps q 0 m))
-          ∙ chained-turn c q (drop (suc q) ps) (slots kept)
-          ∙ ap (λ (o : Outline). o .wires ++ chained c (drop (suc q) ps) (o .kept)) is
-          ∙ ap (λ (k : Kept). turn .wires ++ chained c (drop (suc q) ps) k) (sym left)
+      -- the points from q on, and the outline there
+      module _ (c : Content) (col : Columns c fronts backs) where
+        abbrev ps : List ℕ
+        ps = numbers (length kept₀)
+
+        points-are : drop q ps ≡ q ∷ drop (suc q) ps
+        points-are =
+            let m : q < length ps = omega (arith, length-tabulate (length kept₀) (λ (k : ℕ). k), s .long) in
+            let at : getD ps q 0 ≡ q = getD-tabulate (length kept₀) (λ (k : ℕ). k) q 0 (omega (arith, s .long)) in
+            rw at at (drop-cons {A = ℕ} ps q 0 m)
+
+        outline-is : outlineAt (frontIn c) (backIn c) (getD (slots kept) q none) q (slots kept) ≡ turn
+        outline-is = λ i. outlineAt (frontOf (col .begin i) (col .end i)) (frontOf (col .end i) (col .begin i)) (getD (slots kept) q none) q (slots kept)
+
+        turn-is : slots kept′ ≡ turn .kept → chained c (drop q ps) (slots kept) ≡ turn .wires ++ chained c (drop (suc q) ps) (slots kept′)
+        turn-is left =
+            ap (λ (xs : List ℕ). chained c xs (slots kept)) points-are
+            ∙ chained-turn c q (drop (suc q) ps) (slots kept)
+            ∙ ap (λ (o : Outline). o .wires ++ chained c (drop (suc q) ps) (o .kept)) outline-is
+            ∙ ap (λ (k : Kept). turn .wires ++ chained c (drop (suc q) ps) k) (sym left)
+
+        turn-left : slots kept′ ≡ turn .kept → keptChained c (drop q ps) (slots kept) ≡ keptChained c (drop (suc q) ps) (slots kept′)
+        unfolding keptChained
+        turn-left left =
+            ap (λ (xs : List ℕ). keptChained c xs (slots kept)) points-are
+            ∙ ap (λ (o : Outline). keptChained c (drop (suc q) ps) (o .kept)) outline-is
+            ∙ ap (λ (k : Kept). keptChained c (drop (suc q) ps) k) (sym left)
 
       pub chaining-next : Laid (turn .wires) out lens w out′ lens′ w′ → slots kept′ ≡ turn .kept → Room fronts backs kept′ out′ lens′ w′ → length kept′ ≡ length kept
           → Chaining fronts backs kept₀ out₀ lens₀ kept′ out′ lens′ w′ (q + 1)
@@ -169,6 +191,7 @@ module _ (fronts backs kept₀ out₀ lens₀ : List ℕ) where
             s .same c col
             ∙ ap (λ (ws : List (List ℕ)). s .done ++ ws) (turn-is c col left)
             ∙ rw add-one (sym (append-assoc (s .done) (turn .wires) (chained c (drop (suc q) (numbers (length kept₀))) (slots kept′))));
+        left = λ c col. s .left c col ∙ turn-left c col left ∙ rw add-one;
         laid = laid-then (s .done) (turn .wires) out₀ lens₀ nothing out lens w out′ lens′ w′ (s .laid) p;
         room = r;
         long = n ∙ s .long;

@@ -4,7 +4,7 @@ use mathlib.Core.Bool.{Bool, _&&_, false, not, true}
 use mathlib.Core.List.{List}
 use mathlib.Core.Logic.{⊎-elim}
 use mathlib.Core.Option.{none, some}
-use mathlib.Core.Path.{_∙_, _≡_, refl, sym}
+use mathlib.Core.Path.{_∙_, _≡_, ap, refl, sym}
 use native.Mathlib.Numerals.{add-one}
 use native.Mathlib.Omega.{arith}
 use lib.Dec.{eqb}
@@ -18,7 +18,7 @@ use Rattle.openings.proofs.Slots.{holding-in, holding-out, slot-none, slot-some
 use Rattle.openings.specs.Slots.{Holding, slot, slots}
 use Rattle.pattern.specs.Contents.{Content}
 use Rattle.shell.specs.Openings.{backIn, frontIn}
-use Rattle.glue_walk.specs.Walks.{Columns, EndColumns, Fits, PartFits, metAs}
+use Rattle.glue_walk.specs.Walks.{Columns, EndColumns, Fits, PartFits, keptMet, metAs}
 use Rattle.glue_walk.proofs.Keeping.{no-mark}
 
 -- u has been met, with this answer, and these are kept after it
@@ -127,17 +127,22 @@ ends-some v w x a n e = rw (ne-eqb v 65535 n, e)
 pub record Meeting (fronts backs part kept₀ kept : List ℕ) (i : ℕ) : Type 0 where
   pub low : i ≤ length part
   pub same : (c : Content) → Columns c fronts backs → meetAll c part (slots kept₀) ≡ meetAll c (drop i part) (slots kept)
+  pub left : (c : Content) → Columns c fronts backs → keptMet c part (slots kept₀) ≡ keptMet c (drop i part) (slots kept)
   pub long : length kept ≡ length kept₀
   pub holding : Holding fronts backs kept
 
 module _ (fronts backs part kept₀ : List ℕ) (g : PartFits fronts backs (length kept₀) part) where
   pub meeting-start : Holding fronts backs kept₀ → Meeting fronts backs part kept₀ kept₀ 0
-  meeting-start h = record { low = omega arith; same = λ c col. refl; long = refl; holding = h }
+  meeting-start h = record { low = omega arith; same = λ c col. refl; left = λ c col. refl; long = refl; holding = h }
 
   module _ (kept : List ℕ) (i : ℕ) (k : Meeting fronts backs part kept₀ kept i) where
     pub meeting-all : length part ≤ i → (c : Content) → Columns c fronts backs → meetAll c part (slots kept₀) ≡ metAs true (slots kept)
     unfolding meetAll
     meeting-all h c col = k .same c col ∙ rw (drop-of-length-le part h)
+
+    pub left-all : length part ≤ i → (c : Content) → Columns c fronts backs → slots kept ≡ keptMet c part (slots kept₀)
+    unfolding keptMet
+    left-all h c col = sym (k .left c col ∙ rw (drop-of-length-le part h))
 
     module _ (l : i < length part) where
       pub meeting-fits : Fits fronts backs (length kept) (getD part i 0)
@@ -146,10 +151,11 @@ module _ (fronts backs part kept₀ : List ℕ) (g : PartFits fronts backs (leng
       -- the next use is met with answer r
       module _ (kept′ : List ℕ) (h : Holding fronts backs kept′) (r : Bool) (m : Met fronts backs (getD part i 0) kept kept′ r) where
         pub meeting-next : r ≡ true → length kept′ ≡ length kept → Meeting fronts backs part kept₀ kept′ (i + 1)
-        unfolding meetAll
+        unfolding meetAll keptMet
         meeting-next e n = record {
           low = omega arith;
           same = λ c col. k .same c col ∙ rw (add-one, drop-cons {A = ℕ} part i 0 l, m c col, e);
+          left = λ c col. k .left c col ∙ rw (add-one, drop-cons {A = ℕ} part i 0 l, m c col, e);
           long = n ∙ k .long;
           holding = h;
         }
@@ -157,3 +163,7 @@ module _ (fronts backs part kept₀ : List ℕ) (g : PartFits fronts backs (leng
         pub meeting-stop : r ≡ false → (c : Content) → Columns c fronts backs → meetAll c part (slots kept₀) ≡ metAs false (slots kept′)
         unfolding meetAll
         meeting-stop e c col = k .same c col ∙ rw (drop-cons {A = ℕ} part i 0 l, m c col, e)
+
+        pub left-stop : r ≡ false → kept′ ≡ kept → (c : Content) → Columns c fronts backs → slots kept′ ≡ keptMet c part (slots kept₀)
+        unfolding keptMet
+        left-stop e n c col = ap slots n ∙ sym (k .left c col ∙ rw (drop-cons {A = ℕ} part i 0 l, m c col, e))

@@ -7,11 +7,11 @@ use mathlib.Core.Path.{_≡_}
 use lib.ListN.{getD, length}
 use lib.Seq.{sets}
 use Rattle.edge.specs.Uses.{backOf, edgeNumber, frontOf}
-use Rattle.face_edits.specs.FaceEdits.{backsIn, frontsIn}
+use Rattle.face_edits.specs.FaceEdits.{backsIn, frontsIn, meet}
 use Rattle.lists.specs.Lists.{flat}
 use Rattle.openings.specs.Slots.{Holding, keptIn}
 use Rattle.pattern.specs.Contents.{Content}
-use Rattle.shell.specs.Openings.{Kept, chain}
+use Rattle.shell.specs.Openings.{Kept, backIn, chain, frontIn}
 use Rattle.glue_walk.specs.declared.Chained.{Chained}
 
 -- ---- uses
@@ -44,6 +44,15 @@ abbrev pub metAs : Bool → Kept → Option Kept
 metAs true kept = some kept
 metAs false kept = none
 
+-- what is kept after the second face's uses, or up to the first of them that cannot be met
+abbrev pub keptUpTo : Option Kept → Kept → (Kept → Kept) → Kept
+keptUpTo none kept next = kept
+keptUpTo (some met) kept next = next met
+
+unfoldable pub keptMet : Content → List ℕ → Kept → Kept
+keptMet c [] kept = kept
+keptMet c (u ∷ us) kept = keptUpTo (meet c u (getD kept (backIn c u) none) kept) kept (keptMet c us)
+
 -- the outline from point p, if a use is kept there, and what is kept after it
 pub record Outline : Type 0 where
   pub wires : List (List ℕ)
@@ -52,6 +61,11 @@ pub record Outline : Type 0 where
 abbrev pub outlineAt : (ℕ → ℕ) → (ℕ → ℕ) → Option ℕ → ℕ → Kept → Outline
 outlineAt front back none p kept = record { wires = []; kept = kept }
 outlineAt front back (some u) p kept = let r = chain front back (suc (length kept)) p kept 0 in record { wires = r .opening ∷ []; kept = r .kept }
+
+-- what is kept after the outlines from these points
+unfoldable pub keptChained : Content → List ℕ → Kept → Kept
+keptChained c [] kept = kept
+keptChained c (p ∷ ps) kept = keptChained c ps (outlineAt (frontIn c) (backIn c) (getD kept p none) p kept .kept)
 
 abbrev pub nothing : Chained
 nothing = record { uses = 0; wires = 0 }

@@ -1,18 +1,18 @@
 // The uses of two faces, kept in an array and met one after the other; the outlines that they leave,
 // chained. The kept uses are a slice with a place for each point, 65535 where none is kept.
 ghost use mathlib.Core.Path.{_≡_};
-ghost use mathlib.Core.Bool.{_&&_, not};
+ghost use mathlib.Core.Bool.{_&&_, false, not};
 ghost use mathlib.Core.Option.{none};
 ghost use Prim.Native.Nat.{_<_};
 ghost use lib.Dec.{eqb};
-ghost use lib.ListN.{getD, length, set};
+ghost use lib.ListN.{getD, length};
 ghost use Rattle.edge.specs.Uses.{backOf, edgeNumber, frontOf};
 ghost use Rattle.face_edits.specs.FaceEdits.{chained, meet, meetAll};
 ghost use Rattle.lists.specs.Lists.{numbers};
 ghost use Rattle.openings.specs.Slots.{Holding, slots};
 ghost use Rattle.pattern.specs.Contents.{Content};
 ghost use Rattle.shell.specs.Openings.{backIn, keep};
-ghost use Rattle.glue_walk.specs.Walks.{Columns, EndColumns, Fits, Laid, metAs, nothing, outlineAt, Room, PartFits};
+ghost use Rattle.glue_walk.specs.Walks.{Columns, EndColumns, Fits, keptChained, keptMet, Laid, metAs, nothing, outlineAt, Room, PartFits};
 use edge::back_of;
 use edge::front_of;
 use openings::follow_from;
@@ -59,6 +59,7 @@ fn meet_use(kept: &mut [u16], u: u16, fronts: &[u16], backs: &[u16]) -> bool
     requires { ⌜ Holding (now fronts) (now backs) (now kept) ⌝ }
     ensures { λ r. ⌜ ((c : Content) → Columns c (now (fronts .entry)) (now (backs .entry)) → meet c u (getD (slots (now (kept .entry))) (backIn c u) none) (slots (now (kept .entry))) ≡ metAs r (slots (now (kept .exit)))) ⌝ }
     ensures { λ _. ⌜ Holding (now (fronts .entry)) (now (backs .entry)) (now (kept .exit)) ⌝ }
+    ensures { λ r. ⌜ (r ≡ false → now (kept .exit) ≡ now (kept .entry)) ⌝ }
 {
     let a = front_of(u, fronts, backs);
     let b = back_of(u, fronts, backs);
@@ -74,12 +75,14 @@ fn meet_use(kept: &mut [u16], u: u16, fronts: &[u16], backs: &[u16]) -> bool
     true
 }
 
-// The uses of the second face, in sequence; false at the first that cannot be met.
+// The uses of the second face, in sequence; false at the first that cannot be met, which changes
+// nothing.
 pub fn meet_all(kept: &mut [u16], part: &[u16], fronts: &[u16], backs: &[u16]) -> bool
     requires { ⌜ PartFits (now fronts) (now backs) (length (now kept)) (now part) ⌝ }
     requires { ⌜ Holding (now fronts) (now backs) (now kept) ⌝ }
     ensures { λ r. ⌜ ((c : Content) → Columns c (now (fronts .entry)) (now (backs .entry)) → meetAll c (now (part .entry)) (slots (now (kept .entry))) ≡ metAs r (slots (now (kept .exit)))) ⌝ }
     ensures { λ _. ⌜ Holding (now (fronts .entry)) (now (backs .entry)) (now (kept .exit)) ⌝ }
+    ensures { λ _. ⌜ ((c : Content) → Columns c (now (fronts .entry)) (now (backs .entry)) → slots (now (kept .exit)) ≡ keptMet c (now (part .entry)) (slots (now (kept .entry)))) ⌝ }
 {
     let mut i: usize = 0;
     while i < part.len() {
@@ -133,6 +136,7 @@ pub fn chain_all(
     requires { ⌜ Room (now fronts) (now backs) (now kept) (now out) (now lens) nothing ⌝ }
     ensures { λ r. ⌜ ((c : Content) → Columns c (now (fronts .entry)) (now (backs .entry)) → Laid (chained c (numbers (length (now (kept .entry)))) (slots (now (kept .entry)))) (now (out .entry)) (now (lens .entry)) nothing (now (out .exit)) (now (lens .exit)) r) ⌝ }
     ensures { λ r. ⌜ Room (now (fronts .entry)) (now (backs .entry)) (now (kept .exit)) (now (out .exit)) (now (lens .exit)) r ⌝ }
+    ensures { λ _. ⌜ ((c : Content) → Columns c (now (fronts .entry)) (now (backs .entry)) → slots (now (kept .exit)) ≡ keptChained c (numbers (length (now (kept .entry)))) (slots (now (kept .entry)))) ⌝ }
 {
     let mut w = Chained { uses: 0, wires: 0 };
     let mut q: usize = 0;

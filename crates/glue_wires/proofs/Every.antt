@@ -13,7 +13,7 @@ use Rattle.lists.proofs.Parts.{all-place}
 use Rattle.lists.specs.Lists.{flat, pick}
 use Rattle.pattern.specs.Contents.{Content}
 use Rattle.shell.specs.Openings.{Found, Kept, backIn, chain, follow, frontIn, keep, lookUp}
-use Rattle.wire.specs.Wires.{Named}
+use Rattle.wire.specs.Named.{Named}
 use Rattle.glue_walk.specs.Walks.{EndColumns, Fits, PartFits}
 
 module _ (P : ℕ → Type 0) where

@@ -23,7 +23,7 @@ use Rattle.errors.specs.declared.Check.{Check}
 use Rattle.errors.specs.declared.Check.the-variants.{Accepted, Refused}
 use Rattle.errors.specs.declared.Refusal.{Refusal}
 use Rattle.face.specs.Faces.{faceFaults, faceRule}
-use Rattle.face_edits.specs.FaceEdits.{chained, fits, glued, gluedOf, keepsRule, meetAll, meeting, noFault}
+use Rattle.face_edits.specs.FaceEdits.{backsIn, chained, fits, frontsIn, glued, gluedOf, keepsRule, leftFaults, meetAll, meeting, metFaults, noFault}
 use Rattle.lists.proofs.Laws.{length-split}
 use Rattle.lists.proofs.Parts.{split-flat}
 use Rattle.lists.specs.Lists.{flat, numbers, split, sum, unless}
@@ -33,10 +33,10 @@ use Rattle.openings.specs.Slots.{Holding, slots}
 use Rattle.pattern.specs.Contents.{Content, zeroEdge}
 use Rattle.shell.specs.Openings.{Kept, keep}
 use Rattle.shell_edits.proofs.Accepted.{sum-lengths}
-use Rattle.wire.specs.Wires.{Named}
+use Rattle.wire.specs.Named.{Named}
 use Rattle.glue_walk.specs.declared.Chained.{Chained}
 use Rattle.glue_walk.specs.Walks.{Columns, EndColumns, Fits, Laid, Room, PartFits, metAs, nothing}
-use Rattle.glue_wires.specs.Glues.{EachFits, Shown, Wrote, lastFaults, restFaults}
+use Rattle.glue_wires.specs.Glues.{EachFits, Shown, Wrote}
 use Rattle.glue_wires.proofs.Every.{Every, all-within, chained-every, every-bare, keep-every, meet-every, named}
 
 -- ---- the face rule
@@ -51,10 +51,10 @@ module _ (fronts backs : List ℕ) where
     rule-is : a ≡ first (faceFaults fronts backs 0 (split parts out))
     rule-is = is ∙ ap first (rule-one (split parts out) (length parts) (length-split parts out))
 
-    pub rule-kept : a ≡ Accepted → false ≡ not (noFault (faceFaults fronts backs 0 (split parts out)))
+    pub rule-kept : a ≡ Accepted → false ≡ not (keepsRule fronts backs (split parts out))
     rule-kept e = rw (accepted-none (faceFaults fronts backs 0 (split parts out)) (sym rule-is ∙ e))
 
-    pub rule-broken : (f : Refusal) → a ≡ Refused f → true ≡ not (noFault (faceFaults fronts backs 0 (split parts out)))
+    pub rule-broken : (f : Refusal) → a ≡ Refused f → true ≡ not (keepsRule fronts backs (split parts out))
     rule-broken f e = go (faceFaults fronts backs 0 (split parts out)) (sym rule-is ∙ e)
       where
         go : (fs : List Refusal) → first fs ≡ Refused f → true ≡ not (noFault fs)
@@ -67,7 +67,7 @@ module _ (fronts backs : List ℕ) where
 -- ---- what is judged, as tests
 
 abbrev three : Bool → Bool → Bool → List FaceEditError
-three a b d = unless a NothingRemains ++ unless b FaceRule ++ unless d NoSpace
+three a b d = unless a NothingRemains ++ (unless b FaceRule ++ unless d NoSpace)
 
 module _ (ws : List (List ℕ)) (us ls : List ℕ) (a b d : Bool) where
   pub is-22 : a ≡ false → Wrote (three a b d) ws us ls us ls (Not NothingRemains)
@@ -94,17 +94,17 @@ module _ (c : Content) (ws : List (List ℕ)) (fronts backs out parts us ls : Li
   number-is : length parts ≡ length ws
   number-is = sym (ap length ep) ∙ length-map ws length
 
-  keeps-is : (r : Bool) → r ≡ not (noFault (faceFaults fronts backs 0 (split parts out))) → keepsRule c ws ≡ not r
+  keeps-is : (r : Bool) → r ≡ not (keepsRule fronts backs (split parts out)) → keepsRule (frontsIn c) (backsIn c) ws ≡ not r
   keeps-is r e =
-      let z : keepsRule c ws ≡ noFault (faceFaults fronts backs 0 (split parts out)) = λ i. noFault (faceFaults (col .begin i) (col .end i) 0 (sym wires-are i)) in
-      z ∙ twice (noFault (faceFaults fronts backs 0 (split parts out))) ∙ ap not (sym e)
+      let z : keepsRule (frontsIn c) (backsIn c) ws ≡ keepsRule fronts backs (split parts out) = λ i. keepsRule (col .begin i) (col .end i) (sym wires-are i) in
+      z ∙ twice (keepsRule fronts backs (split parts out)) ∙ ap not (sym e)
     where
       twice : (b : Bool) → b ≡ not (not b)
       twice true = refl
       twice false = refl
 
-  pub none-left-22 : length parts ≡ 0 → Wrote (lastFaults c ws (length us) (length ls)) ws us ls us ls (Not NothingRemains)
-  none-left-22 e = is-22 ws us ls (ltb 0 (length ws)) (keepsRule c ws) (fits ws (length us) (length ls)) (le-ltb 0 (length ws) (omega (arith, e, number-is)))
+  pub none-left-22 : length parts ≡ 0 → Wrote (leftFaults c ws (length us) (length ls)) ws us ls us ls (Not NothingRemains)
+  none-left-22 e = is-22 ws us ls (ltb 0 (length ws)) (keepsRule (frontsIn c) (backsIn c) ws) (fits ws (length us) (length ls)) (le-ltb 0 (length ws) (omega (arith, e, number-is)))
 
   module _ (n : length parts ≡ 0 → ⊥) where
     some-left : ltb 0 (length ws) ≡ true
@@ -113,9 +113,9 @@ module _ (c : Content) (ws : List (List ℕ)) (fronts backs out parts us ls : Li
         positive : (m : ℕ) → (m ≡ 0 → ⊥) → m ≡ length ws → 0 < length ws
         positive m h e = omega (arith, h, e)
 
-    module _ (r : Bool) (t : r ≡ not (noFault (faceFaults fronts backs 0 (split parts out)))) where
-      pub rule-28 : r ≡ true → Wrote (lastFaults c ws (length us) (length ls)) ws us ls us ls (Not FaceRule)
-      rule-28 e = is-28 ws us ls (ltb 0 (length ws)) (keepsRule c ws) (fits ws (length us) (length ls)) some-left (keeps-is r t ∙ ap not e)
+    module _ (r : Bool) (t : r ≡ not (keepsRule fronts backs (split parts out))) where
+      pub rule-28 : r ≡ true → Wrote (leftFaults c ws (length us) (length ls)) ws us ls us ls (Not FaceRule)
+      rule-28 e = is-28 ws us ls (ltb 0 (length ws)) (keepsRule (frontsIn c) (backsIn c) ws) (fits ws (length us) (length ls)) some-left (keeps-is r t ∙ ap not e)
 
       module _ (k : r ≡ false) where
         fit-not-uses : length us < length out → fits ws (length us) (length ls) ≡ false
@@ -130,29 +130,29 @@ module _ (c : Content) (ws : List (List ℕ)) (fronts backs out parts us ls : Li
             and-false true = refl
             and-false false = refl
 
-        pub space-17 : length us < length out → Wrote (lastFaults c ws (length us) (length ls)) ws us ls us ls (Not NoSpace)
-        space-17 h = is-17 ws us ls (ltb 0 (length ws)) (keepsRule c ws) (fits ws (length us) (length ls)) some-left (keeps-is r t ∙ ap not k) (fit-not-uses h)
+        pub space-17 : length us < length out → Wrote (leftFaults c ws (length us) (length ls)) ws us ls us ls (Not NoSpace)
+        space-17 h = is-17 ws us ls (ltb 0 (length ws)) (keepsRule (frontsIn c) (backsIn c) ws) (fits ws (length us) (length ls)) some-left (keeps-is r t ∙ ap not k) (fit-not-uses h)
 
-        pub places-17 : length ls < length parts → Wrote (lastFaults c ws (length us) (length ls)) ws us ls us ls (Not NoSpace)
-        places-17 h = is-17 ws us ls (ltb 0 (length ws)) (keepsRule c ws) (fits ws (length us) (length ls)) some-left (keeps-is r t ∙ ap not k) (fit-not-lens h)
+        pub places-17 : length ls < length parts → Wrote (leftFaults c ws (length us) (length ls)) ws us ls us ls (Not NoSpace)
+        places-17 h = is-17 ws us ls (ltb 0 (length ws)) (keepsRule (frontsIn c) (backsIn c) ws) (fits ws (length us) (length ls)) some-left (keeps-is r t ∙ ap not k) (fit-not-lens h)
 
         pub all-written : length out ≤ length us → length parts ≤ length ls → (us′ ls′ : List ℕ) → us′ ≡ sets us 0 out → ls′ ≡ sets ls 0 parts
-            → Wrote (lastFaults c ws (length us) (length ls)) ws us ls us′ ls′ (Written (length out) (length parts))
+            → Wrote (leftFaults c ws (length us) (length ls)) ws us ls us′ ls′ (Written (length out) (length parts))
         all-written h l us′ ls′ x y =
             let e : length (flat ws) ≡ length out = ap length eo in
             let f : fits ws (length us) (length ls) ≡ true =
             rw (le-leb (length (flat ws)) (length us) (omega (arith, e)), le-leb (length ws) (length ls) (omega (arith, number-is))) in
-            is-done ws us ls (ltb 0 (length ws)) (keepsRule c ws) (fits ws (length us) (length ls)) some-left (keeps-is r t ∙ ap not k) f us′ ls′
+            is-done ws us ls (ltb 0 (length ws)) (keepsRule (frontsIn c) (backsIn c) ws) (fits ws (length us) (length ls)) some-left (keeps-is r t ∙ ap not k) f us′ ls′
             (rw eo x) (rw ep y) (Written (length out) (length parts)) (rw (e, number-is))
 
 -- ---- 21, and the rest
 module _ (c : Content) (o : Option Kept) (us ls : List ℕ) (m k : ℕ) where
-  pub is-21 : o ≡ none → Wrote (restFaults c o m k) (gluedOf c o) us ls us ls (Not OppositeEdges)
+  pub is-21 : o ≡ none → Wrote (metFaults c o m k) (gluedOf c o) us ls us ls (Not OppositeEdges)
   unfolding flat
   is-21 e = rw e (record { answer = refl; uses = refl; lengths = refl })
 
-  pub is-rest : (kept : Kept) → o ≡ some kept → (us′ ls′ : List ℕ) (r : FaceAnswer) → Wrote (lastFaults c (gluedOf c (some kept)) m k) (gluedOf c (some kept)) us ls us′ ls′ r
-      → Wrote (restFaults c o m k) (gluedOf c o) us ls us′ ls′ r
+  pub is-rest : (kept : Kept) → o ≡ some kept → (us′ ls′ : List ℕ) (r : FaceAnswer) → Wrote (leftFaults c (gluedOf c (some kept)) m k) (gluedOf c (some kept)) us ls us′ ls′ r
+      → Wrote (metFaults c o m k) (gluedOf c o) us ls us′ ls′ r
   is-rest kept e us′ ls′ r w = rw e w
 
 -- the first n places, as they are lent
@@ -275,7 +275,7 @@ module _ (fronts backs first second kept₀ kept₁ kept₂ : List ℕ) (n : ℕ
       ∙ met c (s .columns)
 
   pub glue-21 : r ≡ false → (c : Content) (f g : ℕ) → Shown c f g fronts backs first second n → (us ls : List ℕ) (m k : ℕ)
-      → Wrote (restFaults c (meeting c f g) m k) (glued c f g) us ls us ls (Not OppositeEdges)
+      → Wrote (metFaults c (meeting c f g) m k) (glued c f g) us ls us ls (Not OppositeEdges)
   glue-21 e c f g s us ls m k = is-21 c (meeting c f g) us ls m k (meeting-is c f g s ∙ ap (λ (b : Bool). metAs b (slots kept₂)) e)
 
   module _ (e : r ≡ true) (l : length kept₂ ≡ n) where
@@ -291,8 +291,8 @@ module _ (fronts backs first second kept₀ kept₁ kept₂ : List ℕ) (n : ℕ
 
     pub glue-rest : (c : Content) (f g : ℕ) → Shown c f g fronts backs first second n → (us ls us′ ls′ : List ℕ) (a : FaceAnswer)
         → ((d : Content) → Columns d fronts backs
-        → Wrote (lastFaults d (chained d (numbers (length kept₂)) (slots kept₂)) (length us) (length ls)) (chained d (numbers (length kept₂)) (slots kept₂)) us ls us′ ls′ a)
-        → Wrote (restFaults c (meeting c f g) (length us) (length ls)) (glued c f g) us ls us′ ls′ a
+        → Wrote (leftFaults d (chained d (numbers (length kept₂)) (slots kept₂)) (length us) (length ls)) (chained d (numbers (length kept₂)) (slots kept₂)) us ls us′ ls′ a)
+        → Wrote (metFaults c (meeting c f g) (length us) (length ls)) (glued c f g) us ls us′ ls′ a
     glue-rest c f g s us ls us′ ls′ a w =
         let z : length kept₂ ≡ length (c .points) = l ∙ sym (s .all) in
         is-rest c (meeting c f g) us ls (length us) (length ls) (slots kept₂) (meeting-is c f g s ∙ ap (λ (b : Bool). metAs b (slots kept₂)) e) us′ ls′ a (rw z at (w c (s .columns)))

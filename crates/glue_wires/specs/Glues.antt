@@ -1,19 +1,17 @@
 -- What is judged of the wires that a glue leaves, and the lent lists after it.
 use Prim.Native.Nat.{ℕ}
-use mathlib.Core.List.{List, [], _++_, map}
-use mathlib.Core.Option.{Option, none, some}
+use mathlib.Core.List.{List, [], map}
+use mathlib.Core.Option.{none, some}
 use mathlib.Core.Path.{_≡_}
-use lib.Dec.{ltb}
 use lib.ListN.{getD, length}
 use lib.Seq.{sets}
 use Rattle.edit_answers.specs.Answers.{judged}
 use Rattle.edit_answers.specs.declared.FaceAnswer.{FaceAnswer}
 use Rattle.edit_answers.specs.declared.FaceAnswer.the-variants.{Not, Refused, Written}
 use Rattle.edit_answers.specs.declared.FaceEditError.{FaceEditError}
-use Rattle.edit_answers.specs.declared.FaceEditError.the-variants.{FaceRule, NoSpace, NothingRemains, OppositeEdges}
 use Rattle.errors.specs.declared.Refusal.{Refusal}
-use Rattle.face_edits.specs.FaceEdits.{boundaries, fits, gluedOf, isSome, keepsRule}
-use Rattle.lists.specs.Lists.{flat, unless}
+use Rattle.face_edits.specs.FaceEdits.{boundaries}
+use Rattle.lists.specs.Lists.{flat}
 use Rattle.pattern.specs.Contents.{Content}
 use Rattle.shell.specs.Openings.{Kept}
 use Rattle.glue_walk.specs.Walks.{Columns, Fits}
@@ -30,18 +28,6 @@ pub record Shown (c : Content) (f g : ℕ) (fronts backs first second : List ℕ
   pub all : length (c .points) ≡ points
 
 -- ---- judging
-
--- 22, 28, 17: what is judged of the chained wires; m and k are the lengths of the lent lists
-abbrev pub lastFaults : Content → List (List ℕ) → ℕ → ℕ → List FaceEditError
-lastFaults c ws m k = unless (ltb 0 (length ws)) NothingRemains ++ unless (keepsRule c ws) FaceRule ++ unless (fits ws m k) NoSpace
-
--- 21, and these
-abbrev pub restFaults : Content → Option Kept → ℕ → ℕ → List FaceEditError
-restFaults c o m k =
-    unless (isSome o) OppositeEdges
-    ++ unless (ltb 0 (length (gluedOf c o))) NothingRemains
-    ++ unless (keepsRule c (gluedOf c o)) FaceRule
-    ++ unless (fits (gluedOf c o) m k) NoSpace
 
 -- the wires that are written, if nothing is refused
 abbrev pub unrefused : List FaceEditError → List (List ℕ) → List (List ℕ)

@@ -1,10 +1,10 @@
 -- Links with the same members make the same groups, and so do links that are chains of each other's.
-use Prim.Native.Nat.{_<_, suc, zero, ℕ}
+use Prim.Native.Nat.{_<_, _≤_, suc, zero, ℕ}
 use mathlib.Core.Bool.{Bool, false, true, true≢false}
 use mathlib.Core.List.{List, List·Memᴰ, List·Memᴰ·append-cases, List·Memᴰ·cases-cons, List·Memᴰ·head, List·Memᴰ·not-nil, List·Memᴰ·tail, Memᴰ·append-left, Memᴰ·append-right, Memᴰ·map, Memᴰ·of-map, [], _∷_, map}
 use mathlib.Core.Logic.{⊎-elim}
 use mathlib.Core.Path.{_∙_, _≡_, refl, sym}
-use native.Mathlib.Nat.{le-of-suc-le-suc, not-suc-le-zero}
+use native.Mathlib.Nat.{le-of-suc-le-suc, lt-of-lt-of-le, not-suc-le-zero}
 use lib.ListN.{getD, length}
 use Rattle.groups.proofs.Meaning.{back, chain, linked-one-group, one-group-linked}
 use Rattle.groups.specs.Groups.{Inside, Link, Linked, against, along, here, oneGroup}
@@ -54,6 +54,15 @@ module _ (n : ℕ) (L L′ : List Link) (ps ps′ : List ℕ) (inside : Inside n
 
   pub one-group-alike : Within L L′ → Within L′ L → oneGroup n L ps ≡ oneGroup n L′ ps′
   one-group-alike w w′ = one-group-covers (within-covers w) (within-covers w′)
+
+-- members past those of the links change nothing
+pub one-group-larger : (n m : ℕ) (L : List Link) (ps : List ℕ) → n ≤ m → Inside n L → Under n ps → oneGroup m L ps ≡ oneGroup n L ps
+one-group-larger n m L ps h inside under =
+    let inside′ : Inside m L = λ l o. (lt-of-lt-of-le (inside l o .0) h, lt-of-lt-of-le (inside l o .1) h) in
+    let under′ : Under m ps = λ x o. lt-of-lt-of-le (under x o) h in
+    both (oneGroup m L ps) (oneGroup n L ps)
+    (λ e. linked-one-group n L inside ps under (one-group-linked m L inside′ ps under′ e))
+    (λ e. linked-one-group m L inside′ ps under′ (one-group-linked n L inside ps under e))
 
 -- what stands at a place of a list is a member of it
 pub member-at : {A : Type 0} (d : A) (xs : List A) (k : ℕ) → k < length xs → List·Memᴰ (getD xs k d) xs

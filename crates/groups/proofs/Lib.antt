@@ -7,4 +7,5 @@ pub mod Rooting
 pub mod Cases
 pub mod All
 pub mod Alike
+pub mod Members
 pub mod Parts

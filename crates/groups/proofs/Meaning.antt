@@ -1,6 +1,6 @@
 -- Members have the same label exactly if a chain of links joins them. For labels given by any function that a link changes in the same way.
 use Prim.Native.Nat.{_<_, suc, zero, ℕ}
-use mathlib.Core.Bool.{Bool, false, true}
+use mathlib.Core.Bool.{Bool, false, true, true≢false}
 use mathlib.Core.List.{List, List·Memᴰ, List·Memᴰ·append-cases, List·Memᴰ·cases-cons, List·Memᴰ·eq-of-singleton, List·Memᴰ·head, List·Memᴰ·not-nil, List·Memᴰ·tail, Memᴰ·append-left, Memᴰ·append-right, [], _++_, _∷_, append-assoc, append-nil, map}
 use mathlib.Core.Logic.{_⊎_, inl, inr, ⊎-elim}
 use mathlib.Core.Path.{_∙_, _≡_, ap, refl, sym}
@@ -173,6 +173,15 @@ unfolding every
 says-every q [] h = refl
 says-every q (p ∷ ps) h = rw (h p (List·Memᴰ·head refl), says-every q ps (λ x m. h x (List·Memᴰ·tail m)))
 
+every-fails : (q : ℕ → Bool) (ps : List ℕ) → every q ps ≡ false → (x : ℕ) × List·Memᴰ x ps × (q x ≡ false)
+unfolding every
+every-fails q [] h = absurd (true≢false h)
+every-fails q (p ∷ ps) h =
+    ⊎-elim
+    (λ (t : q p ≡ true). let r = every-fails q ps (rw t at h) in (r .0, List·Memᴰ·tail (r .1), r .2))
+    (λ (t : q p ≡ false). (p, List·Memᴰ·head refl, t))
+    (cases (q p))
+
 -- in one group exactly if every two are linked
 module _ (n : ℕ) (L : List Link) (inside : Inside n L) where
   pub one-group-linked : (ps : List ℕ) → ((x : ℕ) → List·Memᴰ x ps → x < n) → oneGroup n L ps ≡ true
@@ -196,3 +205,19 @@ module _ (n : ℕ) (L : List Link) (inside : Inside n L) where
       let o = List·Memᴰ·head refl in
       says-every (sameGroup n L p) ps
       (λ x m. linked-same-group n L inside p x (below p o) (below x (List·Memᴰ·tail m)) (h p x o (List·Memᴰ·tail m)))
+
+  -- in several groups: two are not linked
+  pub several-groups : (ps : List ℕ) → ((x : ℕ) → List·Memᴰ x ps → x < n) → oneGroup n L ps ≡ false
+      → (x : ℕ) × (y : ℕ) × List·Memᴰ x ps × List·Memᴰ y ps × (Linked L x y → ⊥)
+  unfolding oneGroup
+  several-groups [] below h = absurd (true≢false h)
+  several-groups (p ∷ ps) below h =
+      let r = every-fails (sameGroup n L p) ps h in
+      let o = List·Memᴰ·head refl in (
+        p,
+        r .0,
+        o,
+        List·Memᴰ·tail (r .1),
+        λ q.
+            true≢false (sym (linked-same-group n L inside p (r .0) (below p o) (below (r .0) (List·Memᴰ·tail (r .1))) q) ∙ r .2),
+      )

@@ -10,6 +10,7 @@ ghost use Rattle.lists.specs.Lists.{flat, pick, split, sum};
 ghost use Rattle.output.specs.Text.{ascii};
 ghost use Rattle.lines.specs.Lines.{signed, shellLines, solidLine};
 ghost use Rattle.lines.specs.Parts.{item, wordLine, wordLines, wordNumber, wordNumbers, conditionLine, connectedLine, headLines, openingLines, componentLines, refusedLine, Fits};
+use condition::Condition;
 use output::put_decimal;
 use output::put_field;
 use output::put_text;
@@ -26,7 +27,7 @@ fn sign_of(u: u16) -> u8
 }
 
 // Writes a use or listing: its number and + or -.
-pub fn put_signed(out: &mut [u8], at: usize, u: u16) -> usize
+fn put_signed(out: &mut [u8], at: usize, u: u16) -> usize
     requires { ⌜ at + length (signed u) ≤ length (now out) ⌝ }
     ensures { λ r. ⌜ (now (out .exit) ≡ sets (now (out .entry)) at (signed u)) × (r ≡ at + length (signed u)) ⌝ }
 {
@@ -60,7 +61,7 @@ pub fn put_items(out: &mut [u8], at: usize, us: &[u16]) -> usize
 }
 
 // Writes a line: a word, and uses or listings after it.
-pub fn put_line(out: &mut [u8], at: usize, word: &[u8], us: &[u16]) -> usize
+fn put_line(out: &mut [u8], at: usize, word: &[u8], us: &[u16]) -> usize
     requires { ⌜ at + length (wordLine (now word) (now us)) ≤ length (now out) ⌝ }
     ensures { λ r. ⌜ (now (out .exit) ≡ sets (now (out .entry)) at (wordLine (now (word .entry)) (now (us .entry)))) × (r ≡ at + length (wordLine (now (word .entry)) (now (us .entry)))) ⌝ }
 {
@@ -71,7 +72,7 @@ pub fn put_line(out: &mut [u8], at: usize, word: &[u8], us: &[u16]) -> usize
 }
 
 // Writes a line for each part of `items`; `lens` has the lengths of the parts.
-pub fn put_lines(out: &mut [u8], at: usize, word: &[u8], items: &[u16], lens: &[u16]) -> usize
+fn put_lines(out: &mut [u8], at: usize, word: &[u8], items: &[u16], lens: &[u16]) -> usize
     requires { ⌜ (sum (now lens) ≡ length (now items)) × (at + length (wordLines (now word) (now lens) (now items)) ≤ length (now out)) ⌝ }
     ensures { λ r. ⌜ (now (out .exit) ≡ sets (now (out .entry)) at (wordLines (now (word .entry)) (now (lens .entry)) (now (items .entry)))) × (r ≡ at + length (wordLines (now (word .entry)) (now (lens .entry)) (now (items .entry)))) ⌝ }
 {
@@ -98,7 +99,7 @@ pub fn put_number(out: &mut [u8], at: usize, word: &[u8], n: usize) -> usize
 }
 
 // Writes a line with the word for each number.
-pub fn put_numbers(out: &mut [u8], at: usize, word: &[u8], points: &[u16]) -> usize
+fn put_numbers(out: &mut [u8], at: usize, word: &[u8], points: &[u16]) -> usize
     requires { ⌜ at + length (wordNumbers (now word) (now points)) ≤ length (now out) ⌝ }
     ensures { λ r. ⌜ (now (out .exit) ≡ sets (now (out .entry)) at (wordNumbers (now (word .entry)) (now (points .entry)))) × (r ≡ at + length (wordNumbers (now (word .entry)) (now (points .entry)))) ⌝ }
 {
@@ -112,17 +113,17 @@ pub fn put_numbers(out: &mut [u8], at: usize, word: &[u8], points: &[u16]) -> us
 }
 
 // Writes the line of the condition.
-fn put_condition(out: &mut [u8], at: usize, condition: u8) -> usize
+fn put_condition(out: &mut [u8], at: usize, condition: Condition) -> usize
     requires { ⌜ at + 20 ≤ length (now out) ⌝ }
-    ensures { λ r. ⌜ (now (out .exit) ≡ sets (now (out .entry)) at (conditionLine condition)) × (r ≡ at + length (conditionLine condition)) ⌝ }
+    ensures { λ r. ⌜ (now (out .exit) ≡ sets (now (out .entry)) at (conditionLine (condition .0))) × (r ≡ at + length (conditionLine (condition .0))) ⌝ }
 {
-    if condition == 0 {
+    if condition.is(Condition::IRREGULAR) {
         return put_text(out, at, b"condition Irregular\n");
     }
-    if condition == 1 {
+    if condition.is(Condition::REGULAR) {
         return put_text(out, at, b"condition Regular\n");
     }
-    if condition == 2 {
+    if condition.is(Condition::ORIENTED) {
         return put_text(out, at, b"condition Oriented\n");
     }
     put_text(out, at, b"condition Closed\n")
@@ -140,9 +141,9 @@ fn put_connected(out: &mut [u8], at: usize, connected: bool) -> usize
 }
 
 // Writes the number of the shell, its condition, and whether it is connected.
-fn put_head(out: &mut [u8], at: usize, n: usize, condition: u8, connected: bool) -> usize
+fn put_head(out: &mut [u8], at: usize, n: usize, condition: Condition, connected: bool) -> usize
     requires { ⌜ (n < 100) × (at + 43 ≤ length (now out)) ⌝ }
-    ensures { λ r. ⌜ (now (out .exit) ≡ sets (now (out .entry)) at (headLines n condition connected)) × (r ≡ at + length (headLines n condition connected)) ⌝ }
+    ensures { λ r. ⌜ (now (out .exit) ≡ sets (now (out .entry)) at (headLines n (condition .0) connected)) × (r ≡ at + length (headLines n (condition .0) connected)) ⌝ }
 {
     let second = put_number(out, at, b"shell ", n);
     let third = put_condition(out, second, condition);
@@ -172,7 +173,7 @@ pub fn put_shell(
     out: &mut [u8],
     at: usize,
     n: usize,
-    condition: u8,
+    condition: Condition,
     connected: bool,
     uses: &[u16],
     lens: &[u16],
@@ -182,7 +183,7 @@ pub fn put_shell(
     points: &[u16],
 ) -> usize
     requires { ⌜ Fits (now out) at n lookups (now uses) (now lens) (now pairs) (now plens) (now points) ⌝ }
-    ensures { λ r. ⌜ (now (out .exit) ≡ sets (now (out .entry)) at (shellLines n (record { condition = condition; connected = connected; openings = split (now (lens .entry)) (now (uses .entry)); lookups = lookups; components = split (now (plens .entry)) (now (pairs .entry)); singular = now (points .entry) }))) × (r ≡ at + length (shellLines n (record { condition = condition; connected = connected; openings = split (now (lens .entry)) (now (uses .entry)); lookups = lookups; components = split (now (plens .entry)) (now (pairs .entry)); singular = now (points .entry) }))) × (r ≤ at + 70300) ⌝ }
+    ensures { λ r. ⌜ (now (out .exit) ≡ sets (now (out .entry)) at (shellLines n (record { condition = condition .0; connected = connected; openings = split (now (lens .entry)) (now (uses .entry)); lookups = lookups; components = split (now (plens .entry)) (now (pairs .entry)); singular = now (points .entry) }))) × (r ≡ at + length (shellLines n (record { condition = condition .0; connected = connected; openings = split (now (lens .entry)) (now (uses .entry)); lookups = lookups; components = split (now (plens .entry)) (now (pairs .entry)); singular = now (points .entry) }))) × (r ≤ at + 70300) ⌝ }
 {
     let openings = put_head(out, at, n, condition, connected);
     let components = put_openings(out, openings, uses, lens, lookups);

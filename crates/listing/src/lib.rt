@@ -8,11 +8,12 @@ ghost use lib.Seq.{sets};
 ghost use Rattle.lists.specs.Lists.{padded, pick, sum, tabulate};
 ghost use Rattle.edge.specs.Uses.{turned};
 ghost use Rattle.listing.specs.Parts.{faceStart, partAt, Shows, turnedUses};
+use face::FaceID;
 use words::index;
 use words::sum_of;
 
 // A use turned: the same edge the other way.
-pub fn turn(u: u16) -> u16
+fn turn(u: u16) -> u16
     ensures { λ r. ⌜ r ≡ turned u ⌝ }
 {
     if 32768 <= u {
@@ -69,7 +70,7 @@ pub fn put_face_starts(wires: &[u16], counts: &[u16], n: usize, out: &mut [usize
 
 // The uses that a listing shows, from `start` to `end`: of the column of uses, or, reversed, of that
 // of uses turned.
-pub fn shown<'a>(
+fn shown<'a>(
     uses: &'a [u16],
     turned: &'a [u16],
     start: usize,
@@ -91,6 +92,7 @@ pub fn part_of<'a>(uses: &'a [u16], turned: &'a [u16], starts: &[usize], l: u16)
     requires { ⌜ Shows (now uses) (now turned) (now starts) l ⌝ }
     ensures { λ r. ⌜ now r ≡ partAt (now (uses .entry)) (now (turned .entry)) (now (starts .entry)) l ⌝ }
 {
-    let f = index(l % 32768);
+    let face = FaceID::of_listing(l);
+    let f = index(face.0);
     shown(uses, turned, starts[f], starts[f + 1], 32768 <= l)
 }

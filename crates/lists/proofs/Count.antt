@@ -4,7 +4,7 @@ use mathlib.Core.Bool.{Bool, _&&_, false, not, true}
 use mathlib.Core.List.{List, [], _++_, _∷_, map, reverse, reverseAux}
 use mathlib.Core.Path.{_≡_, refl}
 use native.Mathlib.Omega.{arith}
-use lib.ListN.{drop, getD, length, take}
+use lib.ListN.{drop, getD, length, replicate, set, take}
 use Rattle.lists.specs.Lists.{count, flat, only, pick, split}
 
 -- a test as a number
@@ -95,6 +95,15 @@ module _ {ℓ} {A : Type ℓ} where
   unfolding split
   all-split P [] xs h = tt
   all-split P (n ∷ ns) xs h = (all-take P n xs h, all-split P ns (drop n xs) (all-drop P n xs h))
+
+  pub all-set : (P : A → Type 0) (xs : List A) (i : ℕ) (y : A) → All P xs → P y → All P (set xs i y)
+  all-set P [] i y h r = tt
+  all-set P (x ∷ xs) zero y h r = (r, h .1)
+  all-set P (x ∷ xs) (suc i) y h r = (h .0, all-set P xs i y (h .1) r)
+
+  pub all-replicate : (P : A → Type 0) (n : ℕ) (x : A) → P x → All P (replicate n x)
+  all-replicate P zero x h = tt
+  all-replicate P (suc n) x h = (h, all-replicate P n x h)
 
   all-onto : (P : A → Type 0) (xs ys : List A) → All P xs → All P ys → All P (reverseAux xs ys)
   all-onto P [] ys h k = k

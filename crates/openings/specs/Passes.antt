@@ -9,7 +9,7 @@ use lib.Seq.{sets}
 use Rattle.lists.specs.Lists.{flat}
 use Rattle.edge.specs.Uses.{edgeNumber}
 use Rattle.shell.specs.Openings.{Found, Walk}
-use Rattle.wire.specs.Wires.{Named}
+use Rattle.wire.specs.Named.{Named}
 use Rattle.openings.specs.declared.Step.{Step}
 use Rattle.openings.specs.declared.Walked.{Walked}
 use Rattle.openings.specs.Slots.{Holding, keptIn, slots}

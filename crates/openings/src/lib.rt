@@ -6,7 +6,7 @@ ghost use Prim.Native.Nat.{_+_, _<_, _≤_, suc};
 ghost use lib.ListN.{length, set};
 ghost use Rattle.lists.specs.Lists.{only};
 ghost use Rattle.edge.specs.Uses.{frontOf, backOf, edgeNumber};
-ghost use Rattle.wire.specs.Wires.{Named};
+ghost use Rattle.wire.specs.Named.{Named};
 ghost use Rattle.shell.specs.Openings.{lookUp, chain, keep};
 ghost use Rattle.shell.specs.OnePass.{pass};
 ghost use Rattle.openings.specs.Slots.{slots, answerOf, keptIn, Holding};
@@ -125,7 +125,7 @@ pub fn keep_part(kept: &mut [u16], part: &[u16], odd: &[u8], fronts: &[u16], bac
 }
 
 // One use of a pass: an opening, if a use is kept at its front.
-pub fn walk_use(
+fn walk_use(
     kept: &mut [u16],
     u: u16,
     fronts: &[u16],

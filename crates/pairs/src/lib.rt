@@ -9,6 +9,7 @@ ghost use Rattle.lists.specs.Lists.{padded};
 ghost use Rattle.lists.specs.Marks.{stamped};
 ghost use Rattle.listing.specs.Parts.{partAt, partsOf};
 ghost use Rattle.pairs.specs.Pairs.{Cleared, hasWiresAt, isNew, Listed, markOf, newPair, pairsIn, pairsOf, pairsWith, Parted, Showing};
+use face::FaceID;
 use listing::part_of;
 use words::copy_u16s;
 use words::index;
@@ -25,7 +26,8 @@ fn has_wires(firsts: &[usize], l: u16) -> bool
     requires { ⌜ Listed (now firsts) l ⌝ }
     ensures { λ r. ⌜ r ≡ hasWiresAt (now (firsts .entry)) l ⌝ }
 {
-    let f = index(l % 32768);
+    let face = FaceID::of_listing(l);
+    let f = index(face.0);
     firsts[f] < firsts[f + 1]
 }
 

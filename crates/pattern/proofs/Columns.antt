@@ -26,7 +26,7 @@ use Rattle.pattern.proofs.Edges.{edge-faults, lists-with, records-are, 
 use Rattle.pattern.proofs.Named.{back-named, front-named}
 use Rattle.pattern.specs.Checks.{contentFaults, edgeFaults, nameFaults, recordFaults, sumFaults}
 use Rattle.pattern.specs.Contents.{Pattern, content}
-use Rattle.wire.specs.Wires.{Named}
+use Rattle.wire.specs.Named.{Named}
 use Rattle.pattern.specs.Columns.{Checkable, columnFaults, listFaults}
 use Rattle.errors.specs.Sequence.{andThen}
 

@@ -1,5 +1,5 @@
 -- The reading checks of the edges, and those after them.
-use Prim.Native.Nat.{_+_, _<_, _≤_, ℕ}
+use Prim.Native.Nat.{ℕ}
 use mathlib.Core.List.{List, [], map}
 use mathlib.Core.Path.{_∙_, _≡_, ap}
 use lib.ListN.{getD, take}

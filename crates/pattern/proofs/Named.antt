@@ -21,7 +21,7 @@ use Rattle.pattern.proofs.Counts.{Full, Limited, uses-counted, wires-co
 use Rattle.pattern.proofs.Passed.{RecordsPassed, records-passed}
 use Rattle.pattern.specs.Checks.{edgeFaults, nameFaults, outlines, recordFaults}
 use Rattle.pattern.specs.Contents.{Content, Pattern, content}
-use Rattle.wire.specs.Wires.{Named}
+use Rattle.wire.specs.Named.{Named}
 
 module _ (c : Content) (fine : each (edgeFaults (length (c .points))) 0 (c .edges) ≡ []) where
   edge-named : (k : ℕ) → k < length (c .edges) → (frontNumber (getD (c .edges) k noEdge) < length (c .points)) × (backNumber (getD (c .edges) k noEdge) < length (c .points))

@@ -3,7 +3,7 @@ use Prim.Native.Nat.{ℕ, _%_}
 use mathlib.Core.Bool.{not, _&&_}
 use mathlib.Core.List.{List, _++_, map}
 use lib.Dec.{eqb, leb, ltb}
-use lib.ListN.{getD, length}
+use lib.ListN.{length}
 use Rattle.lists.specs.Lists.{split, sum, unless}
 use Rattle.errors.specs.declared.Refusal.{Refusal}
 use Rattle.errors.specs.declared.Refusal.the-variants.{Limit, SameVertex, Span, Unnamed}
@@ -11,11 +11,11 @@ use Rattle.errors.specs.Faults.{each}
 use Rattle.edge.specs.declared.Edge.{Edge}
 use Rattle.edge.specs.Edges.{backNumber, frontNumber, isSpan}
 use Rattle.face.specs.Faces.{faceRule, wireCount}
-use Rattle.pattern.specs.Contents.{Content, Pattern, content, layout}
+use Rattle.pattern.specs.Contents.{Content, Pattern, content, limit}
 
 -- counts in body order (2)
 abbrev pub limitFaults : ℕ → ℕ → List Refusal
-limitFaults b n = unless (leb n (getD (layout .limits) b 0)) (Limit b)
+limitFaults b n = unless (leb n (limit b)) (Limit b)
 
 abbrev pub countFaults : List ℕ → List Refusal
 countFaults counts = each limitFaults 0 counts

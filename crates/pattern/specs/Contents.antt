@@ -18,6 +18,9 @@ bodies = 7
 abbrev pub layout : Layout
 layout = record { first = 56; sizes = 4 ∷ 20 ∷ 2 ∷ 2 ∷ 4 ∷ 2 ∷ 2 ∷ []; limits = 2048 ∷ 1024 ∷ 4096 ∷ 1024 ∷ 256 ∷ 16 ∷ 512 ∷ [] }
 
+abbrev pub limit : ℕ → ℕ
+limit b = getD (layout .limits) b 0
+
 pub record Content : Type 0 where
   -- labels
   pub points : List ℕ
@@ -71,13 +74,13 @@ zeroFace = record { wires = 0; surface = 0 }
 abbrev pub stored : Content → Pattern
 stored c = record {
   counts = countsOf c;
-  points = padded 2048 0 (c .points);
-  edges = padded 1024 zeroEdge (c .edges);
-  uses = padded 4096 0 (c .uses);
-  wires = padded 1024 0 (c .wires);
-  faces = padded 256 zeroFace (c .faces);
-  shells = padded 16 0 (c .shells);
-  listings = padded 512 0 (c .listings);
+  points = padded (limit 0) 0 (c .points);
+  edges = padded (limit 1) zeroEdge (c .edges);
+  uses = padded (limit 2) 0 (c .uses);
+  wires = padded (limit 3) 0 (c .wires);
+  faces = padded (limit 4) zeroFace (c .faces);
+  shells = padded (limit 5) 0 (c .shells);
+  listings = padded (limit 6) 0 (c .listings);
 }
 
 -- a content in the storage of p: places past a count keep what they held

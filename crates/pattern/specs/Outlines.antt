@@ -3,6 +3,7 @@ use Prim.Native.Nat.{ℕ}
 use mathlib.Core.List.{List, [], _∷_}
 use lib.Dec.{ltb}
 use lib.ListN.{getD, length, take}
+use Rattle.errors.specs.Numbers.{Reply, done, refused, unread}
 use Rattle.errors.specs.declared.Refusal.{Refusal}
 use Rattle.lists.specs.Lists.{pick, sum}
 use Rattle.pattern.specs.Checks.{patternFaults}
@@ -17,3 +18,9 @@ placeOf [] c w = pick (ltb w (length (c .wires))) (At (sum (take w (c .wires))) 
 
 abbrev pub wirePlace : Pattern → ℕ → WirePlace
 wirePlace p w = placeOf (patternFaults p) (content p) w
+
+-- number and values: where the uses begin and how many they are; 3 alone for a wire that does not exist
+abbrev pub placeReply : WirePlace → Reply
+placeReply (At start n) = done (start ∷ n ∷ [])
+placeReply (Refused f) = unread f
+placeReply NoWire = refused 3 []

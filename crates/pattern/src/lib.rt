@@ -4,7 +4,7 @@ ghost use Prim.Native.Nat.{_+_, _<_, _≤_};
 ghost use lib.ListN.{length, getD, take};
 ghost use Rattle.lists.specs.Lists.{split, sum};
 ghost use Rattle.errors.specs.Faults.{first as firstFault, each};
-ghost use Rattle.wire.specs.Wires.{Named};
+ghost use Rattle.wire.specs.Named.{Named};
 ghost use Rattle.face.specs.Faces.{faceRule};
 ghost use Rattle.pattern.specs.Contents.{layout};
 ghost use Rattle.pattern.specs.Checks.{countFaults, edgeFaults, nameFaults, sumFaults};

@@ -1,7 +1,7 @@
 -- The refusals of a removal in sequence, and the wires that the code finds.
 use Prim.Native.Nat.{_-_, _<_, _≤_, suc, zero, ℕ}
 use Prim.{⊥}
-use mathlib.Core.Bool.{Bool, _&&_, _||_, false, true, true≢false}
+use mathlib.Core.Bool.{Bool, _||_, false, true, true≢false}
 use mathlib.Core.List.{List, [], _++_, _∷_}
 use mathlib.Core.Logic.{⊎-elim}
 use mathlib.Core.Path.{_∙_, _≡_, ap, refl, sym}
@@ -9,6 +9,7 @@ use native.Mathlib.Omega.{arith}
 use lib.Dec.{leb, ltb}
 use lib.ListN.{List·getD-eq-default, getD, length}
 use borrow.Author.Tests.{le-leb, le-ltb, lt-leb, lt-ltb, ltb-true, ltb-false}
+use Rattle.concat.proofs.Judged.{and-false}
 use Rattle.concat.specs.Joins.{joint}
 use Rattle.concat.specs.declared.Joint.the-variants.{Not as Joint·Not, Whole}
 use Rattle.remove_vertex_corners.specs.Corners.{fit}
@@ -16,25 +17,18 @@ use Rattle.remove_vertex_corners.specs.declared.Corner.{Corner}
 use Rattle.edge.specs.declared.Edge.{Edge}
 use Rattle.edit_answers.specs.declared.EditError.{EditError}
 use Rattle.edit_answers.specs.declared.EditError.the-variants.{NotOneOrTwoWires, SharedFace, Unmatched, Unnamed}
-use Rattle.lists.proofs.Count.{All}
 use Rattle.lists.proofs.Laws.{cases}
 use Rattle.lists.proofs.Parts.{all-place}
 use Rattle.lists.specs.Lists.{has, only, unless}
 use Rattle.pattern.specs.Contents.{Content}
 use Rattle.remove_vertex_corners.specs.Endings.{endingOf, endsAt}
-use Rattle.remove_vertex.specs.Removals.{OfEdges, nearFaults, pairing, removal}
+use Rattle.remove_vertex.specs.Removals.{OfEdges, pairing, removal}
 use Rattle.remove_vertex_corners.specs.declared.Ending.{Ending}
 use Rattle.remove_vertex.specs.declared.Pairing.{Pairing}
 use Rattle.remove_vertex.specs.declared.Pairing.the-variants.{Found, Not as Pair·Not}
 use Rattle.remove_vertex.specs.declared.Removal.the-variants.{Joins, Not}
-use Rattle.shell_edits.specs.Edits.{endingWires, firstWire, lastWire, matched, sharesFace}
-
--- those that pass a test pass it
-passes : (q : ℕ → Bool) (xs : List ℕ) → All (λ (x : ℕ). q x ≡ true) (only q xs)
-unfolding only
-passes q [] = tt
-passes q (x ∷ xs) =
-    ⊎-elim (λ (t : q x ≡ true). rw t (t, passes q xs)) (λ (t : q x ≡ false). rw t (passes q xs)) (cases (q x))
+use Rattle.shell_edits.proofs.Removal.{only-pass}
+use Rattle.shell_edits.specs.Edits.{endingWires, firstWire, lastWire, matched, nearFaults, sharesFace}
 
 module _ (fronts backs : List ℕ) (v : ℕ) (xss : List (List ℕ)) where
   inside : (w : ℕ) → endsAt fronts backs v (getD xss w []) ≡ true → w < length xss
@@ -53,15 +47,11 @@ module _ (fronts backs : List ℕ) (v : ℕ) (xss : List (List ℕ)) where
       let number : e .number ≡ length l = ap (λ (r : Ending). r .number) is in
       let first : e .first ≡ firstWire l = ap (λ (r : Ending). r .first) is in
       let last : e .last ≡ lastWire l = ap (λ (r : Ending). r .last) is in (
-        rw first (inside (firstWire l) (all-place (λ (x : ℕ). q x ≡ true) 0 l (passes q ws) 0 (omega arith))),
-        rw last (inside (lastWire l) (all-place (λ (x : ℕ). q x ≡ true) 0 l (passes q ws) (length l - 1) (omega arith))),
+        rw first (inside (firstWire l) (all-place (λ (x : ℕ). q x ≡ true) 0 l (only-pass q ws) 0 (omega arith))),
+        rw last (inside (lastWire l) (all-place (λ (x : ℕ). q x ≡ true) 0 l (only-pass q ws) (length l - 1) (omega arith))),
       )
 
 -- ---- the refusals
-and-false : (a b : Bool) → b ≡ false → (a && b) ≡ false
-and-false true b h = h
-and-false false b h = refl
-
 module _ (es : List EditError) (d : Edge) (e : Ending) where
   pub removal-not : {x : EditError} → joint es d ≡ Joint·Not x → Not x ≡ removal es d e
   removal-not h = go es h

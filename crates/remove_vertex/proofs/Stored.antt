@@ -2,17 +2,16 @@
 use native.Mathlib.Nat.{sub-zero}
 use native.Mathlib.Omega.{arith}
 use Prim.Native.Nat.{_+_, _-_, _<_, suc, ℕ, _≤_}
-use lib.Dec.{eqb, leb, ltb}
+use lib.Dec.{eqb, ltb}
 use lib.Ieee.{Float}
 use lib.ListN.{getD, length, length-map, length-replicate, replicate, set, take}
 use lib.Seq.{sets}
-use mathlib.Core.Bool.{_&&_, false, not, true≢false, _||_}
+use mathlib.Core.Bool.{false, true≢false, _||_}
 use mathlib.Core.List.{_++_, [], List, map, _∷_}
-use mathlib.Core.Path.{ap, refl, sym, _∙_, _≡_}
+use mathlib.Core.Path.{ap, sym, _∙_, _≡_}
 use Rattle.concat.proofs.Judged.{joined-is, joins-are, room-there}
-use Rattle.concat.specs.Joins.{appended, endFaults, joinedEnds}
+use Rattle.concat.specs.Joins.{appended}
 use Rattle.remove_vertex_corners.proofs.Places.{part-long}
-use Rattle.remove_vertex_corners.proofs.Wires.{length-each}
 use Rattle.remove_vertex_corners.specs.Corners.{fit, removedWire}
 use Rattle.remove_vertex_corners.specs.Endings.{endingOf, endsAt}
 use Rattle.remove_vertex_corners.specs.Tables.{TwoUses, WireTables}
@@ -22,7 +21,7 @@ use Rattle.edge.specs.Edges.{backNumber, frontNumber}
 use Rattle.edge.specs.Uses.{backOf, frontOf}
 use Rattle.edge.specs.declared.Edge.{Edge}
 use Rattle.edit_answers.specs.declared.EditError.{EditError}
-use Rattle.edit_answers.specs.declared.EditError.the-variants.{NotOneOrTwoWires, SharedFace, Unmatched, Unnamed}
+use Rattle.edit_answers.specs.declared.EditError.the-variants.{Unmatched}
 use Rattle.errors.proofs.Laws.{none-left, none-right}
 use Rattle.errors.specs.Faults.{each}
 use Rattle.face.proofs.Laws.{none-mapped}
@@ -39,16 +38,18 @@ use Rattle.pattern.specs.Checks.{contentFaults, outlines, patternFaults, record
 use Rattle.pattern.specs.Contents.{Content, Pattern, content}
 use Rattle.shell.specs.Shells.{listingsOf}
 use Rattle.shell_edits.proofs.Storage.{seven-are}
-use Rattle.shell_edits.specs.Edits.{eachWire, edgeOf, endingWires, endUse, firstWire, joinedEdge, joinFaults, lastWire, listedWires, matched, nextUse, removeFaults, sharesFace, wiresIn, wiresOf}
+use Rattle.shell_edits.proofs.Wires.{each-long}
+use Rattle.shell_edits.specs.Edits.{eachWire, edgeOf, endFaults, endingWires, endUse, joinedEdge, joinFaults, lastWire, listedWires, matched, nearFaults, nextUse, removeFaults, wiresIn, wiresOf}
+use Rattle.shell_edits.specs.NewEdges.{joinedEnds}
 use Rattle.shell_wires.proofs.Facts.{Fine, stored-edited}
+use Rattle.shell_wires.proofs.Held.{held-lent}
 use Rattle.shell_wires.proofs.Made.{ends-named, ends-room, lent-fine, uses-room, wires-room}
 use Rattle.shell_wires.specs.Lent.{Lent}
-use Rattle.store.proofs.View.{held-backs, held-fronts, held-full, held-seven, held-wire-counts}
 use Rattle.store.specs.Store.{countTable, held, listingTable, shellTable, useTable, wireTable}
 use Rattle.wire.proofs.Laws.{faultless-sound}
 use Rattle.wire.specs.Wires.{closed, points, runs, wireFaults}
 use Rattle.remove_vertex.proofs.Removals.{ending-inside, pairing-found, pairing-not}
-use Rattle.remove_vertex.specs.Removals.{cornerIn, cornerLent, nearFaults, pairEdge, pairing, pairStored, pairWires, removal, removedIn}
+use Rattle.remove_vertex.specs.Removals.{cornerIn, cornerLent, pairEdge, pairing, pairStored, pairWires, removal, removedIn}
 use Rattle.remove_vertex.specs.declared.Pairing.{Pairing}
 use Rattle.remove_vertex.specs.declared.Pairing.the-variants.{Found, Not as Pair·Not}
 use Rattle.remove_vertex.specs.declared.Removal.{Removal}
@@ -220,7 +221,7 @@ module _ (p : Pattern) (s : Fine p) (v : ℕ) (e : Ending) where
   pairs-long : length (map length made) ≡ getD (p .counts) 3 0
   pairs-long =
       length-map made length
-      ∙ length-each (removedWire (map frontNumber (content p .edges)) (map backNumber (content p .edges)) v e (length (content p .edges))) 0 (wiresIn (content p))
+      ∙ each-long (removedWire (map frontNumber (content p .edges)) (map backNumber (content p .edges)) v e (length (content p .edges))) 0 (wiresIn (content p))
       ∙ length-split (content p .wires) (content p .uses) ∙ wires-counted p (s .limits) (s .full)
 
   -- the storage
@@ -252,37 +253,16 @@ module _ (p : Pattern) (s : Fine p) (v : ℕ) (e : Ending) where
 
 -- ---- the tables of a store that holds a pattern without fault
 module _ (t : List ℕ) (spans : List Float) (long : length t ≡ 12312) (ok : patternFaults (held t spans) ≡ []) where
-  pub held-lent : Lent (held t spans) (countTable t) (frontTable t) (backTable t) (useTable t) (wireTable t) (faceTable t) (shellTable t) (listingTable t)
-  held-lent = record {
-    listed = record {
-      ok = ok;
-      seven = held-seven t spans long;
-      full = held-full t spans long;
-      counts-are = refl;
-      faces-are = held-wire-counts t spans long;
-      shells-are = refl;
-      listings-are = refl;
-    };
-    fronts-are = held-fronts t spans long;
-    backs-are = held-backs t spans long;
-    uses-are = refl;
-    wires-are = refl;
-  }
-
   pub held-tables : WireTables (useTable t) (getD (countTable t) 2 0) (wireTable t) (getD (countTable t) 3 0) (frontTable t) (backTable t) (getD (countTable t) 1 0)
-  held-tables = tables (held t spans) (countTable t) (frontTable t) (backTable t) (useTable t) (wireTable t) (faceTable t) (shellTable t) (listingTable t) held-lent
+  held-tables = tables (held t spans) (countTable t) (frontTable t) (backTable t) (useTable t) (wireTable t) (faceTable t) (shellTable t) (listingTable t) (held-lent t spans long ok)
 
   pub held-removed : (v : ℕ) (e : Ending) → removedIn t v e ≡ pairWires (content (held t spans)) v e
-  held-removed = pairs-are (held t spans) (countTable t) (frontTable t) (backTable t) (useTable t) (wireTable t) (faceTable t) (shellTable t) (listingTable t) held-lent
+  held-removed = pairs-are (held t spans) (countTable t) (frontTable t) (backTable t) (useTable t) (wireTable t) (faceTable t) (shellTable t) (listingTable t) (held-lent t spans long ok)
 
 -- where nothing is refused, there is room
 pub removal-room : (c : Content) (n v : ℕ) → removeFaults c n v ≡ [] → length (c .edges) < 1024
 removal-room c n v h =
-    let ws = endingWires c n v in
-    let named = unless (ltb n (length (c .shells)) && ltb v (length (c .points))) Unnamed in
-    let own = unless (not (sharesFace c n)) SharedFace in
-    let some = unless (ltb 0 (length ws) && leb (length ws) 2) NotOneOrTwoWires in
-    let match = unless (ltb (length ws) 2 || matched c v (firstWire ws) (lastWire ws)) Unmatched in
-    let u = endUse c v (lastWire ws) in
-    let w = nextUse c v (lastWire ws) in
-    room-there c u w (none-right (named ++ own ++ some ++ match) (joinFaults c u w) h)
+    let last = lastWire (endingWires c n v) in
+    let u = endUse c v last in
+    let w = nextUse c v last in
+    room-there c u w (none-right (nearFaults c n v) (joinFaults c u w) h)

@@ -1,36 +1,24 @@
 -- The removal of a point, from the wires with a use that ends there.
 use Prim.Native.Nat.{_<_, ℕ}
-use mathlib.Core.List.{List, [], map, _∷_, _++_}
-use lib.ListN.{getD, length, take}
-use Rattle.remove_vertex_corners.specs.declared.Ending.{Ending}
-use mathlib.Core.Bool.{_&&_, _||_, not}
+use mathlib.Core.List.{List, [], map, _∷_}
 use mathlib.Core.Path.{_≡_}
-use lib.Dec.{leb, ltb}
-use Rattle.lists.specs.Lists.{flat, split, unless}
+use lib.ListN.{getD, length, take}
+use Rattle.lists.specs.Lists.{flat, split}
 use Rattle.edge.specs.Edges.{backNumber, frontNumber}
 use Rattle.edge.specs.Uses.{edgeNumber}
 use Rattle.edge.specs.declared.Edge.{Edge}
 use Rattle.pattern.specs.Contents.{Content, Pattern, content, storedIn}
 use Rattle.edit_answers.specs.declared.EditError.{EditError}
-use Rattle.edit_answers.specs.declared.EditError.the-variants.{NotOneOrTwoWires, SharedFace, Unmatched, Unnamed}
-use Rattle.shell_edits.specs.Edits.{eachWire, edited, endUse, endingWires, firstWire, joinedEdge, lastWire, matched, nextUse, sharesFace, wiresIn}
+use Rattle.shell_edits.specs.Edits.{eachWire, edited, endUse, joinedEdge, nextUse, wiresIn}
 use Rattle.remove_vertex_corners.specs.Corners.{cornerOf, removedWire}
 use Rattle.remove_vertex_corners.specs.declared.Corner.{Corner}
+use Rattle.remove_vertex_corners.specs.declared.Ending.{Ending}
 use Rattle.store.specs.Store.{countTable, useTable, wireTable}
 use Rattle.remove_vertex.specs.declared.Pairing.{Pairing}
 use Rattle.remove_vertex.specs.declared.Pairing.the-variants.{Found, Not}
 use Rattle.remove_vertex.specs.declared.Removal.{Removal}
 use Rattle.remove_vertex.specs.declared.Removal.the-variants.{Joins, Not as Rmv·Not}
 use Rattle.store.specs.Columns.{backTable, frontTable}
-
--- the refusals before the edges are joined: 3, 27, 23, 24
-abbrev pub nearFaults : Content → ℕ → ℕ → List EditError
-nearFaults c n p =
-    let ws = endingWires c n p in
-    unless (ltb n (length (c .shells)) && ltb p (length (c .points))) Unnamed
-    ++ unless (not (sharesFace c n)) SharedFace
-    ++ unless (ltb 0 (length ws) && leb (length ws) 2) NotOneOrTwoWires
-    ++ unless (ltb (length ws) 2 || matched c p (firstWire ws) (lastWire ws)) Unmatched
 
 -- the use of wire w that ends at v, and the next: by the definition, and in lent tables
 abbrev pub cornerIn : Content → ℕ → ℕ → Corner

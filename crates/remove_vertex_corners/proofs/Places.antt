@@ -20,7 +20,8 @@ use Rattle.remove_vertex_corners.specs.declared.Corner.{Corner}
 use Rattle.remove_vertex_corners.specs.declared.Ending.{Ending}
 use Rattle.shell_edits.specs.Edits.{placeIn}
 use Rattle.wire.proofs.Laws.{named-part}
-use Rattle.wire.specs.Wires.{Named, endFrom}
+use Rattle.wire.specs.Named.{Named}
+use Rattle.wire.specs.Wires.{endFrom}
 use Rattle.wire.specs.declared.Found.{Found}
 use Rattle.wire.specs.declared.Found.the-variants.{At, Nothing}
 use Rattle.remove_vertex_corners.proofs.Flagging.{isAt}

@@ -1,15 +1,14 @@
 -- One wire, and all wires, after the removal.
-use Prim.Native.Nat.{_+_, _-_, _<_, _≤_, suc, zero, ℕ}
+use Prim.Native.Nat.{_+_, _-_, _<_, _≤_, suc, ℕ}
 use Prim.{⊥}
 use mathlib.Core.Bool.{false, true}
 use mathlib.Core.List.{List, [], _++_, _∷_, map, map-append}
 use mathlib.Core.Logic.{⊎-elim}
 use mathlib.Core.Path.{_∙_, _≡_, ap, refl, sym}
-use native.Mathlib.Nat.{le-of-suc-le-suc, not-suc-le-zero}
 use native.Mathlib.Numerals.{add-one}
 use native.Mathlib.Omega.{arith}
 use lib.Dec.{eqb}
-use lib.ListN.{drop, getD, length, length-append, length-drop, length-map, length-take, set, take}
+use lib.ListN.{drop, getD, length, length-append, length-drop, length-map, set, take}
 use lib.Seq.{length-sets, length-take-le, sets, take-all, take-suc}
 use borrow.Author.Tests.{eq-eqb, eqb-false, eqb-true, lt-leb, ne-eqb}
 use Rattle.lists.proofs.Laws.{cases, length-split, sum-take-drop}
@@ -18,6 +17,9 @@ use Rattle.lists.proofs.Split.{Walk, walk-fits, walk-next, walk-part, walk-star
 use Rattle.lists.specs.Lists.{flat, rotated, split, sum}
 use Rattle.remove_vertex_corners.specs.Corners.{joinedWire, placeOf, removedWire}
 use Rattle.remove_vertex_corners.specs.declared.Ending.{Ending}
+use Rattle.shell.proofs.Shown.{length-rotated}
+use Rattle.shell_edits.proofs.Remove.{getD-eachWire}
+use Rattle.shell_edits.proofs.Wires.{each-long}
 use Rattle.shell_edits.specs.Edits.{eachWire}
 use Rattle.wire_swaps.specs.Swaps.{swapPair, swapSubwire}
 
@@ -26,13 +28,10 @@ pair-long : (us : List ℕ) (i u : ℕ) → i + 2 ≤ length us → length (swap
 pair-long us i u h =
     omega (arith, length-append (take i us) (u ∷ drop (i + 2) us), length-take-le i us (omega arith), length-drop (i + 2) us)
 
-rotated-long : (us : List ℕ) → length (rotated us) ≡ length us
-rotated-long us = omega (arith, length-append (drop 1 us) (take 1 us), length-drop 1 us, length-take 1 us)
-
 swap-long : (us : List ℕ) (i u : ℕ) → i < length us → 2 ≤ length us → length (swapSubwire us i u) ≡ length us - 1
 swap-long us i u h l =
     ⊎-elim
-    (λ (t : eqb (i + 1) (length us) ≡ true). let e = eqb-true (i + 1) (length us) t in rw t (pair-long (rotated us) (i - 1) u (omega (arith, rotated-long us)) ∙ ap (λ (k : ℕ). k - 1) (rotated-long us)))
+    (λ (t : eqb (i + 1) (length us) ≡ true). let e = eqb-true (i + 1) (length us) t in rw t (pair-long (rotated us) (i - 1) u (omega (arith, length-rotated us)) ∙ ap (λ (k : ℕ). k - 1) (length-rotated us)))
     (λ (t : eqb (i + 1) (length us) ≡ false). rw t (pair-long us i u (omega (arith, eqb-false (i + 1) (length us) t))))
     (cases (eqb (i + 1) (length us)))
 
@@ -58,18 +57,6 @@ module _ (fronts backs : List ℕ) (v : ℕ) (e : Ending) (a w : ℕ) (us l : Li
     written-other h x = rw (ne-eqb w (e .last) m, ne-eqb w (e .first) h) x
 
 -- ---- all wires
-module _ (change : ℕ → List ℕ → List ℕ) where
-  pub length-each : (w : ℕ) (xss : List (List ℕ)) → length (eachWire change w xss) ≡ length xss
-  unfolding eachWire
-  length-each w [] = refl
-  length-each w (xs ∷ xss) = ap suc (length-each (suc w) xss)
-
-  getD-each : (w : ℕ) (xss : List (List ℕ)) (k : ℕ) → k < length xss → getD (eachWire change w xss) k [] ≡ change (w + k) (getD xss k [])
-  unfolding eachWire
-  getD-each w [] k h = absurd (not-suc-le-zero h)
-  getD-each w (xs ∷ xss) zero h = let e : w + 0 ≡ w = omega arith in rw e
-  getD-each w (xs ∷ xss) (suc k) h = let e : w + suc k ≡ suc w + k = omega arith in rw e (getD-each (suc w) xss k (le-of-suc-le-suc h))
-
 flat-id : (xss : List (List ℕ)) → map (λ (xs : List ℕ). xs) xss ≡ xss
 flat-id [] = refl
 flat-id (xs ∷ xss) = ap (λ (r : List (List ℕ)). xs ∷ r) (flat-id xss)
@@ -91,7 +78,7 @@ module _ (change : ℕ → List ℕ → List ℕ) (wires uses out₀ lens₀ : L
   putting-start = record { walk = walk-start wires; less = omega arith; long = refl; out-is = refl; lens-is = refl }
 
   changed-long : length changed ≡ length wires
-  changed-long = length-each change 0 (split wires uses) ∙ length-split wires uses
+  changed-long = each-long change 0 (split wires uses) ∙ length-split wires uses
 
   module _ {out lens : List ℕ} {from at w : ℕ} (s : Putting out lens from at w) where
     pub out-long : length out ≡ length out₀
@@ -114,7 +101,7 @@ module _ (change : ℕ → List ℕ → List ℕ) (wires uses out₀ lens₀ : L
           let inside : w < length changed = omega (arith, changed-long) in
           let z : 0 + w ≡ w = omega arith in
           let here : getD changed w [] ≡ change w us =
-          rw (z, walk-part wires w from n (s .walk) h is uses) at (getD-each change 0 (split wires uses) w (omega (arith, length-split wires uses))) in
+          rw (z, walk-part wires w from n (s .walk) h is uses) at (getD-eachWire change 0 (split wires uses) w (omega (arith, length-split wires uses))) in
           let more : flat (take (w + 1) changed) ≡ flat (take w changed) ++ change w us =
           rw (add-one, ← here) (rw (flat-id (take (suc w) changed), flat-id (take w changed)) at (flat-next (λ (xs : List ℕ). xs) changed w [] inside)) in
           let lengths : map length (take (w + 1) changed) ≡ map length (take w changed) ++ (m ∷ []) =

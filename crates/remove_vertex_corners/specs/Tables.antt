@@ -4,7 +4,7 @@ use mathlib.Core.List.{List}
 use lib.ListN.{getD, length, take}
 use mathlib.Core.Path.{_≡_}
 use Rattle.lists.specs.Lists.{sum}
-use Rattle.wire.specs.Wires.{Named}
+use Rattle.wire.specs.Named.{Named}
 
 -- every wire has two uses or more
 abbrev pub TwoUses : List ℕ → Type 0

@@ -7,7 +7,7 @@ ghost use Prim.Native.Nat.{_+_, _-_, _≤_, _<_, ℕ};
 ghost use lib.ListN.{drop, getD, length, take};
 ghost use lib.Seq.{sets};
 ghost use Rattle.lists.specs.Lists.{numbers, only, padded, pick, split, sum, tabulate, flat};
-ghost use Rattle.wire.specs.Wires.{Named};
+ghost use Rattle.wire.specs.Named.{Named};
 ghost use Rattle.shell_edits.specs.Edits.{listedWires, eachWire};
 ghost use Rattle.shell_wires.specs.Flags.{NameFaces};
 ghost use Rattle.remove_vertex_corners.specs.Endings.{endingOf, endsAt, flagged, followed, noEnding};

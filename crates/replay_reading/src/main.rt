@@ -22,7 +22,7 @@ fn written_back(t: &Tables, spans: &Spans, bytes: &[u8]) -> bool {
             }
         }
         Written::Refused(_) => false,
-        Written::NoSpace => false,
+        Written::NoSpace(_) => false,
     }
 }
 

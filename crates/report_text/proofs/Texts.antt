@@ -1,12 +1,15 @@
 -- The lines of a shell from its figures; the text shell by shell; the text of a file.
-use Prim.Native.Nat.{_*_, _+_, _<_, _≤_, ℕ}
+use Prim.Native.Nat.{_*_, _+_, _-_, _<_, _≤_, ℕ}
+use mathlib.Core.Bool.{false, true, true≢false}
 use mathlib.Core.List.{List, [], _++_, _∷_, map}
 use mathlib.Core.Path.{_∙_, _≡_, ap, refl, sym}
+use native.Mathlib.Nat.{sub-zero}
 use native.Mathlib.Numerals.{add-one}
 use native.Mathlib.Omega.{arith}
 use lib.ListN.{getD, length, length-map, length-replicate, replicate, take}
-use lib.Seq.{length-sets, sets}
+use lib.Seq.{sets}
 use Rattle.columns.specs.Columns.{Made}
+use Rattle.columns.proofs.Shells.{content-fine, uses-small}
 use Rattle.columns.specs.Sound.{OfTables, Sound}
 use Rattle.errors.proofs.Laws.{accepted-none, none-left}
 use Rattle.errors.specs.Faults.{first}
@@ -16,22 +19,24 @@ use Rattle.lines.specs.Lines.{shellLines}
 use Rattle.lines.specs.Parts.{Fits}
 use Rattle.lists.proofs.Parts.{flat-numbers, split-flat}
 use Rattle.lists.proofs.Sets.{put-then, take-sets}
-use Rattle.lists.specs.Lists.{flat, numbers, tabulate}
+use Rattle.lists.specs.Lists.{flat, numbers, split, tabulate}
 use Rattle.output.specs.Text.{refusalLine}
 use Rattle.pattern.proofs.Counts.{shells-counted}
 use Rattle.pattern.specs.Checks.{contentFaults, patternFaults}
 use Rattle.pattern.specs.Contents.{Content, Pattern, content}
 use Rattle.pattern_file.proofs.RoundTrip.{content-of-stored}
 use Rattle.pattern_file.specs.File.{fileContent, fileFaults, tableFaults}
-use Rattle.report_text.specs.Report.{reportOf, reportText, shellReport, solidText, textFor}
-use Rattle.report_text.specs.Texts.{Shelled, arrayLines}
+use Rattle.report_text.specs.Report.{ReportPromised, reportOf, reportText, shellReport, solidText, textFor}
+use Rattle.report_text.specs.Texts.{Shelled}
 use Rattle.report_text.specs.declared.ShellText.{ShellText}
 use Rattle.reports.proofs.Groups.{components-bound, pairs-bound, singular-bound, sum-lengths}
 use Rattle.reports.specs.Figures.{Grouped, Opened}
 use Rattle.reports.specs.declared.GroupCounts.{GroupCounts}
 use Rattle.reports.specs.declared.OpeningCounts.{OpeningCounts}
+use Rattle.shell.proofs.Theorem.{promised}
 use Rattle.shell.specs.Components.{components}
 use Rattle.shell.specs.Openings.{shellWalk}
+use Rattle.shell.specs.OpeningsHold.{OpeningsPromised}
 use Rattle.shell.specs.Shells.{listingsOf}
 use Rattle.shell.specs.Singular.{singularPoints}
 use Rattle.solid.proofs.Laws.{solid-next}
@@ -49,13 +54,13 @@ use Rattle.solid.specs.Sequence.{andThen, firstError, inSolid}
 
 -- ---- the lines of one shell
 
--- a list that was written to the front of zeros
-module _ (m : ℕ) (xs ys : List ℕ) (k : ℕ) (few : length xs ≤ m) (e : ys ≡ sets (replicate m 0) 0 xs) (h : k ≡ length xs) where
-  first-of : take k ys ≡ xs
-  first-of = rw e (take-sets (replicate m 0) xs k (sym h) (omega (arith, few, length-replicate {A = ℕ} m 0)))
+-- the part from 0 to k
+abbrev part : ℕ → List ℕ → List ℕ
+part k ys = take (k - 0) ys
 
-  first-in : k ≤ length ys
-  first-in = omega (arith, few, ap length e, length-sets (replicate m 0) 0 xs, length-replicate {A = ℕ} m 0)
+-- a list that was written to the front of zeros
+first-of : (m : ℕ) (xs ys : List ℕ) (k : ℕ) → length xs ≤ m → ys ≡ sets (replicate m 0) 0 xs → k ≡ length xs → part k ys ≡ xs
+first-of m xs ys k few e h = rw (sub-zero k, e) (take-sets (replicate m 0) xs k (sym h) (omega (arith, few, length-replicate {A = ℕ} m 0)))
 
 module _ (p : Pattern) (s : Sound p) (n : ℕ) (here : n < getD (p .counts) 5 0) {o : OpeningCounts} {g : GroupCounts} {walked lens pairs sizes corners : List ℕ}
     (eo : Opened (content p) n (replicate 2048 0) (replicate 2048 0) walked lens o) (eg : Grouped (content p) n (replicate 512 0) (replicate 512 0) (replicate 2048 0) pairs sizes corners g)
@@ -90,32 +95,30 @@ module _ (p : Pattern) (s : Sound p) (n : ℕ) (here : n < getD (p .counts) 5 0)
   few-components : length (map length C) ≤ 512
   few-components = omega (arith, length-map C length, components-bound p s n here)
 
-  pub figures-inside : (o .used ≤ length walked) × (o .openings ≤ length lens) × (g .members ≤ length pairs) × (g .components ≤ length sizes) × (g .singular ≤ length corners)
-  figures-inside = (
-    first-in 2048 (flat O) walked (o .used) few-uses (eo .uses) used-is,
-    first-in 2048 (map length O) lens (o .openings) few-openings (eo .lengths) openings-is,
-    first-in 512 (flat C) pairs (g .members) (pairs-bound p s n here) (eg .pairs) members-is,
-    first-in 512 (map length C) sizes (g .components) few-components (eg .lengths) components-is,
-    first-in 2048 (singularPoints (content p) n) corners (g .singular) (singular-bound p s n here) (eg .points) singular-is,
+  pub groups-few : (g .members ≤ 512) × (g .components ≤ 512) × (g .singular ≤ 2048)
+  groups-few = (
+    omega (arith, members-is, pairs-bound p s n here),
+    omega (arith, components-is, few-components),
+    omega (arith, singular-is, singular-bound p s n here),
   )
 
-  uses-first : take (o .used) walked ≡ flat O
+  uses-first : part (o .used) walked ≡ flat O
   uses-first = first-of 2048 (flat O) walked (o .used) few-uses (eo .uses) used-is
 
-  lens-first : take (o .openings) lens ≡ map length O
+  lens-first : part (o .openings) lens ≡ map length O
   lens-first = first-of 2048 (map length O) lens (o .openings) few-openings (eo .lengths) openings-is
 
-  pairs-first : take (g .members) pairs ≡ flat C
+  pairs-first : part (g .members) pairs ≡ flat C
   pairs-first = first-of 512 (flat C) pairs (g .members) (pairs-bound p s n here) (eg .pairs) members-is
 
-  sizes-first : take (g .components) sizes ≡ map length C
+  sizes-first : part (g .components) sizes ≡ map length C
   sizes-first = first-of 512 (map length C) sizes (g .components) few-components (eg .lengths) components-is
 
-  points-first : take (g .singular) corners ≡ singularPoints (content p) n
+  points-first : part (g .singular) corners ≡ singularPoints (content p) n
   points-first = first-of 2048 (singularPoints (content p) n) corners (g .singular) (singular-bound p s n here) (eg .points) singular-is
 
   pub figures-fit : (out : List ℕ) (at : ℕ) → at + 70300 ≤ length out
-      → Fits out at n (o .lookups) (take (o .used) walked) (take (o .openings) lens) (take (g .members) pairs) (take (g .components) sizes) (take (g .singular) corners)
+      → Fits out at n (o .lookups) (part (o .used) walked) (part (o .openings) lens) (part (g .members) pairs) (part (g .components) sizes) (part (g .singular) corners)
   figures-fit out at room = rw (uses-first, lens-first, pairs-first, sizes-first, points-first) (record {
     room = room;
     number = omega (arith, here, s .limits .shells);
@@ -130,14 +133,21 @@ module _ (p : Pattern) (s : Sound p) (n : ℕ) (here : n < getD (p .counts) 5 0)
   })
 
   abbrev written : List ℕ
-  written = arrayLines n (o .condition) (g .connected) (take (o .used) walked) (take (o .openings) lens) (o .lookups) (take (g .members) pairs) (take (g .components) sizes) (take (g .singular) corners)
+  written = shellLines n (record {
+    condition = o .condition .0;
+    connected = g .connected;
+    openings = split (part (o .openings) lens) (part (o .used) walked);
+    lookups = o .lookups;
+    components = split (part (g .components) sizes) (part (g .members) pairs);
+    singular = part (g .singular) corners;
+  })
 
   lines-are : written ≡ shellLines n (shellReport (content p) n)
   lines-are = rw (uses-first, lens-first, pairs-first, sizes-first, points-first, split-flat O, split-flat C, eo .counts, eg .counts)
 
   pub shelled : {listings : ℕ} → listings ≡ length (listingsOf (content p) n) → (out₀ out : List ℕ) (at after : ℕ) (check : ShellCheck)
       → (out ≡ sets out₀ at written) × (after ≡ at + length written) × (after ≤ at + 70300)
-      → check ≡ firstError (errorsOf listings (g .connected) (o .condition) (g .singular))
+      → check ≡ firstError (errorsOf listings (g .connected) (o .condition .0) (g .singular))
       → Shelled (content p) n out₀ at out (record { at = after; check = check })
   shelled l out₀ out at after check w c = record {
     written = w .0 ∙ ap (sets out₀ at) lines-are;
@@ -225,6 +235,17 @@ pub file-refused : (s : List ℕ) (f : Refusal) → first (fileFaults s) ≡ Che
 unfolding reportOf
 file-refused s f h = text-refused (fileFaults s) (fileContent s) f h
 
+refused-some : (fs : List Refusal) (f : Refusal) → first fs ≡ Check·Refused f → fs ≡ [] → true ≡ false
+refused-some [] f h e = cc
+refused-some (g ∷ fs) f h e = cc
+
+-- a refused file promises nothing
+pub refused-kept : (s : List ℕ) (f : Refusal) → first (fileFaults s) ≡ Check·Refused f → ReportPromised s
+refused-kept s f h ok = absurd (true≢false (refused-some (fileFaults s) f h ok))
+
+pub sound-openings : (p : Pattern) → Sound p → (n : ℕ) → OpeningsPromised (content p) n
+sound-openings p s n = promised (content p) (content-fine p s) (uses-small p s) n
+
 -- a file without fault was read into a store of zeros
 module _ (s : List ℕ) (q : Pattern) (done : q ≡ loaded blank s) (right : first (fileFaults s) ≡ Check·Accepted) where
   none : fileFaults s ≡ []
@@ -238,6 +259,9 @@ module _ (s : List ℕ) (q : Pattern) (done : q ≡ loaded blank s) (right : fir
 
   pub file-passes : patternFaults q ≡ []
   file-passes = ap patternFaults file-pattern ∙ fresh-faults s q done table ∙ none
+
+  pub file-kept : ((n : ℕ) → OpeningsPromised (content q) n) → ReportPromised s
+  file-kept h ok = rw (file-pattern, content-of-stored (fileContent s)) at h
 
   pub file-accepted : reportText (content q) ≡ reportOf s
   unfolding reportOf

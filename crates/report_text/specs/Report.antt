@@ -1,7 +1,8 @@
 -- What `report` prints, for every file.
 use Prim.Native.Nat.{ℕ}
-use mathlib.Core.Bool.{Bool, true, false}
 use mathlib.Core.List.{List, [], _∷_, _++_, map}
+use mathlib.Core.Path.{_≡_}
+use lib.Dec.{eqb}
 use lib.ListN.{length}
 use Rattle.lists.specs.Lists.{flat, numbers}
 use Rattle.errors.specs.declared.Refusal.{Refusal}
@@ -13,11 +14,11 @@ use Rattle.shell.specs.Components.{components}
 use Rattle.shell.specs.Conditions.{condition}
 use Rattle.shell.specs.Connected.{connected}
 use Rattle.shell.specs.Openings.{shellWalk}
+use Rattle.shell.specs.OpeningsHold.{OpeningsPromised}
 use Rattle.shell.specs.Shells.{shellUses}
 use Rattle.shell.specs.Singular.{singularPoints}
-use Rattle.solid.specs.Solid.{solidNumber, solidOf, solidShell}
+use Rattle.solid.specs.Solid.{solidOf, solidReply, solidShell}
 use Rattle.solid.specs.declared.SolidCheck.{SolidCheck}
-use Rattle.solid.specs.declared.SolidCheck.the-variants.{Accepted, Refused}
 
 abbrev pub shellReport : Content → ℕ → Report
 shellReport c n = record {
@@ -29,13 +30,9 @@ shellReport c n = record {
   singular = singularPoints c n;
 }
 
-abbrev pub isAccepted : SolidCheck → Bool
-isAccepted Accepted = true
-isAccepted (Refused e) = false
-
--- the lines of a solid's answer
+-- the line of a solid's answer
 abbrev pub solidText : SolidCheck → List ℕ
-solidText a = solidLine (isAccepted a) (solidNumber a) (solidShell a)
+solidText a = solidLine (eqb (solidReply a .outcome) 0) (solidReply a .number) (solidShell a)
 
 -- for each shell its lines; the last line is the solid's
 unfoldable pub reportText : Content → List ℕ
@@ -45,6 +42,10 @@ reportText c = flat (map (λ (n : ℕ). shellLines n (shellReport c n)) (numbers
 abbrev pub textFor : List Refusal → Content → List ℕ
 textFor (f ∷ fs) c = refusalLine f
 textFor [] c = reportText c
+
+-- what is promised of the openings of every shell of an accepted file; demand 3
+abbrev pub ReportPromised : List ℕ → Type 0
+ReportPromised s = fileFaults s ≡ [] → (n : ℕ) → OpeningsPromised (fileContent s) n
 
 -- the text of a file's bytes
 unfoldable pub reportOf : List ℕ → List ℕ

@@ -1,16 +1,16 @@
 // What `report` prints, as bytes: for every file its whole text.
 ghost use mathlib.Core.Path.{_≡_};
-ghost use Prim.Native.Nat.{_+_, _<_, _≤_};
-ghost use lib.ListN.{getD, length, take};
+ghost use Prim.Native.Nat.{ℕ, _+_, _<_, _≤_};
+ghost use lib.ListN.{getD, length};
 ghost use lib.Seq.{sets};
 ghost use Rattle.columns.specs.Columns.{Made};
 ghost use Rattle.columns.specs.Sound.{Faultless, OfTables};
-ghost use Rattle.lines.specs.Parts.{Fits};
 ghost use Rattle.pattern.specs.Contents.{content};
+ghost use Rattle.shell.specs.OpeningsHold.{OpeningsPromised};
 ghost use Rattle.solid.specs.Solid.{solidShell};
 ghost use Rattle.store.specs.Store.{countTable};
-ghost use Rattle.report_text.specs.Report.{reportOf, reportText, solidText};
-ghost use Rattle.report_text.specs.Texts.{arrayLines, Shelled};
+ghost use Rattle.report_text.specs.Report.{reportOf, ReportPromised, reportText, solidText};
+ghost use Rattle.report_text.specs.Texts.{Shelled};
 use columns::put_columns;
 use errors::Check;
 use lines::put_shell;
@@ -32,44 +32,6 @@ use store_read::read;
 pub struct ShellText {
     pub at: usize,
     pub check: ShellCheck,
-}
-
-// Writes the lines of shell n from `at` on. Of each array the first numbers count.
-fn put_figures<'a>(
-    out: &mut [u8],
-    at: usize,
-    n: usize,
-    condition: u8,
-    connected: bool,
-    uses: &'a [u16],
-    used: usize,
-    lens: &'a [u16],
-    openings: usize,
-    lookups: usize,
-    pairs: &'a [u16],
-    members: usize,
-    plens: &'a [u16],
-    components: usize,
-    points: &'a [u16],
-    singular: usize,
-) -> usize
-    requires { ⌜ (used ≤ length (now uses)) × (openings ≤ length (now lens)) × (members ≤ length (now pairs)) × (components ≤ length (now plens)) × (singular ≤ length (now points)) ⌝ }
-    requires { ⌜ Fits (now out) at n lookups (take used (now uses)) (take openings (now lens)) (take members (now pairs)) (take components (now plens)) (take singular (now points)) ⌝ }
-    ensures { λ r. ⌜ (now (out .exit) ≡ sets (now (out .entry)) at (arrayLines n condition connected (take used (now (uses .entry))) (take openings (now (lens .entry))) lookups (take members (now (pairs .entry))) (take components (now (plens .entry))) (take singular (now (points .entry))))) × (r ≡ at + length (arrayLines n condition connected (take used (now (uses .entry))) (take openings (now (lens .entry))) lookups (take members (now (pairs .entry))) (take components (now (plens .entry))) (take singular (now (points .entry))))) × (r ≤ at + 70300) ⌝ }
-{
-    put_shell(
-        out,
-        at,
-        n,
-        condition,
-        connected,
-        &uses[0..used],
-        &lens[0..openings],
-        lookups,
-        &pairs[0..members],
-        &plens[0..components],
-        &points[0..singular],
-    )
 }
 
 // Writes the lines of shell n from `at` on.
@@ -107,25 +69,24 @@ fn shell_text<'a>(
         &mut corners,
     );
     let condition = o.condition;
+    let used = o.used;
+    let openings = o.openings;
     let connected = g.connected;
+    let members = g.members;
+    let components = g.components;
     let singular = g.singular;
-    let after = put_figures(
+    let after = put_shell(
         out,
         at,
         n,
         condition,
         connected,
-        &walked,
-        o.used,
-        &lens,
-        o.openings,
+        &walked[0..used],
+        &lens[0..openings],
         o.lookups,
-        &pairs,
-        g.members,
-        &sizes,
-        g.components,
-        &corners,
-        singular,
+        &pairs[0..members],
+        &sizes[0..components],
+        &corners[0..singular],
     );
     ShellText {
         at: after,
@@ -158,6 +119,7 @@ fn columns_text<'a>(
 ) -> usize
     requires { ⌜ Made (now t) (now turned) (now starts) (now firsts) (now places) × (1126400 ≤ length (now out)) ⌝ }
     ensures { λ r. ⌜ OfTables (now (t .entry)) (λ p. (now (out .exit) ≡ sets (now (out .entry)) 0 (reportText (content p))) × (r ≡ length (reportText (content p)))) ⌝ }
+    ensures { λ _. ⌜ OfTables (now (t .entry)) (λ p. (k : ℕ) → OpeningsPromised (content p) k) ⌝ }
 {
     let counts = counts_in(t);
     let shells = counts[5];
@@ -178,6 +140,7 @@ fn columns_text<'a>(
 fn pattern_text(t: &Tables, out: &mut [u8]) -> usize
     requires { ⌜ Faultless (now t) × (1126400 ≤ length (now out)) ⌝ }
     ensures { λ r. ⌜ OfTables (now (t .entry)) (λ p. (now (out .exit) ≡ sets (now (out .entry)) 0 (reportText (content p))) × (r ≡ length (reportText (content p)))) ⌝ }
+    ensures { λ _. ⌜ OfTables (now (t .entry)) (λ p. (k : ℕ) → OpeningsPromised (content p) k) ⌝ }
 {
     let mut turned = [0u16; 4096];
     let mut starts = [0usize; 257];
@@ -191,6 +154,7 @@ fn pattern_text(t: &Tables, out: &mut [u8]) -> usize
 // longest text has 16 shells of at most 70,300 bytes each and a line for the solid.
 pub fn report(bytes: &[u8], out: &mut [u8; 1126400]) -> usize
     ensures { λ r. ⌜ (now (out .exit) ≡ sets (now (out .entry)) 0 (reportOf (now (bytes .entry)))) × (r ≡ length (reportOf (now (bytes .entry)))) ⌝ }
+    ensures { λ _. ⌜ ReportPromised (now (bytes .entry)) ⌝ }
 {
     let mut t = [0u16; TABLES];
     let mut spans = [0.0; SPANS];

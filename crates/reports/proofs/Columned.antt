@@ -19,6 +19,7 @@ use Rattle.shell.specs.Shells.{listingsOf}
 use Rattle.store.specs.Store.{countTable, held, listingTable, useTable, wireTable}
 use Rattle.reports.proofs.Groups.{figured, groups-found, showing}
 use Rattle.reports.specs.Figures.{Counted, Figured, Grouped}
+use Rattle.reports.specs.InHand.{listingsIn}
 use Rattle.reports.specs.declared.GroupCounts.{GroupCounts}
 use Rattle.store.specs.Columns.{backTable, frontTable}
 
@@ -38,14 +39,15 @@ inHand counts uses turned starts wires firsts fronts backs places listings = rec
   listings = listings;
 }
 
+module _ (t turned starts firsts places : List ℕ) {counts uses wires fronts backs listings : List ℕ}
+    (a : counts ≡ countTable t) (b : uses ≡ useTable t) (c : wires ≡ wireTable t) (d : fronts ≡ frontTable t) (e : backs ≡ backTable t) (f : listings ≡ listingTable t) where
+  pub in-hand-lent : inHand counts uses turned starts wires firsts fronts backs places listings ≡ lent t turned starts firsts places
+  in-hand-lent = rw (a, b, c, d, e, f)
+
 pub in-hand : {t counts uses wires fronts backs listings turned starts firsts places : List ℕ} → Made t turned starts firsts places
     → counts ≡ countTable t → uses ≡ useTable t → wires ≡ wireTable t → fronts ≡ frontTable t → backs ≡ backTable t → listings ≡ listingTable t
     → OfTables t (λ p. Sound p × (inHand counts uses turned starts wires firsts fronts backs places listings ≡ columnsIn p))
-in-hand m a b c d e f spans ok = (m .all spans ok .0, rw (a, b, c, d, e, f) (m .all spans ok .1))
-
--- the listings of shell n in the columns
-abbrev pub listingsIn : Columns → ℕ → List ℕ
-listingsIn k n = between (k .listings) (getD (k .places) n 0) (getD (k .places) (n + 1) 0)
+in-hand {t} m a b c d e f spans ok = (m .all spans ok .0, in-hand-lent t _ _ _ _ a b c d e f ∙ m .all spans ok .1)
 
 module _ (k : Columns) (n : ℕ) (p : Pattern) (s : Sound p) (e : k ≡ columnsIn p) (here : n < getD (p .counts) 5 0) where
   pub in-places : (getD (k .places) n 0 ≤ getD (k .places) (n + 1) 0) × (getD (k .places) (n + 1) 0 ≤ length (k .listings))
@@ -98,8 +100,11 @@ module _ {t turned starts firsts places : List ℕ} (m : Made t turned starts fi
   pub shell-inside : (n < 16) × (n + 1 < length places)
   shell-inside = (omega (arith, here, own .0 .limits .shells), places-inside (lent t turned starts firsts places) n _ (own .0) (own .1) here)
 
-  pub shell-listed : getD places n 0 ≤ getD places (n + 1) 0
-  shell-listed = in-places (lent t turned starts firsts places) n _ (own .0) (own .1) here .0
+  pub shell-listed : (getD places n 0 ≤ getD places (n + 1) 0) × (getD places (n + 1) 0 ≤ length (listingTable t))
+  shell-listed = in-places (lent t turned starts firsts places) n _ (own .0) (own .1) here
+
+  pub listings-few : length (listingTable t) ≡ 512
+  listings-few = own .0 .full .listings
 
   -- how many they are
   pub listings-count : OfTables t (λ p. getD places (n + 1) 0 - getD places n 0 ≡ length (listingsOf (content p) n))

@@ -1,8 +1,7 @@
 -- The groups that the columns of the pairs give are those of the shell.
 use Prim.Native.Nat.{_+_, _-_, _<_, _≤_, suc, ℕ}
 use mathlib.Core.Bool.{false}
-use mathlib.Core.List.{List, List·Memᴰ, List·Memᴰ·cases-cons, List·Memᴰ·not-nil, [], _∷_, map, map-map}
-use mathlib.Core.Logic.{⊎-elim}
+use mathlib.Core.List.{List, [], _∷_, map, map-map}
 use mathlib.Core.Path.{_∙_, _≡_, ap, refl, sym}
 use native.Mathlib.Omega.{arith}
 use lib.ListN.{drop, getD, length, length-append, length-map, length-replicate, length-take, replicate, take}
@@ -18,6 +17,7 @@ use Rattle.edge.specs.Edges.{backNumber, frontNumber}
 use Rattle.edge.specs.Uses.{backOf, edgeNumber, frontOf}
 use Rattle.face.specs.Faces.{wireCount}
 use Rattle.groups.proofs.Alike.{within-flat-map, within-map}
+use Rattle.groups.proofs.Members.{all-member, in-once, of-once}
 use Rattle.listing.proofs.Laws.{Placed, starts-inside, starts-rise}
 use Rattle.listing.specs.Parts.{partAt}
 use Rattle.lists.proofs.Parts.{all-place, length-only, split-flat}
@@ -30,7 +30,7 @@ use Rattle.pattern.proofs.Counts.{edges-counted, faces-counted, points-counted,
 use Rattle.pattern.proofs.Named.{faces-summed, wires-summed}
 use Rattle.pattern.specs.Checks.{outlines}
 use Rattle.pattern.specs.Contents.{Pattern, content}
-use Rattle.reports.proofs.Alike.{flat-only, in-once, no-wires, of-once}
+use Rattle.reports.proofs.Alike.{flat-only, no-wires}
 use Rattle.reports.proofs.Faces.{Held, flat-lengths, flat-uses, held-parts, held-wires, pair-lens, pair-parts, pairFaces, pairs-are, pairs-named}
 use Rattle.reports.proofs.Ready.{Some, listing-some, listings-placed, use-back, use-edge, use-front}
 use Rattle.reports.specs.Figures.{Counted, Figured, Grouped, pairGroups, pairSingular, pairWires}
@@ -52,11 +52,6 @@ sum-lengths (xs ∷ xss) = omega (arith, length-append xs (flat xss), sum-length
 lengths-mapped : {A : Type 0} (xss : List (List (List A))) → map (λ (ys : List (List A)). length (map length ys)) xss ≡ map length xss
 lengths-mapped [] = refl
 lengths-mapped (ys ∷ xss) = rw (length-map ys length, lengths-mapped xss)
-
--- the same members with their own All
-all-members : {A : Type 0} (P : A → Type 0) (xs : List A) → All P xs → (x : A) → List·Memᴰ x xs → P x
-all-members P [] h x m = absurd (List·Memᴰ·not-nil m)
-all-members P (y ∷ ys) h x m = ⊎-elim (λ (e : x ≡ y). rw e (h .0)) (all-members P ys (h .1) x) (List·Memᴰ·cases-cons m)
 
 -- a list that an array begins with ends inside it
 pub first-in : (m : ℕ) (xs ys : List ℕ) (k : ℕ) → ys ≡ padded m 0 xs → k ≡ length xs → k ≤ length ys
@@ -305,8 +300,8 @@ module _ (p : Pattern) (s : Sound p) where
 
       placed-faces : Placed·faces front back points F
       placed-faces = record {
-        some = all-members Some (flat F) all-some;
-        below = λ u m. let o = all-members (Placed (content p)) (flat (flat F)) all-placed u m in (o .1, o .2);
+        some = all-member Some (flat F) all-some;
+        below = λ u m. let o = all-member (Placed (content p)) (flat (flat F)) all-placed u m in (o .1, o .2);
       }
 
       -- a face without wires has no links and no uses

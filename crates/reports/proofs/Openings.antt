@@ -5,36 +5,38 @@ use mathlib.Core.Path.{_∙_, _≡_, ap, refl, sym}
 use native.Mathlib.Numerals.{add-one}
 use native.Mathlib.Omega.{arith}
 use lib.ListN.{getD, length, length-append, length-map, length-replicate, replicate, take}
-use Rattle.columns.proofs.Shells.{listings-are}
-use Rattle.columns.specs.Columns.{Columns, columnsIn}
-use Rattle.columns.specs.Sound.{Sound}
+use Rattle.columns.proofs.Shells.{content-fine, listings-are, uses-small}
+use Rattle.columns.specs.Columns.{Columns, Made, columnsIn, lent}
+use Rattle.columns.specs.Sound.{OfTables, Sound}
 use Rattle.condition.proofs.Laws.{tallied-none, tallied-part}
 use Rattle.condition.proofs.Theorem.{tally-condition}
 use Rattle.condition.specs.Tallies.{Tallied, conditionIn, insertedAll, oddsIn, stateOf}
+use Rattle.condition.specs.declared.Condition.{Condition}
 use Rattle.condition.specs.declared.Tally.{Tally}
 use Rattle.edge.specs.Edges.{backNumber, frontNumber}
 use Rattle.edge.specs.Uses.{backOf, frontOf}
 use Rattle.extract.proofs.Free.{tally-free}
-use Rattle.extract.specs.Listings.{AllTally, AllWalk, Extractable, Written, noUses, nowhere}
+use Rattle.extract.specs.Listings.{AllTally, AllWalk, Extractable, Written, noUses}
 use Rattle.listing.proofs.Laws.{Placed}
-use Rattle.listing.specs.Parts.{partsOf}
 use Rattle.lists.proofs.Count.{All, all-weaker}
-use Rattle.lists.specs.Lists.{flat, tabulate}
+use Rattle.lists.specs.Lists.{tabulate}
 use Rattle.openings.specs.declared.Walked.{Walked}
 use Rattle.pattern.proofs.Counts.{edges-counted, points-counted}
 use Rattle.pattern.specs.Contents.{Pattern, content}
-use Rattle.reports.proofs.Columned.{backs-are, fronts-are, listingsIn, points-are}
+use Rattle.reports.proofs.Columned.{backs-are, fronts-are, points-are}
 use Rattle.reports.proofs.Ready.{all-tally, all-walk, shell-placed, use-front, uses-are}
 use Rattle.reports.specs.Figures.{Opened}
-use Rattle.shell.proofs.Closed.{closed-walk}
+use Rattle.reports.specs.InHand.{listingsIn, usesIn}
 use Rattle.shell.proofs.Level.{IsUse}
+use Rattle.shell.proofs.Theorem.{promised}
 use Rattle.shell.specs.Conditions.{condition}
 use Rattle.shell.specs.Openings.{Walk, shellWalk, walkOf}
 use Rattle.shell.specs.Shells.{shellUses}
+use Rattle.store.specs.Store.{countTable, held, useTable}
 
--- the uses of shell n in the columns
-abbrev pub usesIn : Columns → ℕ → List ℕ
-usesIn k n = partsOf (k .uses) (k .turned) (k .starts) (listingsIn k n)
+-- a condition is its number
+condition-is : (w : Condition) (i : ℕ) → w .0 ≡ i → w ≡ record { 0 = i }
+condition-is w i e = ap (λ (j : ℕ). record { 0 = j }) e
 
 module _ (k : Columns) (n : ℕ) (p : Pattern) (s : Sound p) (e : k ≡ columnsIn p) (here : n < getD (p .counts) 5 0) where
   abbrev us : List ℕ
@@ -90,7 +92,7 @@ module _ (k : Columns) (n : ℕ) (p : Pattern) (s : Sound p) (e : k ≡ columnsI
           lengths = b;
         })
 
-    k-condition : conditionIn t (k .edges) ≡ condition us
+    pub k-condition : conditionIn t (k .edges) ≡ condition us
     k-condition = tally-condition us t (k .edges) tallied named edges-few
 
     abbrev front : ℕ → ℕ
@@ -103,20 +105,29 @@ module _ (k : Columns) (n : ℕ) (p : Pattern) (s : Sound p) (e : k ≡ columnsI
     abbrev walked : Walk
     walked = walkOf front back (k .points) (usesIn k n)
 
-    pub k-closed : (w : ℕ) → w ≡ conditionIn t (k .edges) → w ≡ 3 → (out₀ lens₀ : List ℕ)
-        → Written walked out₀ lens₀ out₀ lens₀ nowhere
-    unfolding flat
-    k-closed w is closed out₀ lens₀ =
-        rw (closed-walk front back (k .points) (usesIn k n) (ap condition k-uses ∙ sym k-condition ∙ sym is ∙ closed))
-        (record { uses = refl; lengths = refl; place = refl; number = refl; asked = refl; few = (omega arith, omega arith, omega arith) })
-
-    module _ (w : ℕ) (is : w ≡ conditionIn t (k .edges)) {out₀ lens₀ out lens : List ℕ} {r : Walked} (h : Written walked out₀ lens₀ out lens r) where
+    module _ (w : Condition) (is : w .0 ≡ conditionIn t (k .edges)) {out₀ lens₀ out lens : List ℕ} {r : Walked} (h : Written walked out₀ lens₀ out lens r) where
       walk-is : Written (shellWalk (content p) n) out₀ lens₀ out lens r
       walk-is = rw (k-uses, fronts-are k n p s e here, backs-are k n p s e here, points-are k n p s e here) at h
 
       pub k-openings : Opened (content p) n out₀ lens₀ out lens (record { condition = w; openings = r .openings; used = r .at; lookups = r .lookups })
       k-openings = record {
-        counts = rw (is, k-condition, walk-is .number, walk-is .place, walk-is .asked);
+        counts = rw (condition-is w _ (is ∙ k-condition), walk-is .number, walk-is .place, walk-is .asked);
         uses = walk-is .uses;
         lengths = walk-is .lengths;
+        promised = promised (content p) (content-fine p s) (uses-small p s) n;
       }
+
+-- ---- the same from the tables
+module _ {t turned starts firsts places : List ℕ} (m : Made t turned starts firsts places) {n : ℕ} (here : n < getD (countTable t) 5 0) where
+  abbrev own : Sound (held t (m .faultless .spans)) × (lent t turned starts firsts places ≡ columnsIn (held t (m .faultless .spans)))
+  own = m .all (m .faultless .spans) (m .faultless .ok)
+
+  pub tally-asked : AllTally (useTable t) turned starts (listingsIn (lent t turned starts firsts places) n)
+  tally-asked = k-tally (lent t turned starts firsts places) n _ (own .0) (own .1) here
+
+  pub few-edges : getD (countTable t) 1 0 ≤ 1024
+  few-edges = edges-few (lent t turned starts firsts places) n _ (own .0) (own .1) here
+
+  pub condition-found : (r : Tally) → r ≡ insertedAll noUses (usesIn (lent t turned starts firsts places) n)
+      → OfTables t (λ p. conditionIn r (getD (countTable t) 1 0) ≡ condition (shellUses (content p) n))
+  condition-found r made spans ok = let k = m .all spans ok in k-condition (lent t turned starts firsts places) n _ (k .0) (k .1) here r made

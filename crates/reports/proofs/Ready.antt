@@ -1,5 +1,5 @@
 -- What the leaves ask of a shell's columns holds of every shell of a sound pattern.
-use Prim.Native.Nat.{_+_, _-_, _<_, _≤_, suc, ℕ}
+use Prim.Native.Nat.{_<_, _≤_, ℕ}
 use mathlib.Core.List.{List, [], _∷_, map}
 use mathlib.Core.Path.{_∙_, _≡_, refl, sym}
 use native.Mathlib.Omega.{arith}
@@ -10,45 +10,30 @@ use Rattle.columns.specs.Columns.{columnsIn}
 use Rattle.columns.specs.Sound.{Sound}
 use Rattle.edge.specs.Edges.{backNumber, frontNumber}
 use Rattle.edge.specs.Uses.{backOf, edgeNumber, frontOf}
-use Rattle.errors.proofs.Laws.{none-left, none-right}
-use Rattle.errors.specs.Faults.{each}
 use Rattle.extract.specs.Listings.{AllTally, AllWalk}
-use Rattle.face.proofs.Laws.{none-mapped}
-use Rattle.face.specs.Faces.{faceFaults, faceRule, outlineFaults, sharedFaults}
+use Rattle.face.specs.Faces.{faceRule}
 use Rattle.listing.proofs.Laws.{Placed, flat-flat, shown-keeps}
 use Rattle.listing.specs.Parts.{partAt, partsOf}
 use Rattle.lists.proofs.Parts.{all-place}
-use Rattle.lists.proofs.Count.{All, all-append, all-at, all-map}
+use Rattle.lists.proofs.Count.{All, all-append, all-at, all-map, all-weaker}
 use Rattle.lists.specs.Lists.{flat}
 use Rattle.pattern.proofs.Counts.{edges-counted, points-counted}
 use Rattle.pattern.proofs.Passed.{content-passed}
 use Rattle.pattern.specs.Checks.{outlines}
 use Rattle.pattern.specs.Contents.{Pattern, content}
+use Rattle.shell.proofs.Shown.{faces-sound}
 use Rattle.shell.specs.Shells.{faceNumber, listingsOf, shellUses, shellWires, shownWire, shownWires}
-use Rattle.wire.proofs.Laws.{faultless-sound}
-use Rattle.wire.specs.Wires.{Named, wireFaults}
+use Rattle.wire.proofs.Laws.{Sound as Sound·wire}
+use Rattle.wire.specs.Named.{Named}
 use Rattle.edge.specs.Below.{EdgesBelow}
 
 -- ---- a face without fault has no wire without uses
 abbrev pub Some : List ℕ → Type 0
 Some us = 0 < length us
 
-module _ (fronts backs : List ℕ) where
-  wires-some : (w : ℕ) (wires : List (List ℕ)) → each (outlineFaults fronts backs) w wires ≡ [] → All Some wires
-  unfolding each
-  wires-some w [] e = tt
-  wires-some w (us ∷ wires) e =
-      let none = none-mapped w (wireFaults fronts backs us) (none-left (outlineFaults fronts backs w us) (each (outlineFaults fronts backs) (suc w) wires) e) in
-      (faultless-sound fronts backs us none .used, wires-some (suc w) wires (none-right (outlineFaults fronts backs w us) (each (outlineFaults fronts backs) (suc w) wires) e))
-
-  faces-some : (w : ℕ) (faces : List (List (List ℕ))) → faceRule fronts backs w faces ≡ [] → All (All Some) faces
-  unfolding faceRule
-  faces-some w [] e = tt
-  faces-some w (wires ∷ faces) e =
-      let here = none-left (faceFaults fronts backs w wires) (faceRule fronts backs (w + length wires) faces) e in (
-        wires-some w wires (none-left (each (outlineFaults fronts backs) w wires) (sharedFaults fronts backs [] w wires) here),
-        faces-some (w + length wires) faces (none-right (faceFaults fronts backs w wires) (faceRule fronts backs (w + length wires) faces) e),
-      )
+faces-some : (fronts backs : List ℕ) (faces : List (List (List ℕ))) → faceRule fronts backs 0 faces ≡ [] → All (All Some) faces
+faces-some fronts backs faces e =
+    all-weaker (All (Sound·wire fronts backs)) (All Some) (all-weaker (Sound·wire fronts backs) Some (λ us s. s .used)) faces (faces-sound fronts backs 0 faces e)
 
 shown-some : (l : ℕ) (us : List ℕ) → Some us → Some (shownWire l us)
 shown-some l us h = omega (arith, shown-keeps (leb 32768 l) us)
@@ -65,7 +50,7 @@ module _ (p : Pattern) (s : Sound p) where
   listing-some l =
       all-map Some Some (shownWire l) (shown-some l) (getD (outlines (content p)) (faceNumber l) [])
       (all-at (All Some) [] tt (outlines (content p))
-      (faces-some fs bs 0 (outlines (content p)) (content-passed (content p) (content-fine p s) .rule)) (faceNumber l))
+      (faces-some fs bs (outlines (content p)) (content-passed (content p) (content-fine p s) .rule)) (faceNumber l))
 
   edges-few : length (content p .edges) ≤ 1024
   edges-few = omega (arith, edges-counted p (s .limits) (s .full), s .limits .edges)

@@ -17,12 +17,13 @@ use Rattle.shell.specs.Components.{components, componentsOf}
 use Rattle.shell.specs.Conditions.{condition}
 use Rattle.shell.specs.Connected.{connected, connectedOf}
 use Rattle.shell.specs.Openings.{shellWalk}
+use Rattle.shell.specs.OpeningsHold.{OpeningsPromised}
 use Rattle.shell.specs.Shells.{shellUses}
 use Rattle.shell.specs.Singular.{singularOf, singularPoints}
 
 abbrev pub openingCounts : Content → ℕ → OpeningCounts
 openingCounts c n = record {
-  condition = condition (shellUses c n);
+  condition = record { 0 = condition (shellUses c n) };
   openings = length (shellWalk c n .openings);
   used = length (flat (shellWalk c n .openings));
   lookups = shellWalk c n .lookups;
@@ -41,6 +42,7 @@ pub record Opened (c : Content) (n : ℕ) (out₀ lens₀ out lens : List ℕ) (
   pub counts : r ≡ openingCounts c n
   pub uses : out ≡ sets out₀ 0 (flat (shellWalk c n .openings))
   pub lengths : lens ≡ sets lens₀ 0 (map length (shellWalk c n .openings))
+  pub promised : OpeningsPromised c n
 
 -- the components and the singular points of shell n are written to three lists
 pub record Grouped (c : Content) (n : ℕ) (out₀ sizes₀ found₀ out sizes found : List ℕ) (r : GroupCounts) : Type 0 where

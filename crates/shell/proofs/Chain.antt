@@ -49,7 +49,6 @@ module _ (fronts backs : List ℕ) where
   -- what it finds from there on
   pub record Chained (a b : ℕ) (kept : Kept) (n : ℕ) (r : Found) : Type 0 where
     pub goes : runs fronts backs b (r .opening) a ≡ true
-    pub asked : r .lookups ≡ n + length (r .opening) + 1
     pub same : (q : ℕ → Bool) → count q (r .opening) + count q (held (r .kept)) ≡ count q (held kept)
     pub good : Good (r .kept)
     pub level : Level fronts backs (held (r .kept))
@@ -61,7 +60,6 @@ module _ (fronts backs : List ℕ) where
       let none-here : count (from b) (held kept) ≡ 0 = g .fit b ∙ ap there e in
       let here : a ≡ b = eqb-true a b (bit-true (eqb a b) (omega (arith, none-here, h b, bit-one b b refl))) in record {
         goes = eq-eqb b a (sym here);
-        asked = omega arith;
         same = λ q. omega arith;
         good = g;
         level = λ p. let z : bit (eqb a p) ≡ bit (eqb b p) = ap (λ (x : ℕ). bit (eqb x p)) here in omega (arith, h p, z);
@@ -84,7 +82,6 @@ module _ (fronts backs : List ℕ) where
           → Chained a b kept n (follow (frontOf fronts backs) (backOf fronts backs) (lookUp b kept n) (some u) next)
       found u e at r = record {
         goes = runs-on a b u (next (backOf fronts backs u) .opening) at (r .goes);
-        asked = omega (arith, r .asked);
         same = λ q. omega (arith, count-cons q u (next (backOf fronts backs u) .opening), r .same q, held-out q kept b u e);
         good = r .good;
         level = r .level;

@@ -7,7 +7,7 @@ use mathlib.Core.Option.{Option, Option·none-ne-some, Option·some-injective, O
 use mathlib.Core.Path.{_≡_, refl, sym}
 use native.Mathlib.Omega.{arith}
 use lib.Dec.{eqb}
-use lib.ListN.{getD, length, set}
+use lib.ListN.{getD, length, replicate, set}
 use lib.Seq.{getD-set-other, set-getD}
 use borrow.Author.Tests.{eqb-false, eqb-true}
 use Rattle.lists.proofs.Count.{bit, count-length}
@@ -64,6 +64,12 @@ held-none q (some u ∷ kept) h = absurd (Option·some-ne-none u (h 0))
 pub held-long : (kept : Kept) (p u : ℕ) → getD kept p none ≡ some u → length (held kept) ≡ 1 + length (held (set kept p none))
 held-long kept p u e =
     omega (arith, held-out (λ (v : ℕ). true) kept p u e, count-length (held kept), count-length (held (set kept p none)))
+
+-- where none was ever kept
+pub get-empty : (m p : ℕ) → getD {A = Option ℕ} (replicate m none) p none ≡ none
+get-empty zero p = refl
+get-empty (suc m) zero = refl
+get-empty (suc m) (suc p) = get-empty m p
 
 pub get-same : (kept : Kept) (p : ℕ) → getD (set kept p none) p none ≡ none
 get-same [] p = refl

@@ -1,5 +1,5 @@
 -- Keeping uses whose fronts are all different: all of them are kept, each at its front.
-use Prim.Native.Nat.{_+_, _<_, _≤_, suc, zero, ℕ}
+use Prim.Native.Nat.{_+_, _<_, _≤_, ℕ}
 use mathlib.Core.Bool.{Bool, false, true}
 use mathlib.Core.List.{List, [], _∷_}
 use mathlib.Core.Logic.{⊎-elim}
@@ -16,7 +16,7 @@ use Rattle.lists.proofs.Count.{All, all-weaker, bit}
 use Rattle.lists.proofs.Laws.{cases}
 use Rattle.lists.specs.Lists.{count, pick}
 use Rattle.shell.proofs.Chain.{Good, from}
-use Rattle.shell.proofs.Held.{held, held-in, held-none, there, there-none}
+use Rattle.shell.proofs.Held.{get-empty, held, held-in, held-none, there, there-none}
 use Rattle.shell.specs.Openings.{Kept, keep}
 
 get-in : (kept : Kept) (p r u : ℕ) → p < length kept → getD (set kept p (some u)) r none ≡ pick (eqb p r) (some u) (getD kept r none)
@@ -32,11 +32,6 @@ there-in kept p r u l e =
     (λ (f : eqb p r ≡ true). let h : getD kept r none ≡ none = rw (eqb-true p r f) at e in rw (get-in kept p r u l, f, h))
     (λ (f : eqb p r ≡ false). rw (get-in kept p r u l, f) (omega arith))
     (cases (eqb p r))
-
-pub get-empty : (m p : ℕ) → getD {A = Option ℕ} (replicate m none) p none ≡ none
-get-empty zero p = refl
-get-empty (suc m) zero = refl
-get-empty (suc m) (suc p) = get-empty m p
 
 module _ (fronts backs : List ℕ) where
   good-in : (kept : Kept) (u : ℕ) → frontOf fronts backs u < length kept → getD kept (frontOf fronts backs u) none ≡ none → Good fronts backs kept

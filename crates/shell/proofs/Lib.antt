@@ -1,5 +1,6 @@
 pub mod Held
 pub mod Pass
+pub mod Ended
 pub mod Turned
 pub mod Level
 pub mod Free
@@ -7,5 +8,12 @@ pub mod Chain
 pub mod Walked
 pub mod Keeping
 pub mod Rings
-pub mod Closed
 pub mod Theorem
+pub mod Shown
+pub mod Connected
+pub mod Ascending
+pub mod Singular
+pub mod Grouping
+pub mod Components
+pub mod Meaning
+pub mod SameEnds

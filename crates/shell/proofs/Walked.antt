@@ -6,14 +6,14 @@ use mathlib.Core.Option.{Option, none, some}
 use mathlib.Core.Path.{_≡_, refl}
 use native.Mathlib.Omega.{arith}
 use lib.Dec.{eqb}
-use lib.ListN.{getD, length, length-append, set}
+use lib.ListN.{getD, length, set}
 use borrow.Author.Tests.{eqb-true}
 use Rattle.edge.specs.Uses.{backOf, frontOf}
 use Rattle.lists.proofs.Count.{All, count-append, count-length}
 use Rattle.lists.proofs.Laws.{left-true, right-true}
 use Rattle.lists.specs.Lists.{count, flat}
 use Rattle.shell.proofs.Chain.{Chained, Good, chain-ok}
-use Rattle.shell.proofs.Held.{Less, chain-takes, get-same, held, held-le, held-long, less-set, less-trans}
+use Rattle.shell.proofs.Held.{Less, chain-takes, held, held-le, held-long}
 use Rattle.shell.proofs.Level.{Level}
 use Rattle.shell.specs.OnePass.{beginAt, pass}
 use Rattle.shell.specs.Openings.{Found, Kept, Walk, chain}
@@ -25,11 +25,8 @@ module _ (fronts backs : List ℕ) where
 
   pub record Passed (us : List ℕ) (kept : Kept) (n : ℕ) (w : Walk) : Type 0 where
     pub rings : All Ring (w .openings)
-    pub asked : w .lookups ≡ n + length (flat (w .openings)) + length (w .openings)
     pub same : (q : ℕ → Bool) → count q (flat (w .openings)) + count q (held (w .kept)) ≡ count q (held kept)
     pub good : Good fronts backs (w .kept)
-    pub bare : (p : ℕ) → getD kept p none ≡ none → getD (w .kept) p none ≡ none
-    pub behind : All (λ (u : ℕ). getD (w .kept) (frontOf fronts backs u) none ≡ none) us
 
   ring : (p : ℕ) (us : List ℕ) → runs fronts backs p us p ≡ true → 0 < length us → closed fronts backs us ≡ true
   unfolding runs closed
@@ -54,7 +51,7 @@ module _ (fronts backs : List ℕ) where
   pub pass-ok : (us : List ℕ) (kept : Kept) (n : ℕ) → Good fronts backs kept → Level fronts backs (held kept)
       → Passed us kept n (pass (frontOf fronts backs) (backOf fronts backs) us kept n)
   unfolding pass flat count
-  pass-ok [] kept n g h = record { rings = tt; asked = omega arith; same = λ q. omega arith; good = g; bare = λ p e. e; behind = tt }
+  pass-ok [] kept n g h = record { rings = tt; same = λ q. omega arith; good = g }
   pass-ok (u ∷ us) kept n g h = go (getD kept (frontOf fronts backs u) none) refl (λ k m g′ h′. pass-ok us k m g′ h′)
     where
       rest : Kept → ℕ → Walk
@@ -63,22 +60,16 @@ module _ (fronts backs : List ℕ) where
       go : (o : Option ℕ) → getD kept (frontOf fronts backs u) none ≡ o
           → ((k : Kept) (m : ℕ) → Good fronts backs k → Level fronts backs (held k) → Passed us k m (rest k m))
           → Passed (u ∷ us) kept n (beginAt (frontOf fronts backs) (backOf fronts backs) o (frontOf fronts backs u) kept n rest)
-      go none e more =
-          let w = more kept n g h in
-          record { rings = w .rings; asked = w .asked; same = w .same; good = w .good; bare = w .bare; behind = (w .bare (frontOf fronts backs u) e, w .behind) }
+      go none e more = let w = more kept n g h in record { rings = w .rings; same = w .same; good = w .good }
       go (some v) e more =
           let at = frontOf fronts backs u in
           let r = chain (frontOf fronts backs) (backOf fronts backs) (suc (length kept)) at kept n in
           let c = chain-ok fronts backs (suc (length kept)) at at kept n g (omega (arith, held-le kept)) (λ q. omega (arith, h q)) in
           let t = chain-takes (frontOf fronts backs) (backOf fronts backs) (length kept) at kept n in
-          let l = less-trans (less-set kept at) t in
           let some-found = finds kept at v n r e c t in
           let w = more (r .kept) (r .lookups) (c .good) (c .level) in
           let os = rest (r .kept) (r .lookups) .openings in record {
             rings = ((some-found, ring at (r .opening) (c .goes) some-found), w .rings);
-            asked = omega (arith, c .asked, w .asked, length-append (r .opening) (flat os));
             same = λ q. omega (arith, c .same q, w .same q, count-append q (r .opening) (flat os));
             good = w .good;
-            bare = λ q f. w .bare q (l .bare q f);
-            behind = (w .bare at (t .bare at (get-same kept at)), w .behind);
           }

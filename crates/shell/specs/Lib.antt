@@ -6,3 +6,5 @@ pub mod OnePass
 pub mod Connected
 pub mod Components
 pub mod Singular
+pub mod Meaning
+pub mod ShellKept

@@ -1,14 +1,17 @@
 -- The calls that ask for the condition and the openings of a shell of a pattern.
 use Prim.Native.Nat.{ℕ}
 use mathlib.Core.List.{List}
+use mathlib.Core.Path.{_≡_}
 use lib.ListN.{length}
 use Rattle.calls.specs.Calls.{ifThere, presence, whenThere}
 use Rattle.calls.specs.declared.FigureAnswer.{FigureAnswer}
+use Rattle.calls.specs.declared.Presence.the-variants.{There}
 use Rattle.calls.specs.declared.ShellFigure.the-variants.{Condition, Openings}
 use Rattle.lists.specs.Lists.{flat}
 use Rattle.pattern.specs.Contents.{Pattern, content}
 use Rattle.shell.specs.Conditions.{condition}
 use Rattle.shell.specs.Openings.{shellWalk}
+use Rattle.shell.specs.OpeningsHold.{OpeningsPromised}
 use Rattle.shell.specs.Shells.{shellUses}
 
 -- the condition (shell_condition)
@@ -21,3 +24,7 @@ openingsAnswer p n = let w = shellWalk (content p) n in whenThere (presence p n)
 
 abbrev pub openingsOut : Pattern → ℕ → List (List ℕ)
 openingsOut p n = ifThere (presence p n) (shellWalk (content p) n .openings)
+
+-- what is promised of the openings of a shell that is there; demand 3
+abbrev pub ShellPromised : Pattern → ℕ → Type 0
+ShellPromised p n = presence p n ≡ There → OpeningsPromised (content p) n

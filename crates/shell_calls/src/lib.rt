@@ -10,7 +10,9 @@ ghost use Rattle.columns.specs.Sound.{Faultless, OfTables};
 ghost use Rattle.pattern.specs.Contents.{content};
 ghost use Rattle.reports.specs.Figures.{Opened};
 ghost use Rattle.store.specs.Store.{countTable, held};
-ghost use Rattle.shell_calls.specs.ShellCalls.{conditionAnswer, openingsAnswer, openingsOut};
+ghost use Rattle.shell.specs.Conditions.{condition};
+ghost use Rattle.shell.specs.Shells.{shellUses};
+ghost use Rattle.shell_calls.specs.ShellCalls.{conditionAnswer, openingsAnswer, openingsOut, ShellPromised};
 use calls::FigureAnswer;
 use calls::Presence;
 use calls::ShellFigure;
@@ -18,9 +20,23 @@ use calls::find_shell;
 use columns::put_columns;
 use condition::Condition;
 use reports::OpeningCounts;
+use reports::condition_in;
 use reports::put_openings;
 use store::Spans;
 use store::Tables;
+
+// The condition of a shell that is there.
+fn condition_at(t: &Tables, n: usize) -> Condition
+    requires { ⌜ Faultless (now t) × (n < getD (countTable (now t)) 5 0) ⌝ }
+    ensures { λ r. ⌜ OfTables (now (t .entry)) (λ p. r .0 ≡ condition (shellUses (content p) n)) ⌝ }
+{
+    let mut turned = [0u16; 4096];
+    let mut starts = [0usize; 257];
+    let mut firsts = [0usize; 257];
+    let mut places = [0usize; 257];
+    put_columns(t, &mut turned, &mut starts, &mut firsts, &mut places);
+    condition_in(t, &turned, &starts, &firsts, &places, n)
+}
 
 // Writes the openings of a shell that is there.
 fn openings_at(t: &Tables, n: usize, out: &mut [u16], lens: &mut [u16]) -> OpeningCounts
@@ -44,12 +60,7 @@ pub fn shell_condition(t: &Tables, spans: &Spans, n: usize) -> FigureAnswer
     match found {
         Presence::Refused(f) => FigureAnswer::Refused(f),
         Presence::NoShell => FigureAnswer::NoShell,
-        Presence::There => {
-            let mut walked = [0u16; 2048];
-            let mut lens = [0u16; 2048];
-            let o = openings_at(t, n, &mut walked, &mut lens);
-            FigureAnswer::Found(ShellFigure::Condition(Condition(o.condition)))
-        }
+        Presence::There => FigureAnswer::Found(ShellFigure::Condition(condition_at(t, n))),
     }
 }
 
@@ -64,6 +75,7 @@ pub fn extract_boundaries(
     ensures { λ r. ⌜ r ≡ openingsAnswer (held (now (t .entry)) (now (spans .entry))) n ⌝ }
     ensures { λ _. ⌜ now (out .exit) ≡ sets (now (out .entry)) 0 (flat (openingsOut (held (now (t .entry)) (now (spans .entry))) n)) ⌝ }
     ensures { λ _. ⌜ now (lens .exit) ≡ sets (now (lens .entry)) 0 (map length (openingsOut (held (now (t .entry)) (now (spans .entry))) n)) ⌝ }
+    ensures { λ _. ⌜ ShellPromised (held (now (t .entry)) (now (spans .entry))) n ⌝ }
 {
     let found = find_shell(t, spans, n);
     match found {

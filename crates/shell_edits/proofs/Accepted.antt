@@ -1,21 +1,19 @@
 -- When a changed content is accepted: more edges without fault, and wires that obey the face rule over the longer tables.
 use Prim.Native.Nat.{_+_, _<_, _≤_, suc, ℕ}
-use mathlib.Core.Bool.{false, not, true}
+use mathlib.Core.Bool.{_&&_, false, not, true}
 use mathlib.Core.List.{List, [], _++_, _∷_, append-assoc, map, map-append}
 use mathlib.Core.Logic.{⊎-elim}
 use mathlib.Core.Path.{_∙_, _≡_, refl}
 use native.Mathlib.Omega.{arith}
 use lib.Dec.{eqb, ltb}
 use lib.ListN.{List·getD-append, getD, length, length-append, length-map}
-use borrow.Author.Tests.{eq-eqb, eqb-true, le-leb, lt-ltb, ltb-false, ltb-true, not-true}
-use Rattle.edge.specs.Edges.{backNumber, frontNumber}
+use borrow.Author.Tests.{eq-eqb, eqb-true, lt-ltb, ltb-false, ltb-true, not-true}
+use Rattle.edge.specs.Edges.{backNumber, frontNumber, isSpan}
 use Rattle.edge.specs.Uses.{backOf, edgeNumber, frontOf}
 use Rattle.edge.specs.declared.Edge.{Edge}
-use Rattle.edit_answers.specs.Answers.{judged}
-use Rattle.edit_answers.specs.declared.EditError.{EditError}
-use Rattle.errors.proofs.Laws.{each-none, none-both, none-left, none-right, unless-passes}
+use Rattle.errors.proofs.Laws.{each-none, each-record, none-both, none-left, none-right, unless-passes}
 use Rattle.errors.specs.Faults.{each}
-use Rattle.errors.specs.declared.Refusal.the-variants.{Wire}
+use Rattle.errors.specs.declared.Refusal.the-variants.{SameVertex, Span, Unnamed, Wire}
 use Rattle.errors.specs.declared.Refusal.{Refusal}
 use Rattle.errors.specs.declared.WireError.the-variants.{NotSimpleWire}
 use Rattle.face.proofs.Laws.{none-mapped}
@@ -25,16 +23,14 @@ use Rattle.lists.proofs.Count.{All, count-append}
 use Rattle.lists.proofs.Laws.{cases, left-true, right-true}
 use Rattle.lists.proofs.Parts.{all-place, split-flat}
 use Rattle.lists.specs.Lists.{count, disjoint, flat, has, split, sum, unless}
-use Rattle.pattern.proofs.Counts.{Full, Limited, faces-counted, limited, listings-counted, points-counted, shells-counted, wires-counted}
 use Rattle.pattern.proofs.Named.{faces-summed}
-use Rattle.pattern.proofs.Passed.{RecordsPassed, content-passed, passed-records, pattern-passed, records-passed}
-use Rattle.pattern.specs.Checks.{contentFaults, countFaults, edgeFaults, nameFaults, outlines, patternFaults, recordFaults, sumFaults}
-use Rattle.pattern.specs.Contents.{Content, Pattern, content, countsOf, storedIn}
+use Rattle.pattern.proofs.Passed.{RecordsPassed, content-passed, passed-records, records-passed}
+use Rattle.pattern.specs.Checks.{contentFaults, edgeFaults, nameFaults, outlines, recordFaults, sumFaults}
+use Rattle.pattern.specs.Contents.{Content, zeroEdge}
 use Rattle.shell.proofs.Chain.{from}
 use Rattle.shell.proofs.Rings.{points-count, rings-ruled}
 use Rattle.shell.proofs.Walked.{Ring}
-use Rattle.shell_edits.specs.Answers.{patternAfter}
-use Rattle.shell_edits.specs.Edits.{edited}
+use Rattle.shell_edits.specs.Edits.{edgeAt, edited}
 use Rattle.wire.proofs.Laws.{faultless-noDup, faultless-sound}
 use Rattle.wire.specs.Wires.{points, wireFaults}
 
@@ -100,6 +96,17 @@ module _ (c : Content) (ok : contentFaults c ≡ []) where
   pub edges-fine : each (edgeFaults (length (c .points))) 0 (c .edges) ≡ []
   edges-fine = passed .edges
 
+  -- an edge's curve is a span
+  pub edge-span : (k : ℕ) → k < length (c .edges) → isSpan (edgeAt c k .curve) ≡ true
+  edge-span k h =
+      let d = edgeAt c k in
+      let m = length (c .points) in
+      unless-passes (isSpan (d .curve)) (Span (0 + k))
+      (none-right
+      (unless (ltb (frontNumber d) m && ltb (backNumber d) m) (Unnamed 1 (0 + k)) ++ unless (not (eqb (frontNumber d) (backNumber d))) (SameVertex (0 + k)))
+      (unless (isSpan (d .curve)) (Span (0 + k)))
+      (each-record (edgeFaults m) zeroEdge 0 (c .edges) edges-fine k h))
+
   -- more edges, and as many wires as before, given by their uses
   module _ (es : List Edge) (ws : List (List ℕ)) (edges : each (edgeFaults (length (c .points))) (length (c .edges)) es ≡ []) (long : length ws ≡ length (c .wires))
       (named : All (λ (u : ℕ). edgeNumber u < length (c .edges ++ es)) (flat ws)) where
@@ -132,42 +139,6 @@ module _ (c : Content) (ok : contentFaults c ≡ []) where
         → contentFaults (edited c es (flat ws) (map length ws)) ≡ []
     edited-accepted rule =
         none-both (recordFaults (edited c es (flat ws) (map length ws))) _ new-records (rw (split-flat ws) rule)
-
--- counts within the limits have no fault
-pub limited-none : (c : Content) → Limited (countsOf c) → countFaults (countsOf c) ≡ []
-unfolding each
-limited-none c s =
-    rw (le-leb (length (c .points)) 2048 (s .points), le-leb (length (c .edges)) 1024 (s .edges), le-leb (length (c .uses)) 4096 (s .uses), le-leb (length (c .wires)) 1024 (s .wires), le-leb (length (c .faces)) 256 (s .faces), le-leb (length (c .shells)) 16 (s .shells), le-leb (length (c .listings)) 512 (s .listings))
-
--- a pattern after an edit, refused or not
-pub after-accepted : (p : Pattern) (faults : List EditError) (c : Content) → patternFaults p ≡ [] → (faults ≡ [] → patternFaults (storedIn p c) ≡ []) → patternFaults (patternAfter p faults c) ≡ []
-after-accepted p faults c ok done = go (patternFaults p) faults refl
-  where
-    go : (rs : List Refusal) (es : List EditError) → faults ≡ es → patternFaults (judged rs es (λ (f : Refusal). p) (λ (e : EditError). p) (storedIn p c)) ≡ []
-    go (r ∷ rs) es h = ok
-    go [] (e ∷ es) h = ok
-    go [] [] h = done h
-
--- an edit with room for its edges and uses
-module _ (p : Pattern) (full : Full p) (seven : length (p .counts) ≡ 7) (ok : patternFaults p ≡ []) where
-  pub content-fine : contentFaults (content p) ≡ []
-  content-fine = pattern-passed p ok .content
-
-  within : Limited (p .counts)
-  within = limited (p .counts) seven (pattern-passed p ok .counts)
-
-  pub edited-few : (es : List Edge) (ws : List (List ℕ)) → length (content p .edges) + length es ≤ 1024 → length (flat ws) ≤ 4096 → length ws ≡ length (content p .wires)
-      → countFaults (countsOf (edited (content p) es (flat ws) (map length ws))) ≡ []
-  edited-few es ws edges uses long =
-      limited-none (edited (content p) es (flat ws) (map length ws)) (record {
-        points = omega (arith, points-counted p within full, within .points);
-        edges = omega (arith, edges, length-append (content p .edges) es);
-        uses = uses;
-        wires = omega (arith, length-map ws length, long, wires-counted p within full, within .wires);
-        faces = omega (arith, faces-counted p within full, within .faces);
-        shells = omega (arith, shells-counted p within full, within .shells);
-        listings = omega (arith, listings-counted p within full, within .listings);
-      })
 
 -- ---- the face rule in numbers: every wire has a use and is closed, and at each point of a face one use begins at most
 

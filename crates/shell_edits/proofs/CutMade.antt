@@ -4,9 +4,10 @@ use mathlib.Core.Bool.{Bool, _&&_, false, not, true, true≢false}
 use mathlib.Core.List.{List, [], _++_, _∷_, map, map-append}
 use mathlib.Core.Path.{_∙_, _≡_, ap, refl, sym}
 use native.Mathlib.Omega.{arith}
-use lib.Dec.{eqb, leb, ltb}
+use lib.Dec.{eqb, ltb}
 use lib.ListN.{List·getD-map, getD, length, length-append, length-map, take}
 use borrow.Author.Tests.{eq-eqb, leb-true, lt-ltb, ltb-false, ltb-true, ne-eqb, not-true}
+use Rattle.curve.proofs.Theorem.{areSpans, cut-spans}
 use Rattle.curve.specs.Curves.{cutCurve}
 use Rattle.curve.specs.declared.Halves.the-variants.{Both, Refused}
 use Rattle.curve.specs.declared.Halves.{Halves}
@@ -25,7 +26,7 @@ use Rattle.lists.proofs.Count.{All, all-at, all-each, all-split, all-weaker, bi
 use Rattle.lists.proofs.Laws.{left-true, length-split, right-true}
 use Rattle.lists.proofs.Marks.{AllBelow}
 use Rattle.lists.proofs.Parts.{all-flat, flat-split, map-same, split-flat}
-use Rattle.lists.specs.Lists.{count, flat, has, numbers, pick, split, sum, unless}
+use Rattle.lists.specs.Lists.{count, flat, has, numbers, only, pick, split, sum, unless}
 use Rattle.pattern.proofs.Named.{faces-summed, use-named, wires-summed}
 use Rattle.pattern.specs.Checks.{contentFaults, edgeFaults, outlines}
 use Rattle.pattern.specs.Contents.{Content, zeroEdge}
@@ -34,13 +35,13 @@ use Rattle.shell.proofs.Level.{Level, closed-level}
 use Rattle.shell.proofs.Walked.{Ring}
 use Rattle.shell.specs.Openings.{frontIn}
 use Rattle.shell.specs.Shells.{listingsOf}
-use Rattle.shell_edits.proofs.Accepted.{Ruled, edges-fine, edited-accepted, records-fine, rule-fine, rule-ruled, ruled-rule}
+use Rattle.shell_edits.proofs.Accepted.{Ruled, edge-span, edges-fine, edited-accepted, records-fine, rule-fine, rule-ruled, ruled-rule}
 use Rattle.shell_edits.proofs.Cut.{Old, Tables, back-cut, change, change-none, changed, changed-counted, count-cut, cut-first, cutBacks, cutFirst, cutFronts, ends-begin, faces-cut, has-counts, hasEdge, length-each, named-each}
 use Rattle.shell_edits.proofs.Wires.{all-has, each-at, each-long, face-listed, has-flat, length-counted, none-flat}
-use Rattle.shell_edits.specs.Edits.{cutContent, cutFaults, cutWire, cutWires, eachWire, edgeAt, halfEdges, isCut, listedWires, outline, roomForEdges, roomForUses, sharesFace, usesIn, wiresIn, wiresOf}
-use Rattle.shell_edits.specs.Theorems.{firstNumber, mayCut, someThereAndBack, wiresWith}
+use Rattle.shell_edits.specs.Edits.{cutContent, cutFaults, cutWire, cutWires, eachWire, edgeAt, listedWires, outline, roomForEdges, roomForUses, sharesFace, usesIn, wiresIn, wiresOf}
+use Rattle.shell_edits.specs.NewEdges.{halfEdges, isCut}
+use Rattle.shell_edits.specs.Theorems.{OnlyNoRoom, firstNumber, others, someThereAndBack, wiresWith}
 use Rattle.wire.specs.Wires.{closed}
-use Rattle.curve.specs.Spans.{areSpans}
 
 each-two {ℓ} : {A : Type ℓ} (f : ℕ → A → List Refusal) (i : ℕ) (x y : A) → f i x ≡ [] → f (suc i) y ≡ [] → each f i (x ∷ y ∷ []) ≡ []
 unfolding each
@@ -50,7 +51,10 @@ each-two f i x y a b = rw (a, b)
 
 abbrev refusals : Bool → Bool → Bool → Bool → Bool → Bool → List EditError
 refusals named apart fresh there curve room =
-    unless named Unnamed ++ unless apart SharedFace ++ unless fresh VertexInShell ++ unless there EdgeNotInShell ++ unless curve CurveRefuses ++ unless room NoSpace
+    unless named Unnamed ++ (unless apart SharedFace ++ unless fresh VertexInShell ++ unless there EdgeNotInShell ++ unless curve CurveRefuses ++ unless room NoSpace)
+
+cons-none : {x : EditError} {es : List EditError} → x ∷ es ≡ [] → ⊥
+cons-none h = omega (arith, ap length h)
 
 first-refusal : (a b c d e f : Bool) → firstNumber (refusals a b c d e f) ≡ pick a (pick b (pick c (pick d (pick e (pick f 0 17) 16) 15) 14) 27) 3
 first-refusal false b c d e f = refl
@@ -60,6 +64,18 @@ first-refusal true true true false e f = refl
 first-refusal true true true true false f = refl
 first-refusal true true true true true false = refl
 first-refusal true true true true true true = refl
+
+-- 17 comes first exactly if it is alone
+only-room : (a b c d e f : Bool)
+    → (firstNumber (refusals a b c d e f) ≡ 17 → (others (refusals a b c d e f) ≡ []) × (f ≡ false)) × ((others (refusals a b c d e f) ≡ []) × (f ≡ false) → firstNumber (refusals a b c d e f) ≡ 17)
+unfolding only
+only-room false b c d e f = (λ h. absurd (omega (arith, h)), λ h. absurd (cons-none (h .0)))
+only-room true false c d e f = (λ h. absurd (omega (arith, h)), λ h. absurd (cons-none (h .0)))
+only-room true true false d e f = (λ h. absurd (omega (arith, h)), λ h. absurd (cons-none (h .0)))
+only-room true true true false e f = (λ h. absurd (omega (arith, h)), λ h. absurd (cons-none (h .0)))
+only-room true true true true false f = (λ h. absurd (omega (arith, h)), λ h. absurd (cons-none (h .0)))
+only-room true true true true true false = (λ h. (refl, refl), λ h. refl)
+only-room true true true true true true = (λ h. absurd (omega (arith, h)), λ h. absurd (true≢false (h .1)))
 
 -- the tests of a cut
 module _ (c : Content) (n e p : ℕ) (at : Parameter) where
@@ -76,7 +92,7 @@ module _ (c : Content) (n e p : ℕ) (at : Parameter) where
   curveCut = isCut (cutCurve (edgeAt c e .curve) at)
 
   abbrev hasRoom : Bool
-  hasRoom = roomForEdges c 2 && roomForUses (length (flat (cutWires c n e)))
+  hasRoom = roomForEdges (length (c .edges) + 2) && roomForUses (length (flat (cutWires c n e)))
 
   answer-is : firstNumber (cutFaults c n e p at) ≡ pick isNamed (pick (not (sharesFace c n)) (pick isFresh (pick isThere (pick curveCut (pick hasRoom 0 17) 16) 15) 14) 27) 3
   answer-is = first-refusal isNamed (not (sharesFace c n)) isFresh isThere curveCut hasRoom
@@ -91,16 +107,19 @@ pub record Passed (a b c d e f : Bool) : Type 0 where
 
 passed : (a b c d e f : Bool) → refusals a b c d e f ≡ [] → Passed a b c d e f
 passed a b c d e f h =
-    let five = none-left (unless a Unnamed ++ unless b SharedFace ++ unless c VertexInShell ++ unless d EdgeNotInShell ++ unless e CurveRefuses) (unless f NoSpace) h in
-    let four = none-left (unless a Unnamed ++ unless b SharedFace ++ unless c VertexInShell ++ unless d EdgeNotInShell) (unless e CurveRefuses) five in
-    let three = none-left (unless a Unnamed ++ unless b SharedFace ++ unless c VertexInShell) (unless d EdgeNotInShell) four in
-    let two = none-left (unless a Unnamed ++ unless b SharedFace) (unless c VertexInShell) three in record {
-      named = unless-passes a Unnamed (none-left (unless a Unnamed) (unless b SharedFace) two);
-      apart = unless-passes b SharedFace (none-right (unless a Unnamed) (unless b SharedFace) two);
-      fresh = unless-passes c VertexInShell (none-right (unless a Unnamed ++ unless b SharedFace) (unless c VertexInShell) three);
-      there = unless-passes d EdgeNotInShell (none-right (unless a Unnamed ++ unless b SharedFace ++ unless c VertexInShell) (unless d EdgeNotInShell) four);
-      curve = unless-passes e CurveRefuses (none-right (unless a Unnamed ++ unless b SharedFace ++ unless c VertexInShell ++ unless d EdgeNotInShell) (unless e CurveRefuses) five);
-      room = unless-passes f NoSpace (none-right (unless a Unnamed ++ unless b SharedFace ++ unless c VertexInShell ++ unless d EdgeNotInShell ++ unless e CurveRefuses) (unless f NoSpace) h);
+    let two = unless b SharedFace ++ unless c VertexInShell in
+    let three = two ++ unless d EdgeNotInShell in
+    let four = three ++ unless e CurveRefuses in
+    let later : four ++ unless f NoSpace ≡ [] = none-right (unless a Unnamed) (four ++ unless f NoSpace) h in
+    let none₄ = none-left four (unless f NoSpace) later in
+    let none₃ = none-left three (unless e CurveRefuses) none₄ in
+    let none₂ = none-left two (unless d EdgeNotInShell) none₃ in record {
+      named = unless-passes a Unnamed (none-left (unless a Unnamed) (four ++ unless f NoSpace) h);
+      apart = unless-passes b SharedFace (none-left (unless b SharedFace) (unless c VertexInShell) none₂);
+      fresh = unless-passes c VertexInShell (none-right (unless b SharedFace) (unless c VertexInShell) none₂);
+      there = unless-passes d EdgeNotInShell (none-right two (unless d EdgeNotInShell) none₃);
+      curve = unless-passes e CurveRefuses (none-right three (unless e CurveRefuses) none₄);
+      room = unless-passes f NoSpace (none-right four (unless f NoSpace) later);
     }
 
 -- ---- the wires of a pattern without fault
@@ -158,20 +177,24 @@ module _ (c : Content) (ok : contentFaults c ≡ []) where
     tests : Passed (isNamed c n e p at) (not (sharesFace c n)) (isFresh c n e p at) (isThere c n e p at) (curveCut c n e p at) (hasRoom c n e p at)
     tests = passed (isNamed c n e p at) (not (sharesFace c n)) (isFresh c n e p at) (isThere c n e p at) (curveCut c n e p at) (hasRoom c n e p at) cut
 
-    edge-inside : e < length (c .edges)
+    -- no face of the shell is listed in another
+    pub own-faces : sharesFace c n ≡ false
+    own-faces = not-true (sharesFace c n) (tests .apart)
+
+    pub edge-inside : e < length (c .edges)
     edge-inside =
         ltb-true e (length (c .edges))
         (right-true (ltb n (length (c .shells))) (ltb e (length (c .edges)))
         (left-true (ltb n (length (c .shells)) && ltb e (length (c .edges))) (ltb p (length (c .points))) (tests .named)))
 
     pub uses-few : length (flat (cutWires c n e)) ≤ 4096
-    uses-few = leb-true (length (flat (cutWires c n e))) 4096 (right-true (roomForEdges c 2) (roomForUses (length (flat (cutWires c n e)))) (tests .room))
+    uses-few = leb-true (length (flat (cutWires c n e))) 4096 (right-true (roomForEdges (length (c .edges) + 2)) (roomForUses (length (flat (cutWires c n e)))) (tests .room))
 
     point-inside : p < length (c .points)
     point-inside = ltb-true p (length (c .points)) (right-true (ltb n (length (c .shells)) && ltb e (length (c .edges))) (ltb p (length (c .points))) (tests .named))
 
     pub edges-few : length (c .edges) + 2 ≤ 1024
-    edges-few = leb-true (length (c .edges) + 2) 1024 (left-true (roomForEdges c 2) (roomForUses (length (flat (cutWires c n e)))) (tests .room))
+    edges-few = leb-true (length (c .edges) + 2) 1024 (left-true (roomForEdges (length (c .edges) + 2)) (roomForUses (length (flat (cutWires c n e)))) (tests .room))
 
     tables : Tables fs bs e p
     tables = record {
@@ -249,8 +272,8 @@ module _ (c : Content) (ok : contentFaults c ≡ []) where
         let both = unless-passes (ltb (frontNumber d) m && ltb (backNumber d) m) (NotNamed 1 (0 + e)) (none-left (unless (ltb (frontNumber d) m && ltb (backNumber d) m) (NotNamed 1 (0 + e))) (unless (not (eqb (frontNumber d) (backNumber d))) (SameVertex (0 + e))) ends-fine) in
         (ltb-true (frontNumber d) m (left-true (ltb (frontNumber d) m) (ltb (backNumber d) m) both), ltb-true (backNumber d) m (right-true (ltb (frontNumber d) m) (ltb (backNumber d) m) both))
 
-    new-edges-fine : areSpans halves ≡ true → each (edgeFaults (length (c .points))) (length (c .edges)) new-edges ≡ []
-    new-edges-fine spans = go halves (tests .curve) spans
+    new-edges-fine : each (edgeFaults (length (c .points))) (length (c .edges)) new-edges ≡ []
+    new-edges-fine = go halves (tests .curve) (cut-spans (edgeAt c e .curve) at (edge-span c ok e edge-inside))
       where
         go : (h : Halves) → isCut h ≡ true → areSpans h ≡ true → each (edgeFaults (length (c .points))) (length (c .edges)) (halfEdges (edgeAt c e) p h) ≡ []
         go Refused h s = absurd (true≢false (sym h))
@@ -279,9 +302,9 @@ module _ (c : Content) (ok : contentFaults c ≡ []) where
         fresh-face f k l h =
             face-listed counts (wiresIn c) (listingsOf c n) (from fs bs p) (rw wires-long fresh) f k l (rw wires-long h)
 
-    pub accepted : areSpans (cutCurve (edgeAt c e .curve) at) ≡ true → contentFaults (cutContent c n e p at) ≡ []
-    accepted spans =
-        edited-accepted c ok new-edges (cutWires c n e) (new-edges-fine spans) cut-long
+    pub accepted : contentFaults (cutContent c n e p at) ≡ []
+    accepted =
+        edited-accepted c ok new-edges (cutWires c n e) new-edges-fine cut-long
         (rw (wires-are, two-more, ← fronts-long) (named-each fs bs e p tables inShell 0 (wiresIn c) wires-old))
         new-rule
 
@@ -391,18 +414,7 @@ module _ (c : Content) (ok : contentFaults c ≡ []) where
       ∙ ap (λ (m : ℕ). count q (numbers m)) wires-long in
       omega (arith, length-each e a s 0 (wiresIn c), all, few, length-counted q (numbers (length (c .wires))))
 
-  pub no-space : (n e p : ℕ) (at : Parameter) → eqb (firstNumber (cutFaults c n e p at)) 17
-      ≡ (mayCut c n e p at && not (leb (length (c .edges) + 2) 1024 && leb (length (c .uses) + length (wiresWith c n e)) 4096))
+  pub no-space : (n e p : ℕ) (at : Parameter)
+      → (firstNumber (cutFaults c n e p at) ≡ 17 → OnlyNoRoom c n e (cutFaults c n e p at)) × (OnlyNoRoom c n e (cutFaults c n e p at) → firstNumber (cutFaults c n e p at) ≡ 17)
   no-space n e p at =
-      ap (λ (k : ℕ). eqb k 17) (answer-is c n e p at)
-      ∙ rw (grows n e)
-      (go (isNamed c n e p at) (not (sharesFace c n)) (isFresh c n e p at) (isThere c n e p at) (curveCut c n e p at) (leb (length (c .edges) + 2) 1024 && leb (length (c .uses) + length (wiresWith c n e)) 4096))
-    where
-      go : (a b x d k r : Bool) → eqb (pick a (pick b (pick x (pick d (pick k (pick r 0 17) 16) 15) 14) 27) 3) 17 ≡ (a && b && x && d && k && not r)
-      go false b x d k r = refl
-      go true false x d k r = refl
-      go true true false d k r = refl
-      go true true true false k r = refl
-      go true true true true false r = refl
-      go true true true true true false = refl
-      go true true true true true true = refl
+      rw (← grows n e) (only-room (isNamed c n e p at) (not (sharesFace c n)) (isFresh c n e p at) (isThere c n e p at) (curveCut c n e p at) (hasRoom c n e p at))

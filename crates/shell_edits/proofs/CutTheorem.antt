@@ -1,35 +1,36 @@
 -- The theorems of the cut, of every pattern without fault.
 use Prim.Native.Nat.{_+_, _<_, ℕ}
-use mathlib.Core.Bool.{_&&_, false, not, true}
+use mathlib.Core.Bool.{false, not}
 use mathlib.Core.List.{List, [], _∷_, map}
 use mathlib.Core.Path.{_∙_, _≡_, ap, refl}
 use native.Mathlib.Omega.{arith}
-use lib.Dec.{eqb, leb}
-use lib.ListN.{List·getD-append, length, length-append}
+use lib.Dec.{eqb}
+use lib.ListN.{List·getD-append, length, length-map}
 use Rattle.curve.specs.Curves.{cutCurve}
 use Rattle.curve.specs.declared.Parameter.{Parameter}
-use Rattle.edit_answers.specs.Answers.{cutNumber, judged}
+use Rattle.edit_answers.specs.Answers.{cutReply, judged}
 use Rattle.edit_answers.specs.declared.CutAnswer.the-variants.{Cut, Not, Refused}
 use Rattle.edit_answers.specs.declared.EditError.{EditError}
 use Rattle.lists.proofs.Marks.{AllBelow}
 use Rattle.lists.specs.Lists.{flat, has}
 use Rattle.pattern.proofs.Counts.{Full}
+use Rattle.pattern.proofs.Passed.{pattern-passed}
 use Rattle.pattern.specs.Checks.{contentFaults, countFaults, patternFaults}
 use Rattle.pattern.specs.Contents.{Content, Pattern, content, countsOf, zeroEdge}
 use Rattle.shell.specs.Openings.{frontIn}
-use Rattle.shell_edits.proofs.Accepted.{after-accepted, content-fine, edited-few}
 use Rattle.shell_edits.proofs.CutMade.{accepted, again, cut-long, edges-few, grows, no-space, old-edge, two-more, uses-few}
 use Rattle.shell_edits.specs.Answers.{afterCut, cutAnswer, nextEdge}
-use Rattle.shell_edits.specs.Edits.{cutContent, cutFaults, cutWires, edgeAt, halfEdges, usesIn}
-use Rattle.shell_edits.specs.Theorems.{firstNumber, mayCut, someThereAndBack, wiresWith}
-use Rattle.pattern.proofs.Stored.{stored-accepted, stored-content}
-use Rattle.curve.specs.Spans.{areSpans}
+use Rattle.shell_edits.specs.Edits.{cutContent, cutFaults, cutWires, edgeAt, usesIn}
+use Rattle.shell_edits.specs.NewEdges.{halfEdges}
+use Rattle.shell_edits.specs.Theorems.{OnlyNoRoom, firstNumber, someThereAndBack, wiresWith}
+use Rattle.pattern.proofs.Stored.{stored-content}
+use Rattle.shell_edits.proofs.Stored.{after-accepted, edited-few, wires-few}
 
 -- ---- a cut that is not refused, of shell n, edge e, at point p
 module _ (c : Content) (n e p : ℕ) (at : Parameter) (ok : contentFaults c ≡ []) where
   -- the content has no fault afterwards
-  pub cut-accepted : cutFaults c n e p at ≡ [] → areSpans (cutCurve (edgeAt c e .curve) at) ≡ true → contentFaults (cutContent c n e p at) ≡ []
-  cut-accepted cut spans = accepted c ok n e p at cut spans
+  pub cut-accepted : cutFaults c n e p at ≡ [] → contentFaults (cutContent c n e p at) ≡ []
+  cut-accepted cut = accepted c ok n e p at cut
 
   -- the same cut again, with any parameter, is answered 14
   pub cut-again : cutFaults c n e p at ≡ [] → (at′ : Parameter) → firstNumber (cutFaults (cutContent c n e p at) n e p at′) ≡ 14
@@ -50,18 +51,17 @@ module _ (c : Content) (n e p : ℕ) (at : Parameter) (ok : contentFaults c ≡ 
   pub cut-grows : length (flat (cutWires c n e)) ≡ length (c .uses) + length (wiresWith c n e)
   cut-grows = grows c ok n e
 
-  -- 17 is answered exactly if none of 3, 27, 14, 15, 16 holds, and the edge table or the use list would pass its limit
-  pub cut-no-space : eqb (firstNumber (cutFaults c n e p at)) 17
-      ≡ (mayCut c n e p at && not (leb (length (c .edges) + 2) 1024 && leb (length (c .uses) + length (wiresWith c n e)) 4096))
+  -- 17 is answered exactly if nothing else is wrong and the edge table or the use list would pass its limit
+  pub cut-no-space : (firstNumber (cutFaults c n e p at) ≡ 17 → OnlyNoRoom c n e (cutFaults c n e p at)) × (OnlyNoRoom c n e (cutFaults c n e p at) → firstNumber (cutFaults c n e p at) ≡ 17)
   cut-no-space = no-space c ok n e p at
 
--- ---- the same of a pattern in storage; `Full` and the seven counts hold of every value of its type
+-- ---- the same of a pattern in storage; `Full` holds of every value of its type
 module _ (p : Pattern) (n e v : ℕ) (at : Parameter) (ok : patternFaults p ≡ []) where
   -- the number of the answer is that of the first refusal
-  pub cut-answered : cutNumber (cutAnswer p n e v at) ≡ firstNumber (cutFaults (content p) n e v at)
+  pub cut-answered : cutReply (cutAnswer p n e v at) .number ≡ firstNumber (cutFaults (content p) n e v at)
   cut-answered = rw ok (go (cutFaults (content p) n e v at))
     where
-      go : (es : List EditError) → cutNumber (judged [] es Refused Not (Cut (nextEdge p 0) (nextEdge p 1))) ≡ firstNumber es
+      go : (es : List EditError) → cutReply (judged [] es Refused Not (Cut (nextEdge p 0) (nextEdge p 1))) .number ≡ firstNumber es
       go [] = refl
       go (x ∷ es) = refl
 
@@ -71,32 +71,32 @@ module _ (p : Pattern) (n e v : ℕ) (at : Parameter) (ok : patternFaults p ≡ 
       let z : length (content p .edges) + 0 ≡ length (content p .edges) = omega arith in
       rw (ok, cut) (λ i. Cut (record { 0 = z i }) (record { 0 = length (content p .edges) + 1 }))
 
-  module _ (full : Full p) (seven : length (p .counts) ≡ 7) where
-    few : cutFaults (content p) n e v at ≡ [] → countFaults (countsOf (cutContent (content p) n e v at)) ≡ []
-    few cut =
+  module _ (full : Full p) where
+    abbrev fine : contentFaults (content p) ≡ []
+    fine = pattern-passed p ok .content
+
+    pub cut-few : cutFaults (content p) n e v at ≡ [] → countFaults (countsOf (cutContent (content p) n e v at)) ≡ []
+    cut-few cut =
         let c = content p in
-        let fine = content-fine p full seven ok in
-        let es = halfEdges (edgeAt c e) v (cutCurve (edgeAt c e .curve) at) in
-        edited-few p full seven ok es (cutWires c n e)
-        (omega (arith, edges-few c fine n e v at cut, two-more c fine n e v at cut, length-append (c .edges) es))
-        (uses-few c fine n e v at cut) (cut-long c fine n e v at cut)
+        let ws = cutWires c n e in
+        edited-few p full (halfEdges (edgeAt c e) v (cutCurve (edgeAt c e .curve) at)) (flat ws) (map length ws)
+        (omega (arith, edges-few c fine n e v at cut, two-more c fine n e v at cut)) (uses-few c fine n e v at cut)
+        (omega (arith, length-map ws length, cut-long c fine n e v at cut, wires-few p full))
 
     -- the pattern means the cut content afterwards
     pub cut-content : cutFaults (content p) n e v at ≡ [] → content (afterCut p n e v at) ≡ cutContent (content p) n e v at
-    cut-content cut = rw (ok, cut) (stored-content p full (cutContent (content p) n e v at) (few cut))
+    cut-content cut = rw (ok, cut) (stored-content p full (cutContent (content p) n e v at) (cut-few cut))
 
-    module _ (spans : areSpans (cutCurve (edgeAt (content p) e .curve) at) ≡ true) where
-      -- refused or not, the pattern has no fault afterwards
-      pub cut-pattern-accepted : patternFaults (afterCut p n e v at) ≡ []
-      cut-pattern-accepted =
-          after-accepted p (cutFaults (content p) n e v at) (cutContent (content p) n e v at) ok
-          (λ cut. stored-accepted p full (cutContent (content p) n e v at) (few cut) (accepted (content p) (content-fine p full seven ok) n e v at cut spans))
+    -- refused or not, the pattern has no fault afterwards
+    pub cut-pattern-accepted : patternFaults (afterCut p n e v at) ≡ []
+    cut-pattern-accepted =
+        after-accepted p full ok (cutContent (content p) n e v at) (cutFaults (content p) n e v at) (λ cut. (cut-few cut, accepted (content p) fine n e v at cut))
 
 -- the same cut again, of the pattern afterwards, is answered 14
-pub cut-answered-again : (p : Pattern) (n e v : ℕ) (at : Parameter) → patternFaults p ≡ [] → Full p → length (p .counts) ≡ 7
-    → areSpans (cutCurve (edgeAt (content p) e .curve) at) ≡ true → cutFaults (content p) n e v at ≡ [] → (at′ : Parameter)
-    → cutNumber (cutAnswer (afterCut p n e v at) n e v at′) ≡ 14
-cut-answered-again p n e v at ok full seven spans cut at′ =
-    cut-answered (afterCut p n e v at) n e v at′ (cut-pattern-accepted p n e v at ok full seven spans)
-    ∙ ap (λ (c : Content). firstNumber (cutFaults c n e v at′)) (cut-content p n e v at ok full seven cut)
-    ∙ cut-again (content p) n e v at (content-fine p full seven ok) cut at′
+pub cut-answered-again : (p : Pattern) (n e v : ℕ) (at : Parameter) → patternFaults p ≡ [] → Full p
+    → cutFaults (content p) n e v at ≡ [] → (at′ : Parameter)
+    → cutReply (cutAnswer (afterCut p n e v at) n e v at′) .number ≡ 14
+cut-answered-again p n e v at ok full cut at′ =
+    cut-answered (afterCut p n e v at) n e v at′ (cut-pattern-accepted p n e v at ok full)
+    ∙ ap (λ (c : Content). firstNumber (cutFaults c n e v at′)) (cut-content p n e v at ok full cut)
+    ∙ cut-again (content p) n e v at (pattern-passed p ok .content) cut at′

@@ -1,19 +1,20 @@
 -- Laws of a wire in which a use and the next give way to one use: it stays closed and simple, and meets no other points.
 use Prim.Native.Nat.{_+_, _-_, _<_, _≤_, suc, zero, ℕ}
 use mathlib.Core.Bool.{Bool, _&&_, false, true, true≢false}
-use mathlib.Core.List.{List, [], _++_, _∷_, map, map-append}
+use mathlib.Core.List.{List, [], _++_, _∷_, map}
 use mathlib.Core.Logic.{⊎-elim}
 use mathlib.Core.Path.{_∙_, _≡_, ap, refl, sym}
 use native.Mathlib.Omega.{arith}
 use lib.Dec.{eqb, ltb}
 use lib.ListN.{List·getD-append, drop, getD, length, length-append, take}
 use lib.Seq.{drop-cons, split-at}
-use borrow.Author.Tests.{eq-eqb, eqb-false, eqb-true, ltb-false, ltb-true}
+use borrow.Author.Tests.{eqb-false, eqb-true, ltb-false, ltb-true}
 use Rattle.edge.specs.Uses.{backOf, frontOf}
 use Rattle.lists.proofs.Alike.{bit-one, count-noDup, noDup-count}
 use Rattle.lists.proofs.Count.{All, all-append, all-drop, all-take, bit, count-append}
 use Rattle.lists.proofs.Laws.{cases, left-true, right-true}
 use Rattle.lists.specs.Lists.{count, has, noDup, pick, rotated}
+use Rattle.shell.proofs.Shown.{closed-ends, ends-closed, length-rotated, map-rotated}
 use Rattle.wire.proofs.Laws.{Sound}
 use Rattle.wire_swaps.specs.Swaps.{swapPair, swapSubwire}
 use Rattle.wire.specs.Wires.{closed, points, runs}
@@ -48,14 +49,6 @@ unfolding count
 count-rotated q [] = refl
 count-rotated q (x ∷ xs) = omega (arith, count-append q xs (x ∷ []))
 
-pub map-rotated : (f : ℕ → ℕ) (xs : List ℕ) → map f (rotated xs) ≡ rotated (map f xs)
-map-rotated f [] = refl
-map-rotated f (x ∷ xs) = map-append f xs (x ∷ [])
-
-pub length-rotated : (xs : List ℕ) → length (rotated xs) ≡ length xs
-length-rotated [] = refl
-length-rotated (x ∷ xs) = omega (arith, length-append xs (x ∷ []))
-
 module _ (fronts backs : List ℕ) where
   abbrev front : ℕ → ℕ
   front = frontOf fronts backs
@@ -63,33 +56,8 @@ module _ (fronts backs : List ℕ) where
   abbrev back : ℕ → ℕ
   back = backOf fronts backs
 
-  -- a run: the points where it goes on are those where it came
-  runs-ends : (a : ℕ) (us : List ℕ) (z : ℕ) → runs fronts backs a us z ≡ true → a ∷ map back us ≡ map front us ++ (z ∷ [])
-  unfolding runs
-  runs-ends a [] z h = rw (eqb-true a z h)
-  runs-ends a (u ∷ us) z h =
-      let e : a ≡ front u = eqb-true a (front u) (left-true (eqb a (front u)) (runs fronts backs (back u) us z) h) in
-      rw (e, runs-ends (back u) us z (right-true (eqb a (front u)) (runs fronts backs (back u) us z) h))
-
-  ends-runs : (a : ℕ) (us : List ℕ) (z : ℕ) → a ∷ map back us ≡ map front us ++ (z ∷ []) → runs fronts backs a us z ≡ true
-  unfolding runs
-  ends-runs a [] z h = eq-eqb a z (ap (λ (xs : List ℕ). getD xs 0 0) h)
-  ends-runs a (u ∷ us) z h =
-      rw (eq-eqb a (front u) (ap (λ (xs : List ℕ). getD xs 0 0) h)) (ends-runs (back u) us z (ap (drop 1) h))
-
-  -- closed: the points where the uses end are those where they begin, rotated
-  pub closed-ends : (us : List ℕ) → closed fronts backs us ≡ true → map back us ≡ rotated (points fronts backs us)
-  unfolding closed
-  closed-ends [] h = refl
-  closed-ends (u ∷ us) h = runs-ends (back u) us (front u) h
-
-  pub ends-closed : (us : List ℕ) → map back us ≡ rotated (points fronts backs us) → closed fronts backs us ≡ true
-  unfolding closed
-  ends-closed [] h = refl
-  ends-closed (u ∷ us) h = ends-runs (back u) us (front u) h
-
   pub closed-rotated : (us : List ℕ) → closed fronts backs us ≡ true → closed fronts backs (rotated us) ≡ true
-  closed-rotated us h = ends-closed (rotated us) (map-rotated back us ∙ ap rotated (closed-ends us h ∙ sym (map-rotated front us)))
+  closed-rotated us h = ends-closed fronts backs (rotated us) (map-rotated back us ∙ ap rotated (closed-ends fronts backs us h ∙ sym (map-rotated front us)))
 
   both-true : (a b : Bool) → a ≡ true → b ≡ true → (a && b) ≡ true
   both-true a b e f = rw (e, f)
@@ -154,7 +122,7 @@ module _ (fronts backs : List ℕ) where
         sound = record { used = omega (arith, length-append xs (n ∷ ys)); loops = loops; once = noDup-within old new (s .once) less };
         shorter = omega (arith, length-append xs (n ∷ ys), length-append xs (u ∷ v ∷ ys));
         within = less;
-        gone = rw (closed-ends (xs ++ (n ∷ ys)) loops) (count-rotated (eqb p) new ∙ left);
+        gone = rw (closed-ends fronts backs (xs ++ (n ∷ ys)) loops) (count-rotated (eqb p) new ∙ left);
       }
 
   -- a wire changed at two places that stand next to each other

@@ -12,9 +12,10 @@ use Rattle.lists.proofs.Parts.{all-flat, flat-split, map-same}
 use Rattle.lists.specs.Lists.{count, flat, rotated, split, sum}
 use Rattle.shell.proofs.Chain.{from}
 use Rattle.shell.proofs.Rings.{points-count}
+use Rattle.shell.proofs.Shown.{closed-ends, ends-closed}
 use Rattle.shell.proofs.Walked.{Ring}
 use Rattle.shell_edits.proofs.Accepted.{Ruled}
-use Rattle.shell_edits.proofs.Joining.{Freed, Within, closed-ends, ends-closed}
+use Rattle.shell_edits.proofs.Joining.{Freed, Within}
 use Rattle.wire.proofs.Laws.{Sound}
 use Rattle.wire.specs.Wires.{points}
 

@@ -1,3 +1,4 @@
+pub mod Ends
 pub mod Accepted
 pub mod Wires
 pub mod Cut
@@ -11,3 +12,15 @@ pub mod Storage
 pub mod Stored
 pub mod RemoveTheorem
 pub mod ConcatTheorem
+pub mod KeepsUses
+pub mod KeepsShell
+pub mod KeepsCondition
+pub mod KeepsGroups
+pub mod KeepsConnected
+pub mod KeepsSingular
+pub mod KeepsComponents
+pub mod KeepsCases
+pub mod KeepsTheorem
+pub mod Numbers
+pub mod Locality
+pub mod Sequences

@@ -8,7 +8,7 @@ use native.Mathlib.Omega.{arith}
 use lib.Dec.{eqb, leb, ltb}
 use lib.ListN.{List·getD-eq-default, drop, getD, length, length-append, length-map, length-set, set, take}
 use lib.Seq.{getD-set-other, getD-set-same, set-set}
-use borrow.Author.Tests.{eqb-false, eqb-true, leb-true, ltb-false, ltb-true}
+use borrow.Author.Tests.{eqb-false, eqb-true, leb-true, ltb-false, ltb-true, not-true}
 use Rattle.edge.specs.Edges.{backNumber, frontNumber}
 use Rattle.edge.specs.Uses.{backOf, edgeNumber, frontOf, turned}
 use Rattle.edge.specs.declared.Edge.{Edge}
@@ -16,20 +16,22 @@ use Rattle.edit_answers.specs.declared.EditError.the-variants.{NotOneOrTwoWires
 use Rattle.errors.proofs.Laws.{none-left, none-right, unless-passes}
 use Rattle.face.specs.Faces.{wireCount}
 use Rattle.lists.proofs.Alike.{count-both, has-none}
-use Rattle.lists.proofs.Count.{All, all-append, all-at, all-drop, all-each, all-split, all-take, all-weaker, count-only}
+use Rattle.lists.proofs.Count.{All, all-append, all-at, all-drop, all-each, all-set, all-split, all-take, all-weaker, count-only}
 use Rattle.lists.proofs.Laws.{cases, has-append, left-true, length-split, right-true}
 use Rattle.lists.proofs.Parts.{all-flat, all-place, flat-split, split-flat}
 use Rattle.lists.specs.Lists.{count, flat, has, only, pick, rotated, split, unless}
 use Rattle.pattern.proofs.Named.{ends-apart, faces-summed, use-named, wires-summed}
 use Rattle.pattern.specs.Checks.{contentFaults, outlines}
 use Rattle.pattern.specs.Contents.{Content}
+use Rattle.shell.proofs.Shown.{length-rotated, next-begins}
 use Rattle.shell.proofs.Turned.{turned-edge, turned-front}
 use Rattle.shell.specs.Openings.{backIn, frontIn}
 use Rattle.shell.specs.Shells.{listingsOf}
 use Rattle.shell_edits.proofs.Accepted.{edited-accepted, old-back, old-front, records-fine, rule-fine, rule-ruled, ruled-rule}
-use Rattle.shell_edits.proofs.Joining.{Freed, all-swapped, freed, has-some, length-rotated, some-has}
+use Rattle.shell_edits.proofs.Ends.{back-is, front-is}
+use Rattle.shell_edits.proofs.Joining.{Freed, all-swapped, freed, has-some, some-has}
 use Rattle.shell_edits.proofs.Kept.{Kept, Pairs, Same, kept-freed, kept-ruled, kept-same, pairs-same, pairs-set, pairs-split, same-ends, same-sound, sound-wires}
-use Rattle.shell_edits.proofs.Remove.{Joins, join-allowed, join-fine, new-back, new-front, next-begins, opposite, place, two-changed}
+use Rattle.shell_edits.proofs.Remove.{Joins, join-allowed, join-fine, new-back, new-front, opposite, place, two-changed}
 use Rattle.shell_edits.specs.Edits.{endPlace, endUse, endingWires, firstWire, joinFaults, joinedEdge, lastWire, listedWires, matched, nextUse, outline, placeIn, removeContent, removeFaults, removeWires, sharesFace, usesIn, wiresIn, wiresOf}
 use Rattle.shell_edits.proofs.Wires.{all-has}
 use Rattle.wire.proofs.Laws.{Sound}
@@ -47,11 +49,6 @@ module _ {ℓ} {A : Type ℓ} where
       one false e = tt
 
 module _ {ℓ} {A : Type ℓ} where
-  pub all-set : (P : A → Type 0) (xs : List A) (i : ℕ) (y : A) → All P xs → P y → All P (set xs i y)
-  all-set P [] i y h r = tt
-  all-set P (x ∷ xs) zero y h r = (r, h .1)
-  all-set P (x ∷ xs) (suc i) y h r = (h .0, all-set P xs i y (h .1) r)
-
   pub flat-set : (xs : List (List A)) (i : ℕ) (y : List A) → i < length xs → length (flat (set xs i y)) + length (getD xs i []) ≡ length (flat xs) + length y
   unfolding flat
   flat-set [] i y h = absurd (omega arith)
@@ -90,6 +87,7 @@ flat-none p g f (x ∷ xs) h = rw (map-append g (f x) (flat (map f xs)), has-app
 
 -- a removal that is not refused
 pub record Allowed (c : Content) (n p : ℕ) : Type 0 where
+  pub own : sharesFace c n ≡ false
   pub some : 0 < length (endingWires c n p)
   pub few : length (endingWires c n p) ≤ 2
   pub match : (ltb (length (endingWires c n p)) 2 || matched c p (firstWire (endingWires c n p)) (lastWire (endingWires c n p))) ≡ true
@@ -108,7 +106,9 @@ remove-allowed c n p h =
     let j = joinFaults c (endUse c p (lastWire ws)) (nextUse c p (lastWire ws)) in
     let four : a ++ b ++ d ++ e ≡ [] = none-left (a ++ b ++ d ++ e) j h in
     let both : (some && few) ≡ true = unless-passes (some && few) NotOneOrTwoWires (none-right (a ++ b) d (none-left (a ++ b ++ d) e four)) in
+    let two = none-left (a ++ b) d (none-left (a ++ b ++ d) e four) in
     record {
+      own = not-true (sharesFace c n) (unless-passes (not (sharesFace c n)) SharedFace (none-right a b two));
       some = ltb-true 0 (length ws) (left-true some few both);
       few = leb-true (length ws) 2 (right-true some few both);
       match = unless-passes match Unmatched (none-right (a ++ b ++ d) e four);
@@ -250,15 +250,17 @@ module _ (c : Content) (ok : contentFaults c ≡ []) where
 
     new-begins : frontOf fronts′ backs′ edges ≡ frontIn c (endUse c p (lastWire ws))
     new-begins =
-        rw (map-append frontNumber (c .edges) (newEdge ∷ []), map-append backNumber (c .edges) (newEdge ∷ []))
-        (new-front fs bs (frontIn c (endUse c p (lastWire ws))) (backIn c (nextUse c p (lastWire ws))) edges
-        (length-map (c .edges) frontNumber) (length-map (c .edges) backNumber) (omega (arith, allowed .joins .room)))
+        (rw (map-append frontNumber (c .edges) (newEdge ∷ []), map-append backNumber (c .edges) (newEdge ∷ []))
+        (new-front fs bs (frontNumber newEdge) (backNumber newEdge) edges
+        (length-map (c .edges) frontNumber) (length-map (c .edges) backNumber) (omega (arith, allowed .joins .room))))
+        ∙ sym (front-is c (endUse c p (lastWire ws)))
 
     new-ends : backOf fronts′ backs′ edges ≡ backIn c (nextUse c p (lastWire ws))
     new-ends =
-        rw (map-append frontNumber (c .edges) (newEdge ∷ []), map-append backNumber (c .edges) (newEdge ∷ []))
-        (new-back fs bs (frontIn c (endUse c p (lastWire ws))) (backIn c (nextUse c p (lastWire ws))) edges
-        (length-map (c .edges) frontNumber) (length-map (c .edges) backNumber) (omega (arith, allowed .joins .room)))
+        (rw (map-append frontNumber (c .edges) (newEdge ∷ []), map-append backNumber (c .edges) (newEdge ∷ []))
+        (new-back fs bs (frontNumber newEdge) (backNumber newEdge) edges
+        (length-map (c .edges) frontNumber) (length-map (c .edges) backNumber) (omega (arith, allowed .joins .room))))
+        ∙ sym (back-is c (nextUse c p (lastWire ws)))
 
     -- the last wire takes the new edge
     abbrev pub lastChanged : List ℕ

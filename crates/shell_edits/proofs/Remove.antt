@@ -3,7 +3,7 @@ use Prim.Native.Nat.{_%_, _+_, _<_, _≤_, suc, zero, ℕ}
 use mathlib.Core.Bool.{Bool, false, not, true, true≢false}
 use mathlib.Core.List.{List, [], _++_, _∷_, map}
 use mathlib.Core.Logic.{⊎-elim}
-use mathlib.Core.Path.{_∙_, _≡_, ap, refl, sym}
+use mathlib.Core.Path.{_∙_, _≡_, refl, sym}
 use native.Mathlib.Omega.{arith}
 use lib.Dec.{eqb, leb}
 use lib.ListN.{getD, length, length-set, set}
@@ -14,7 +14,7 @@ use Rattle.edge.specs.Edges.{isSpan}
 use Rattle.edge.specs.Uses.{backOf, edgeNumber, frontOf}
 use Rattle.errors.proofs.Laws.{none-left, none-right, unless-passes}
 use Rattle.lists.proofs.Laws.{cases, eqb-sym}
-use Rattle.lists.specs.Lists.{has, pick, rotated, unless}
+use Rattle.lists.specs.Lists.{has, pick, unless}
 use Rattle.edge.specs.declared.Curve.{Curve}
 use Rattle.edit_answers.specs.declared.EditError.the-variants.{NoSpace, SameEnds, SpanRefused}
 use Rattle.errors.specs.Faults.{each}
@@ -22,12 +22,12 @@ use Rattle.pattern.proofs.Named.{point-named}
 use Rattle.pattern.specs.Checks.{edgeFaults, recordFaults}
 use Rattle.pattern.specs.Contents.{Content}
 use Rattle.shell.specs.Openings.{backIn, frontIn}
-use Rattle.shell_edits.specs.Edits.{eachWire, edgeOf, isJoined, joinFaults, joinedEdge, roomForEdges}
+use Rattle.shell_edits.specs.Edits.{eachWire, edgeOf, joinFaults, joinedEdge, roomForEdges}
+use Rattle.shell_edits.specs.NewEdges.{isJoined, useBack, useFront}
+use Rattle.shell_edits.proofs.Ends.{back-is, front-is}
 use Rattle.shell_edits.proofs.Wires.{each-long}
-use Rattle.wire.proofs.Laws.{getD-points}
-use Rattle.wire.specs.Wires.{closed, endFrom}
+use Rattle.wire.specs.Wires.{endFrom}
 use Rattle.wire.specs.declared.Found.the-variants.{At}
-use Rattle.shell_edits.proofs.Joining.{closed-ends, length-rotated, map-rotated}
 
 module _ (fs bs : List ℕ) where
   -- where a use ends at p, the place of the first such use
@@ -52,13 +52,6 @@ module _ (fs bs : List ℕ) where
       let n : eqb (backOf fs bs u) p ≡ false = eqb-sym (backOf fs bs u) p ∙ e in
       record { at = suc (r .at); found = rw (n, z) (r .found); inside = omega (arith, r .inside); ends = r .ends })
       (cases (eqb p (backOf fs bs u)))
-
-  -- on a closed wire the next use begins where the use ends
-  pub next-begins : (us : List ℕ) (k : ℕ) → closed fs bs us ≡ true → k < length us → frontOf fs bs (getD (rotated us) k 0) ≡ backOf fs bs (getD us k 0)
-  next-begins us k c h =
-      let all : map (backOf fs bs) us ≡ map (frontOf fs bs) (rotated us) = closed-ends fs bs us c ∙ sym (map-rotated (frontOf fs bs) us) in
-      sym (getD-points fs bs (rotated us) k (omega (arith, length-rotated us)))
-      ∙ ap (λ (ps : List ℕ). getD ps k 0) (sym all) ∙ getD-points bs fs us k h
 
   -- two uses of one edge, of which the first ends where the second begins, run opposite ways
   pub opposite : (a b : ℕ) → edgeNumber a ≡ edgeNumber b → eqb (frontOf fs bs a) (backOf fs bs a) ≡ false → backOf fs bs a ≡ frontOf fs bs b
@@ -131,15 +124,16 @@ whole-span a b h =
 
 pub join-allowed : (c : Content) (u v : ℕ) → joinFaults c u v ≡ [] → Joins c u v
 join-allowed c u v h =
-    let a = unless (not (eqb (frontIn c u) (backIn c v))) SameEnds in
+    let e = eqb (useFront (edgeOf c u) u .0) (useBack (edgeOf c v) v .0) in
+    let a = unless (not e) SameEnds in
     let b = unless (isJoined (joinCurves (edgeOf c u .curve) (edgeOf c v .curve))) SpanRefused in
-    let d = unless (roomForEdges c 1) NoSpace in
+    let d = unless (roomForEdges (length (c .edges) + 1)) NoSpace in
     let two : a ++ b ≡ [] = none-left (a ++ b) d h in
     record {
-      differ = not-true (eqb (frontIn c u) (backIn c v)) (unless-passes (not (eqb (frontIn c u) (backIn c v))) SameEnds (none-left a b two));
+      differ = rw (front-is c u, back-is c v) (not-true e (unless-passes (not e) SameEnds (none-left a b two)));
       span = whole-span (edgeOf c u .curve) (edgeOf c v .curve)
           (unless-passes (isJoined (joinCurves (edgeOf c u .curve) (edgeOf c v .curve))) SpanRefused (none-right a b two));
-      room = leb-true (length (c .edges) + 1) 1024 (unless-passes (roomForEdges c 1) NoSpace (none-right (a ++ b) d h));
+      room = leb-true (length (c .edges) + 1) 1024 (unless-passes (roomForEdges (length (c .edges) + 1)) NoSpace (none-right (a ++ b) d h));
     }
 
 -- a use of an edge ends at a point that is named, as it begins at one
@@ -161,4 +155,4 @@ pub join-fine : (c : Content) → recordFaults c ≡ [] → (u v : ℕ) → edge
     → each (edgeFaults (length (c .points))) (length (c .edges)) (joinedEdge c u v ∷ []) ≡ []
 unfolding each
 join-fine c ok u v hu hv j =
-    rw (lt-ltb (frontIn c u) (length (c .points)) (point-named c ok u hu), lt-ltb (backIn c v) (length (c .points)) (end-named c ok v hv), j .differ, j .span)
+    rw (← front-is c u, ← back-is c v, lt-ltb (frontIn c u) (length (c .points)) (point-named c ok u hu), lt-ltb (backIn c v) (length (c .points)) (end-named c ok v hv), j .differ, j .span)

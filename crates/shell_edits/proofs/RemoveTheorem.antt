@@ -1,28 +1,26 @@
 -- What holds of every removal of a point.
 use Prim.Native.Nat.{_+_, _<_, _≤_, ℕ}
 use mathlib.Core.Bool.{_&&_, _||_, false, not}
-use mathlib.Core.List.{List, [], _++_, _∷_, append-assoc, map}
-use mathlib.Core.Path.{_≡_, refl, sym}
+use mathlib.Core.List.{List, [], _++_, _∷_, map}
+use mathlib.Core.Path.{_≡_, refl}
 use native.Mathlib.Omega.{arith}
-use lib.Dec.{eqb, leb, ltb}
+use lib.Dec.{leb, ltb}
 use lib.ListN.{length, length-append, length-map}
-use Rattle.curve.specs.Curves.{joinCurves}
 use Rattle.edge.specs.declared.EdgeID.{EdgeID}
-use Rattle.edit_answers.specs.declared.EditError.{EditError}
-use Rattle.edit_answers.specs.declared.EditError.the-variants.{NoSpace, NotOneOrTwoWires, SameEnds, SharedFace, SpanRefused, Unmatched, Unnamed}
+use Rattle.edit_answers.specs.declared.EditError.the-variants.{NoSpace, NotOneOrTwoWires, SharedFace, Unmatched, Unnamed}
 use Rattle.edit_answers.specs.declared.JoinAnswer.the-variants.{Joined, Not}
-use Rattle.lists.proofs.Count.{All, all-append}
+use Rattle.lists.proofs.Count.{All}
 use Rattle.lists.specs.Lists.{has, unless}
 use Rattle.pattern.proofs.Counts.{Full}
 use Rattle.pattern.proofs.Passed.{pattern-passed}
 use Rattle.pattern.specs.Checks.{contentFaults, countFaults, patternFaults}
 use Rattle.pattern.specs.Contents.{Content, Pattern, content, countsOf}
-use Rattle.shell.specs.Openings.{backIn, frontIn}
+use Rattle.shell.specs.Openings.{backIn}
 use Rattle.shell_edits.proofs.Removal.{point-gone, remove-allowed, removal-accepted, uses-fewer, wires-many}
-use Rattle.shell_edits.proofs.Stored.{NotFull, after-accepted, after-full, edited-few, full-answered, given, no-space, unless-not-full, uses-few, wires-few}
+use Rattle.shell_edits.proofs.Stored.{NotFull, after-accepted, edited-few, given, join-no-space, more-not-full, unless-not-full, uses-few, wires-few}
 use Rattle.shell_edits.specs.Answers.{afterRemove, removeAnswer}
-use Rattle.shell_edits.specs.Edits.{edgeOf, endUse, endingWires, firstWire, isJoined, joinedEdge, lastWire, matched, nextUse, removeContent, removeFaults, removeWires, roomForEdges, sharesFace, usesIn}
-use Rattle.shell_edits.specs.RemoveTheorems.{Given, OnlyFull}
+use Rattle.shell_edits.specs.Edits.{endUse, endingWires, firstWire, joinedEdge, lastWire, matched, nearFaults, nextUse, removeContent, removeFaults, removeWires, sharesFace, usesIn}
+use Rattle.shell_edits.specs.Theorems.{Given, OnlyFull}
 
 -- an accepted content stays so
 pub remove-accepted : (c : Content) → contentFaults c ≡ [] → (n p : ℕ) → removeFaults c n p ≡ [] → contentFaults (removeContent c n p) ≡ []
@@ -51,8 +49,8 @@ module _ (p : Pattern) (full : Full p) (n v : ℕ) where
   abbrev w : ℕ
   w = nextUse c v (lastWire ws)
 
-  few : patternFaults p ≡ [] → removeFaults c n v ≡ [] → countFaults (countsOf (removeContent c n v)) ≡ []
-  few ok h =
+  pub remove-few : patternFaults p ≡ [] → removeFaults c n v ≡ [] → countFaults (countsOf (removeContent c n v)) ≡ []
+  remove-few ok h =
       let fine = pattern-passed p ok .content in
       let wires = removeWires c n v in
       edited-few p full (joinedEdge c u w ∷ []) (removeContent c n v .uses) (map length wires)
@@ -63,44 +61,23 @@ module _ (p : Pattern) (full : Full p) (n v : ℕ) where
   pub remove-pattern-accepted : patternFaults p ≡ [] → patternFaults (afterRemove p n v) ≡ []
   remove-pattern-accepted ok =
       after-accepted p full ok (removeContent c n v) (removeFaults c n v)
-      (λ h. (few ok h, remove-accepted c (pattern-passed p ok .content) n v h))
+      (λ h. (remove-few ok h, remove-accepted c (pattern-passed p ok .content) n v h))
 
-  pub remove-full : patternFaults p ≡ [] → Full (afterRemove p n v)
-  remove-full ok = after-full p full ok (removeContent c n v) (removeFaults c n v) (few ok)
-
-  -- the refusals: all but 17, then 17
-  abbrev before : List EditError
-  before =
-      unless (ltb n (length (c .shells)) && ltb v (length (c .points))) Unnamed
-      ++ unless (not (sharesFace c n)) SharedFace
-      ++ unless (ltb 0 (length ws) && leb (length ws) 2) NotOneOrTwoWires
-      ++ unless (ltb (length ws) 2 || matched c v (firstWire ws) (lastWire ws)) Unmatched
-
-  abbrev joining : List EditError
-  joining = unless (not (eqb (frontIn c u) (backIn c w))) SameEnds ++ unless (isJoined (joinCurves (edgeOf c u .curve) (edgeOf c w .curve))) SpanRefused
-
-  rows : removeFaults c n v ≡ (before ++ joining) ++ unless (roomForEdges c 1) NoSpace
-  rows = sym (append-assoc before joining (unless (roomForEdges c 1) NoSpace))
-
-  not-full : All NotFull (before ++ joining)
-  not-full =
-      let a = ltb n (length (c .shells)) && ltb v (length (c .points)) in
-      let b = not (sharesFace c n) in
-      let d = ltb 0 (length ws) && leb (length ws) 2 in
-      let e = ltb (length ws) 2 || matched c v (firstWire ws) (lastWire ws) in
-      let f = not (eqb (frontIn c u) (backIn c w)) in
-      let g = isJoined (joinCurves (edgeOf c u .curve) (edgeOf c w .curve)) in
-      all-append NotFull before joining
-      (all-append NotFull (unless a Unnamed ++ unless b SharedFace ++ unless d NotOneOrTwoWires) (unless e Unmatched)
-      (all-append NotFull (unless a Unnamed ++ unless b SharedFace) (unless d NotOneOrTwoWires)
-      (all-append NotFull (unless a Unnamed) (unless b SharedFace) (unless-not-full a Unnamed refl) (unless-not-full b SharedFace refl))
-      (unless-not-full d NotOneOrTwoWires refl)) (unless-not-full e Unmatched refl))
-      (all-append NotFull (unless f SameEnds) (unless g SpanRefused) (unless-not-full f SameEnds refl) (unless-not-full g SpanRefused refl))
+  near-not-full : All NotFull (nearFaults c n v)
+  near-not-full =
+      let a = unless (ltb n (length (c .shells)) && ltb v (length (c .points))) Unnamed in
+      let b = unless (not (sharesFace c n)) SharedFace in
+      let some = ltb 0 (length ws) && leb (length ws) 2 in
+      let match = ltb (length ws) 2 || matched c v (firstWire ws) (lastWire ws) in
+      more-not-full (a ++ b ++ unless some NotOneOrTwoWires) match Unmatched
+      (more-not-full (a ++ b) some NotOneOrTwoWires
+      (more-not-full a (not (sharesFace c n)) SharedFace
+      (unless-not-full (ltb n (length (c .shells)) && ltb v (length (c .points))) Unnamed refl) refl) refl) refl
 
   -- 17 is answered exactly if nothing else is wrong and the edges are full
   pub remove-no-space : (removeAnswer p n v ≡ Not NoSpace → OnlyFull p (removeFaults c n v)) × (OnlyFull p (removeFaults c n v) → removeAnswer p n v ≡ Not NoSpace)
-  remove-no-space = rw rows (no-space p full (before ++ joining) not-full, full-answered p full (before ++ joining) not-full)
+  remove-no-space = join-no-space p full (nearFaults c n v) near-not-full u w
 
   -- the number given is that of the new edge, and the old ones stand as they stood
   pub remove-numbers : (a : EdgeID) → removeAnswer p n v ≡ Joined a → Given p (afterRemove p n v) a (joinedEdge c u w)
-  remove-numbers a h = given p full (removeFaults c n v) (joinedEdge c u w) (removeContent c n v .uses) (removeContent c n v .wires) a few h
+  remove-numbers a h = given p full (removeFaults c n v) (joinedEdge c u w) (removeContent c n v .uses) (removeContent c n v .wires) a remove-few h

@@ -1,30 +1,32 @@
 -- An edit of a pattern in storage, refused or not; the answers of edits that make one edge.
-use Prim.Native.Nat.{_+_, _<_, _≤_, ℕ}
+use Prim.Native.Nat.{_+_, _≤_, ℕ}
 use mathlib.Core.Bool.{Bool, false, not, true, true≢false}
-use mathlib.Core.List.{List, [], _++_, _∷_, append-nil}
+use mathlib.Core.List.{List, [], _++_, _∷_, append-assoc, append-nil}
 use mathlib.Core.Path.{_∙_, _≡_, ap, refl, sym}
 use native.Mathlib.Omega.{arith}
 use lib.Dec.{eqb}
-use lib.ListN.{getD, length, length-append, length-take, take}
+use lib.ListN.{getD, length, length-take, take}
 use borrow.Author.Tests.{le-leb, leb-false, lt-leb}
+use Rattle.curve.specs.Curves.{joinCurves}
 use Rattle.edge.specs.declared.Edge.{Edge}
 use Rattle.edge.specs.declared.EdgeID.{EdgeID}
 use Rattle.edit_answers.specs.Answers.{editNumber, judged}
 use Rattle.edit_answers.specs.declared.EditError.{EditError}
-use Rattle.edit_answers.specs.declared.EditError.the-variants.{NoSpace}
+use Rattle.edit_answers.specs.declared.EditError.the-variants.{NoSpace, SameEnds, SpanRefused}
 use Rattle.edit_answers.specs.declared.JoinAnswer.the-variants.{Joined, Not, Refused}
 use Rattle.errors.specs.Faults.{each}
 use Rattle.errors.specs.declared.Refusal.{Refusal}
-use Rattle.lists.proofs.Count.{All}
+use Rattle.lists.proofs.Count.{All, all-append}
 use Rattle.lists.proofs.Parts.{only-append}
 use Rattle.lists.specs.Lists.{only, unless}
 use Rattle.pattern.proofs.Counts.{Full}
 use Rattle.pattern.specs.Checks.{contentFaults, countFaults, patternFaults}
 use Rattle.pattern.specs.Contents.{Content, Pattern, content, countsOf}
 use Rattle.shell_edits.specs.Answers.{joinAnswer, nextEdge, patternAfter}
-use Rattle.shell_edits.specs.Edits.{edited, roomForEdges}
-use Rattle.shell_edits.specs.RemoveTheorems.{Given, OnlyFull, others}
-use Rattle.pattern.proofs.Stored.{stored-accepted, stored-content, stored-full}
+use Rattle.shell_edits.specs.Edits.{edgeOf, edited, joinFaults, roomForEdges}
+use Rattle.shell_edits.specs.NewEdges.{isJoined, useBack, useFront}
+use Rattle.shell_edits.specs.Theorems.{Given, OnlyFull, others}
+use Rattle.pattern.proofs.Stored.{stored-accepted, stored-content}
 
 -- counts within the limits
 seven : (a b c d e f g : ℕ) → a ≤ 2048 → b ≤ 1024 → c ≤ 4096 → d ≤ 1024 → e ≤ 256 → f ≤ 16 → g ≤ 512 → countFaults (a ∷ b ∷ c ∷ d ∷ e ∷ f ∷ g ∷ []) ≡ []
@@ -59,10 +61,6 @@ module _ (p : Pattern) (full : Full p) where
     after-accepted [] h = rw ok (stored-accepted p full c (h refl .0) (h refl .1))
     after-accepted (e ∷ es) h = rw ok ok
 
-    pub after-full : (es : List EditError) → (es ≡ [] → countFaults (countsOf c) ≡ []) → Full (patternAfter p es c)
-    after-full [] h = rw ok (stored-full p full c (h refl))
-    after-full (e ∷ es) h = rw ok full
-
 joined-only : (fs : List Refusal) (es : List EditError) (a b : EdgeID) → judged fs es Refused Not (Joined a) ≡ Joined b → (fs ≡ []) × (es ≡ []) × (a ≡ b)
 joined-only [] [] a b h = (refl, refl, cc)
 joined-only [] (e ∷ es) a b h = (refl, cc, cc)
@@ -78,12 +76,6 @@ given p full es e uses wires a few h =
       ap (λ (b : EdgeID). b .0) (sym (t .2)) ∙ omega arith,
       rw (t .0, t .1) (ap (λ (d : Content). d .edges) (stored-content p full c (few (t .0) (t .1)))),
     )
-
--- a number given later is above it
-pub given-later : (p q : Pattern) (a b : EdgeID) (e : Edge) (es : List EditError) → Given p q a e → joinAnswer q es ≡ Joined b → a .0 < b .0
-given-later p q a b e es g h =
-    let next : length (content q .edges) + 0 ≡ b .0 = ap (λ (d : EdgeID). d .0) (joined-only (patternFaults q) es (nextEdge q 0) b h .2) in
-    omega (arith, next, g .0, ap length (g .1), length-append (content p .edges) (e ∷ []))
 
 -- ---- 17
 
@@ -118,9 +110,12 @@ first-full (e ∷ es) b h t =
     let f : false ≡ true = rw z at (h .0) in
     absurd (true≢false (sym f))
 
+pub more-not-full : (es : List EditError) (b : Bool) (e : EditError) → All NotFull es → NotFull e → All NotFull (es ++ unless b e)
+more-not-full es b e h n = all-append NotFull es (unless b e) h (unless-not-full b e n)
+
 module _ (p : Pattern) (full : Full p) (es : List EditError) (h : All NotFull es) where
   abbrev room : Bool
-  room = roomForEdges (content p) 1
+  room = roomForEdges (length (content p .edges) + 1)
 
   abbrev all : List EditError
   all = es ++ unless room NoSpace
@@ -129,15 +124,37 @@ module _ (p : Pattern) (full : Full p) (es : List EditError) (h : All NotFull es
   apart = only-append (λ (e : EditError). not (eqb (editNumber e) 17)) es (unless room NoSpace) ∙ rw (others-all es h, no-others room) (append-nil es)
 
   -- 17 is answered only if nothing else is wrong and the edges are full
-  pub no-space : joinAnswer p all ≡ Not NoSpace → OnlyFull p all
+  no-space : joinAnswer p all ≡ Not NoSpace → OnlyFull p all
   no-space a =
       let t = not-only (patternFaults p) all (nextEdge p 0) a in
       let s = first-full es room h (t .1) in
-      (t .0, apart ∙ s .0, omega (arith, leb-false (length (content p .edges) + 1) 1024 (s .1), edges-few p full))
+      let many : length (content p .edges) ≡ 1024 = omega (arith, leb-false (length (content p .edges) + 1) 1024 (s .1), edges-few p full) in
+      (t .0, apart ∙ s .0, many)
 
   -- and then it is
-  pub full-answered : OnlyFull p all → joinAnswer p all ≡ Not NoSpace
+  full-answered : OnlyFull p all → joinAnswer p all ≡ Not NoSpace
   full-answered t =
       let none : es ≡ [] = sym apart ∙ t .1 in
-      let closed : room ≡ false = lt-leb (length (content p .edges) + 1) 1024 (omega (arith, t .2)) in
+      let many : length (content p .edges) ≡ 1024 = t .2 in
+      let closed : room ≡ false = lt-leb (length (content p .edges) + 1) 1024 (omega (arith, many)) in
       rw (t .0, none, closed)
+
+-- other refusals, then those of a join
+module _ (p : Pattern) (full : Full p) (es : List EditError) (h : All NotFull es) (u v : ℕ) where
+  abbrev c : Content
+  c = content p
+
+  abbrev ends : List EditError
+  ends =
+      unless (not (eqb (useFront (edgeOf c u) u .0) (useBack (edgeOf c v) v .0))) SameEnds
+      ++ unless (isJoined (joinCurves (edgeOf c u .curve) (edgeOf c v .curve))) SpanRefused
+
+  ends-not-full : All NotFull ends
+  ends-not-full =
+      let same = eqb (useFront (edgeOf c u) u .0) (useBack (edgeOf c v) v .0) in
+      more-not-full (unless (not same) SameEnds) (isJoined (joinCurves (edgeOf c u .curve) (edgeOf c v .curve))) SpanRefused (unless-not-full (not same) SameEnds refl) refl
+
+  pub join-no-space : (joinAnswer p (es ++ joinFaults c u v) ≡ Not NoSpace → OnlyFull p (es ++ joinFaults c u v)) × (OnlyFull p (es ++ joinFaults c u v) → joinAnswer p (es ++ joinFaults c u v) ≡ Not NoSpace)
+  join-no-space =
+      let both = all-append NotFull es ends h ends-not-full in
+      rw (← append-assoc es ends (unless (roomForEdges (length (c .edges) + 1)) NoSpace)) (no-space p full (es ++ ends) both, full-answered p full (es ++ ends) both)

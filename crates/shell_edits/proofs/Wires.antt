@@ -1,5 +1,5 @@
 -- Laws of the wires of a shell: each changed by its number; the wires of a face are all listed or none.
-use Prim.Native.Nat.{_+_, _<_, _≤_, suc, zero, ℕ}
+use Prim.Native.Nat.{_+_, _-_, _<_, _≤_, suc, zero, ℕ}
 use mathlib.Core.Bool.{Bool, _||_, false, or-true, true, true≢false}
 use mathlib.Core.List.{List, [], _∷_, map, map-append}
 use mathlib.Core.Logic.{⊎-elim}
@@ -9,11 +9,11 @@ use native.Mathlib.Omega.{arith}
 use lib.Dec.{eqb, ltb}
 use lib.ListN.{List·getD-map, drop, getD, length, length-append, length-drop, length-take, take}
 use lib.Seq.{getD-drop, getD-take, take-take}
-use borrow.Author.Tests.{eq-eqb, eqb-true, lt-ltb, ltb-false, ltb-true}
+use borrow.Author.Tests.{eq-eqb, eqb-false, eqb-true, lt-ltb, ltb-false, ltb-true}
 use Rattle.lists.proofs.Count.{All, all-weaker, bit, count-append}
 use Rattle.lists.proofs.Flat.{getD-tabulate}
 use Rattle.lists.proofs.Laws.{cases, flat-append, has-append, length-tabulate, map-tabulate, map-take, sum-next, sum-take-drop, tabulate-getD}
-use Rattle.lists.proofs.Parts.{map-drop}
+use Rattle.lists.proofs.Parts.{map-drop, map-same}
 use Rattle.lists.proofs.Split.{getD-split}
 use Rattle.lists.specs.Lists.{count, flat, has, numbers, only, pick, split, sum}
 use Rattle.shell.specs.Shells.{faceNumber}
@@ -114,6 +114,13 @@ same-face counts m f g k h w =
     (cases (ltb g f)))
     (cases (ltb f g))
 
+one-face : (counts : List ℕ) (m f g w : ℕ) → has w (getD (split counts (numbers m)) f []) ≡ true → has w (getD (split counts (numbers m)) g []) ≡ true → g ≡ f
+one-face counts m f g w a b =
+    let s = sum (take f counts) in
+    let r = has-run w (getD counts f 0) s m (rw (getD-split counts (numbers m) f) at a) in
+    let z : s + (w - s) ≡ w = omega (arith, r .0) in
+    same-face counts m f g (w - s) (omega (arith, r .0, r .1)) (rw z b)
+
 -- what every listing has, the listing that has a wire has
 listed-by : (P : ℕ → Type 0) (X : Type 0) (x : ℕ) (g : ℕ → List ℕ) → ((l : ℕ) → P l → has x (g l) ≡ true → X) → (ls : List ℕ) → All P ls → has x (flat (map g ls)) ≡ true → X
 unfolding flat has
@@ -123,6 +130,34 @@ listed-by P X x g k (l ∷ ls) a h =
     (λ (e : has x (g l) ≡ true). k l (a .0) e)
     (λ (e : has x (g l) ≡ false). let rest : has x (flat (map g ls)) ≡ true = rw (has-append x (g l) (flat (map g ls)), e) at h in listed-by P X x g k ls (a .1) rest)
     (cases (has x (g l)))
+
+-- a wire of a face that is not listed is not listed
+pub unlisted : (counts : List ℕ) (m f : ℕ) (ls : List ℕ) → has f (map faceNumber ls) ≡ false → (w : ℕ) → has w (getD (split counts (numbers m)) f []) ≡ true
+    → has w (listedWires counts m ls) ≡ false
+unfolding listedWires has
+unlisted counts m f ls none w h =
+    let block : ℕ → List ℕ = λ (l : ℕ). getD (split counts (numbers m)) (faceNumber l) [] in
+    ⊎-elim
+    (λ (e : has w (flat (map block ls)) ≡ true).
+    absurd (listed-by (λ (l : ℕ). faceNumber l ≡ f → ⊥) ⊥ w block (λ l out o. out (one-face counts m f (faceNumber l) w h o)) ls (others f ls none) e))
+    (λ (e : has w (flat (map block ls)) ≡ false). e)
+    (cases (has w (flat (map block ls))))
+  where
+    others : (f : ℕ) (ls : List ℕ) → has f (map faceNumber ls) ≡ false → All (λ (l : ℕ). faceNumber l ≡ f → ⊥) ls
+    others f [] h = tt
+    others f (l ∷ ls) h =
+        ⊎-elim
+        (λ (e : eqb f (faceNumber l) ≡ true). absurd (true≢false (rw e at h)))
+        (λ (e : eqb f (faceNumber l) ≡ false). (λ z. eqb-false f (faceNumber l) e (sym z), others f ls (rw e at h)))
+        (cases (eqb f (faceNumber l)))
+
+-- a face whose wires are the same
+pub face-same : (counts : List ℕ) (ws ws′ : List (List ℕ)) (f : ℕ) → length ws′ ≡ length ws
+    → All (λ (w : ℕ). getD ws′ w [] ≡ getD ws w []) (getD (split counts (numbers (length ws))) f []) → getD (split counts ws′) f [] ≡ getD (split counts ws) f []
+face-same counts ws ws′ f e h =
+    let block = getD (split counts (numbers (length ws))) f [] in
+    let then : map (λ (w : ℕ). getD ws′ w []) block ≡ getD (split counts ws′) f [] = rw e at (face-by-numbers counts ws′ f) in
+    sym then ∙ map-same (λ (w : ℕ). getD ws′ w []) (λ (w : ℕ). getD ws w []) block h ∙ face-by-numbers counts ws f
 
 none-each : (q : ℕ → Bool) (g : ℕ → List (List ℕ)) (ls : List ℕ) → count q (flat (flat (map g ls))) ≡ 0 → All (λ (l : ℕ). count q (flat (g l)) ≡ 0) ls
 unfolding flat

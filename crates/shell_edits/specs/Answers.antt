@@ -2,7 +2,6 @@
 use Prim.Native.Nat.{ℕ, _+_}
 use mathlib.Core.List.{List}
 use lib.ListN.{length}
-use lib.Seq.{sets}
 use Rattle.curve.specs.declared.Parameter.{Parameter}
 use Rattle.edge.specs.declared.EdgeID.{EdgeID}
 use Rattle.edit_answers.specs.Answers.{judged}
@@ -13,7 +12,7 @@ use Rattle.edit_answers.specs.declared.JoinAnswer.{JoinAnswer}
 use Rattle.edit_answers.specs.declared.JoinAnswer.the-variants.{Joined, Not as Join·Not, Refused as Join·Refused}
 use Rattle.errors.specs.declared.Refusal.{Refusal}
 use Rattle.pattern.specs.Checks.{patternFaults}
-use Rattle.pattern.specs.Contents.{Content, Pattern, content, countsOf, storedIn}
+use Rattle.pattern.specs.Contents.{Content, Pattern, content, storedIn}
 use Rattle.shell_edits.specs.Edits.{concatContent, concatFaults, cutContent, cutFaults, removeContent, removeFaults}
 
 -- the pattern after an edit with these refusals, if any

@@ -1,27 +1,25 @@
 -- The edits of a shell: cut (cut_edge), remove a point (remove_vertex_by_concat_edges), concat. A pattern is edited as its content.
 use Prim.Native.Nat.{ℕ, suc, _+_, _-_}
-use mathlib.Core.Bool.{Bool, true, false, not, _&&_, _||_}
+use mathlib.Core.Bool.{Bool, not, _&&_, _||_}
 use mathlib.Core.List.{List, [], _∷_, _++_, map}
 use lib.Dec.{eqb, leb, ltb}
 use lib.ListN.{drop, getD, length, take}
 use Rattle.lists.specs.Lists.{disjoint, flat, has, numbers, only, pick, rotated, split, unless}
-use Rattle.edge.specs.Edges.{backNumber, edge, frontNumber}
+use Rattle.edge.specs.Edges.{backNumber, frontNumber}
 use Rattle.edge.specs.Uses.{edgeNumber, turned}
 use Rattle.edge.specs.declared.Edge.{Edge}
-use Rattle.curve.specs.Curves.{cutCurve, joinCurves, joinedSpan}
+use Rattle.curve.specs.Curves.{cutCurve, joinCurves}
 use Rattle.curve.specs.declared.Halves.{Halves}
-use Rattle.curve.specs.declared.Halves.the-variants.{Both, Refused}
-use Rattle.curve.specs.declared.Joined.{Joined}
-use Rattle.curve.specs.declared.Joined.the-variants.{Whole, Refused as NotJoined}
 use Rattle.curve.specs.declared.Parameter.{Parameter}
-use Rattle.wire.specs.Wires.{endFrom, findFrom}
+use Rattle.wire.specs.Wires.{endFrom, findFrom, foundReply}
 use Rattle.wire_swaps.specs.Swaps.{swapEdge, swapSubwire}
 use Rattle.wire.specs.declared.Found.{Found}
 use Rattle.wire.specs.declared.Found.the-variants.{At, Nothing}
 use Rattle.face.specs.Faces.{wireCount}
-use Rattle.pattern.specs.Contents.{Content, layout, zeroEdge}
+use Rattle.pattern.specs.Contents.{Content, limit, zeroEdge}
 use Rattle.shell.specs.Openings.{backIn, frontIn}
 use Rattle.shell.specs.Shells.{faceNumber, listingsOf}
+use Rattle.shell_edits.specs.NewEdges.{halfEdges, isCut, isJoined, joinedEnds, useBack, useFront}
 use Rattle.edit_answers.specs.declared.EditError.{EditError}
 use Rattle.edit_answers.specs.declared.EditError.the-variants.{CurveRefuses, Disconnected, EdgeNotInShell, NoSpace, NotOneOrTwoWires, SameEnds, SharedFace, SpanRefused, Unmatched, Unnamed, VertexInShell}
 
@@ -71,12 +69,12 @@ edited c edges uses wires = record {
   listings = c .listings;
 }
 
--- so many more edges, or so many uses in all, do not pass their limits
-abbrev pub roomForEdges : Content → ℕ → Bool
-roomForEdges c k = leb (length (c .edges) + k) (getD (layout .limits) 1 0)
+-- so many edges, or so many uses, do not pass their limits
+abbrev pub roomForEdges : ℕ → Bool
+roomForEdges k = leb k (limit 1)
 
 abbrev pub roomForUses : ℕ → Bool
-roomForUses k = leb k (getD (layout .limits) 2 0)
+roomForUses k = leb k (limit 2)
 
 abbrev pub edgeAt : Content → ℕ → Edge
 edgeAt c e = getD (c .edges) e zeroEdge
@@ -99,24 +97,21 @@ cutWire e a us = swapFound a us (findFrom 0 e us)
 abbrev pub cutWires : Content → ℕ → ℕ → List (List ℕ)
 cutWires c n e = eachWire (λ (w : ℕ) (us : List ℕ). pick (has w (wiresOf c n)) (cutWire e (length (c .edges)) us) us) 0 (wiresIn c)
 
--- the two new edges
-abbrev pub halfEdges : Edge → ℕ → Halves → List Edge
-halfEdges d p Refused = []
-halfEdges d p (Both k l) = edge (d .front) (record { 0 = p }) k ∷ edge (record { 0 = p }) (d .back) l ∷ []
-
-abbrev pub isCut : Halves → Bool
-isCut Refused = false
-isCut (Both k l) = true
+-- 27, 14, 15, 16, 17: a face is shared, the point is in the shell, the edge is, what its curve gives, how many edges and uses there are then
+abbrev pub laterFaults : Bool → Bool → Bool → Halves → ℕ → ℕ → List EditError
+laterFaults shared met there halves edges uses =
+    unless (not shared) SharedFace
+    ++ unless (not met) VertexInShell
+    ++ unless there EdgeNotInShell
+    ++ unless (isCut halves) CurveRefuses
+    ++ unless (roomForEdges edges && roomForUses uses) NoSpace
 
 -- 3, 27, 14, 15, 16, 17
 abbrev pub cutFaults : Content → ℕ → ℕ → ℕ → Parameter → List EditError
 cutFaults c n e p at =
     unless (ltb n (length (c .shells)) && ltb e (length (c .edges)) && ltb p (length (c .points))) Unnamed
-    ++ unless (not (sharesFace c n)) SharedFace
-    ++ unless (not (has p (map (frontIn c) (usesIn c n)))) VertexInShell
-    ++ unless (has e (map edgeNumber (usesIn c n))) EdgeNotInShell
-    ++ unless (isCut (cutCurve (edgeAt c e .curve) at)) CurveRefuses
-    ++ unless (roomForEdges c 2 && roomForUses (length (flat (cutWires c n e)))) NoSpace
+    ++ laterFaults (sharesFace c n) (has p (map (frontIn c) (usesIn c n))) (has e (map edgeNumber (usesIn c n))) (cutCurve (edgeAt c e .curve) at)
+    (length (c .edges) + 2) (length (flat (cutWires c n e)))
 
 abbrev pub cutContent : Content → ℕ → ℕ → ℕ → Parameter → Content
 cutContent c n e p at = edited c (halfEdges (edgeAt c e) p (cutCurve (edgeAt c e .curve) at)) (flat (cutWires c n e)) (map length (cutWires c n e))
@@ -129,25 +124,24 @@ edgeOf c u = edgeAt c (edgeNumber u)
 
 -- from the first use's front to the second's back
 abbrev pub joinedEdge : Content → ℕ → ℕ → Edge
-joinedEdge c u v = edge (record { 0 = frontIn c u }) (record { 0 = backIn c v }) (joinedSpan (edgeOf c u .curve) (edgeOf c v .curve))
+joinedEdge c u v = joinedEnds (edgeOf c u) u (edgeOf c v) v
 
-abbrev pub isJoined : Joined → Bool
-isJoined NotJoined = false
-isJoined (Whole k) = true
+-- 25, 26, 17, of use u of edge a and use v of edge b, where there are so many edges
+abbrev pub endFaults : Edge → ℕ → Edge → ℕ → ℕ → List EditError
+endFaults a u b v edges =
+    unless (not (eqb (useFront a u .0) (useBack b v .0))) SameEnds
+    ++ unless (isJoined (joinCurves (a .curve) (b .curve))) SpanRefused
+    ++ unless (roomForEdges (edges + 1)) NoSpace
 
--- 25, 26, 17
-abbrev pub joinFaults : Content → ℕ → ℕ → List EditError
-joinFaults c u v =
-    unless (not (eqb (frontIn c u) (backIn c v))) SameEnds
-    ++ unless (isJoined (joinCurves (edgeOf c u .curve) (edgeOf c v .curve))) SpanRefused
-    ++ unless (roomForEdges c 1) NoSpace
+-- 29, 25, 26, 17
+abbrev pub meetFaults : Edge → ℕ → Edge → ℕ → ℕ → List EditError
+meetFaults a u b v edges = unless (eqb (useBack a u .0) (useFront b v .0)) Disconnected ++ endFaults a u b v edges
 
 -- 3, 29, 25, 26, 17
 abbrev pub concatFaults : Content → ℕ → ℕ → List EditError
 concatFaults c u v =
     unless (ltb (edgeNumber u) (length (c .edges)) && ltb (edgeNumber v) (length (c .edges))) Unnamed
-    ++ unless (eqb (backIn c u) (frontIn c v)) Disconnected
-    ++ joinFaults c u v
+    ++ meetFaults (edgeOf c u) u (edgeOf c v) v (length (c .edges))
 
 -- the edge is appended, and nothing else changes
 abbrev pub concatContent : Content → ℕ → ℕ → Content
@@ -161,8 +155,7 @@ endingWires c n p = only (λ (w : ℕ). has p (map (backIn c) (outline c w))) (w
 
 -- the place of the first such use
 abbrev pub placeIn : Found → ℕ
-placeIn Nothing = 0
-placeIn (At i) = i
+placeIn f = getD (foundReply f .values) 0 0
 
 abbrev pub endPlace : Content → ℕ → List ℕ → ℕ
 endPlace c p us = placeIn (endFrom (map frontNumber (c .edges)) (map backNumber (c .edges)) 0 p us)
@@ -185,15 +178,24 @@ lastWire ws = getD ws (length ws - 1) 0
 abbrev pub matched : Content → ℕ → ℕ → ℕ → Bool
 matched c p v w = eqb (edgeNumber (endUse c p v)) (edgeNumber (nextUse c p w)) && eqb (edgeNumber (endUse c p w)) (edgeNumber (nextUse c p v))
 
--- 3, 27, 23, 24, 25, 26, 17
-abbrev pub removeFaults : Content → ℕ → ℕ → List EditError
-removeFaults c n p =
+-- 3, 27, 23, 24
+abbrev pub nearFaults : Content → ℕ → ℕ → List EditError
+nearFaults c n p =
     let ws = endingWires c n p in
     unless (ltb n (length (c .shells)) && ltb p (length (c .points))) Unnamed
     ++ unless (not (sharesFace c n)) SharedFace
     ++ unless (ltb 0 (length ws) && leb (length ws) 2) NotOneOrTwoWires
     ++ unless (ltb (length ws) 2 || matched c p (firstWire ws) (lastWire ws)) Unmatched
-    ++ joinFaults c (endUse c p (lastWire ws)) (nextUse c p (lastWire ws))
+
+-- 25, 26, 17, of two uses
+abbrev pub joinFaults : Content → ℕ → ℕ → List EditError
+joinFaults c u v = endFaults (edgeOf c u) u (edgeOf c v) v (length (c .edges))
+
+-- 3, 27, 23, 24, 25, 26, 17
+abbrev pub removeFaults : Content → ℕ → ℕ → List EditError
+removeFaults c n p =
+    let w = lastWire (endingWires c n p) in
+    nearFaults c n p ++ joinFaults c (endUse c p w) (nextUse c p w)
 
 -- the new edge runs as in the last such wire; the other wire takes it turned
 abbrev pub removeWires : Content → ℕ → ℕ → List (List ℕ)

@@ -1,4 +1,6 @@
+pub mod NewEdges
 pub mod Edits
 pub mod Answers
 pub mod Theorems
-pub mod RemoveTheorems
+pub mod Keeps
+pub mod Sequences

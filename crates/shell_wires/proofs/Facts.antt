@@ -21,7 +21,7 @@ use Rattle.shell.specs.Openings.{frontIn}
 use Rattle.shell.specs.Shells.{faceNumber}
 use Rattle.shell_edits.proofs.Storage.{seven-are, sets-after, sets-own}
 use Rattle.shell_edits.specs.Edits.{edited}
-use Rattle.wire.specs.Wires.{Named}
+use Rattle.wire.specs.Named.{Named}
 
 -- the ends of a use of one of the first n edges
 pub front-taken : (fronts backs : List ℕ) (n u : ℕ) → edgeNumber u < n → frontOf (take n fronts) (take n backs) u ≡ frontOf fronts backs u

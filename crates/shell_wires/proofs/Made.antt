@@ -20,7 +20,7 @@ use Rattle.shell_wires.proofs.Laws.{flagsOf, listed-flags, lists-shared
 use Rattle.shell_wires.specs.Flags.{NameFaces, listsFlagged, wireFlags}
 use Rattle.shell_wires.specs.Lent.{Lent, Listed}
 use Rattle.shell_wires.specs.ShellWires.{marksOf}
-use Rattle.wire.specs.Wires.{Named}
+use Rattle.wire.specs.Named.{Named}
 
 names-append : (xs ys : List ℕ) → NameFaces xs → NameFaces ys → NameFaces (xs ++ ys)
 names-append [] ys h g k l = g k l

@@ -3,7 +3,7 @@
 ghost use mathlib.Core.Path.{_≡_};
 ghost use mathlib.Core.Bool.{false};
 ghost use mathlib.Core.List.{map, _++_};
-ghost use Prim.Native.Nat.{_+_, _-_, _<_, _≤_, ℕ};
+ghost use Prim.Native.Nat.{_+_, _<_, _≤_, ℕ};
 ghost use lib.ListN.{drop, getD, length, replicate, take};
 ghost use lib.Seq.{sets};
 ghost use Rattle.lists.specs.Lists.{has, padded, sum, tabulate};
@@ -34,15 +34,6 @@ fn face_flags(listings: &[u16]) -> [bool; 256]
         k += 1;
     }
     out
-}
-
-// A flag for each face that is listed from `first` to `end`.
-fn flags_between(listings: &[u16], first: usize, end: usize) -> [bool; 256]
-    requires { ⌜ (first ≤ end) × (end ≤ length (now listings)) ⌝ }
-    requires { ⌜ NameFaces (take (end - first) (drop first (now listings))) ⌝ }
-    ensures { λ r. ⌜ r ≡ tabulate 256 (λ (f : ℕ). has f (map faceNumber (take (end - first) (drop first (now (listings .entry)))))) ⌝ }
-{
-    face_flags(&listings[first..end])
 }
 
 // Whether a face with a flag is listed.
@@ -117,7 +108,7 @@ pub fn mark_wires<'a>(
 {
     let first = sum_of(shells, n);
     let end = first + index(shells[n]);
-    let flags = flags_between(listings, first, end);
+    let flags = face_flags(&listings[first..end]);
     let shared = lists_outside(listings, counts[6], first, end, &flags);
     let wires = wire_flags(&flags, faces, counts[4]);
     Marks { shared, wires }

@@ -3,11 +3,11 @@ use Prim.Native.Nat.{_*_, _+_, _-_, _<_, _≤_, ℕ}
 use mathlib.Core.Bool.{false, true}
 use mathlib.Core.List.{List, [], _++_, _∷_, map}
 use mathlib.Core.Logic.{⊎-elim}
-use mathlib.Core.Path.{_∙_, _≡_, refl, sym}
+use mathlib.Core.Path.{_∙_, _≡_, sym}
 use native.Mathlib.Numerals.{add-one}
 use native.Mathlib.Omega.{arith}
 use lib.Dec.{leb}
-use lib.ListN.{List·getD-append, drop, getD, length, length-append, length-drop, length-map, length-take, take}
+use lib.ListN.{List·getD-append, drop, getD, length, length-drop, length-map, length-take, take}
 use lib.Seq.{getD-append-seam, getD-drop, getD-take}
 use Rattle.edge.specs.Uses.{edgeNumber}
 use Rattle.groups.proofs.All.{Joins, Pairs, column-at, joins-end, joins-next}
@@ -19,6 +19,7 @@ use Rattle.lists.proofs.Parts.{all-place}
 use Rattle.lists.proofs.Count.{All, all-append, all-each, all-map}
 use Rattle.lists.proofs.Laws.{cases}
 use Rattle.lists.specs.Lists.{rotated}
+use Rattle.shell.proofs.Shown.{length-rotated}
 use Rattle.shell.specs.Singular.{corners, firstEnd, lastEnd}
 use Rattle.singular.specs.Ends.{nextEnds}
 use Rattle.edge.specs.Below.{EdgesBelow}
@@ -41,12 +42,8 @@ pub next-last : (us : List ℕ) (i : ℕ) → i < length us → length us - 1 �
 next-last [] i h l = absurd (omega arith)
 next-last (u ∷ us) i h l = let e : i ≡ length us = omega arith in rw e (sym (getD-append-seam us u [] 0))
 
-rotated-long : (us : List ℕ) → length (rotated us) ≡ length us
-rotated-long [] = refl
-rotated-long (u ∷ us) = omega (arith, length-append us (u ∷ []))
-
 pub next-long : (us : List ℕ) → length (nextEnds us) ≡ length us
-next-long us = length-map (rotated us) firstEnd ∙ rotated-long us
+next-long us = length-map (rotated us) firstEnd ∙ length-rotated us
 
 -- ---- all ends are members
 module _ (edges : ℕ) where
@@ -83,7 +80,7 @@ module _ (edges : ℕ) where
       → v ≡ lastEnd (getD us i 0) → x ≡ v → w ≡ firstEnd (getD (rotated us) i 0) → y ≡ w → Member x × Member y
   corner-ends us b i h {x} {y} a c d e =
       let p = corner-pairs us b .1 i (omega (arith, length-map us lastEnd)) in
-      (omega (arith, p .0, column-at lastEnd us i h, a, c), omega (arith, p .1, column-at firstEnd (rotated us) i (omega (arith, rotated-long us)), d, e))
+      (omega (arith, p .0, column-at lastEnd us i h, a, c), omega (arith, p .1, column-at firstEnd (rotated us) i (omega (arith, length-rotated us)), d, e))
 
   -- ---- the loop over the uses of a wire: i are joined with the next
   abbrev pub Cornering : List ℕ → List ℕ → List ℕ → List ℕ → List ℕ → ℕ → Type 0
@@ -95,7 +92,7 @@ module _ (edges : ℕ) where
         → Cornering us ps₀ ss₀ ps′ ss′ (i + 1)
     cornering-next h {x} {y} a c d e {ps′} {ss′} o =
         let at-last : x ≡ getD (map lastEnd us) i 0 = c ∙ a ∙ sym (column-at lastEnd us i h) in
-        let at-next : y ≡ getD (nextEnds us) i 0 = e ∙ d ∙ sym (column-at firstEnd (rotated us) i (omega (arith, rotated-long us))) in
+        let at-next : y ≡ getD (nextEnds us) i 0 = e ∙ d ∙ sym (column-at firstEnd (rotated us) i (omega (arith, length-rotated us))) in
         joins-next (2 * edges) (map lastEnd us) (nextEnds us) ps₀ ss₀ ps ss i (corner-pairs us b) s (omega (arith, length-map us lastEnd)) (rw (at-last, at-next) at o)
 
     pub cornering-all : length us ≤ i → (ps ≡ joinedAll (trees ps₀ ss₀) (corners us) .parents) × (ss ≡ joinedAll (trees ps₀ ss₀) (corners us) .sizes)

@@ -4,6 +4,7 @@ use mathlib.Core.Bool.{Bool, false, not, true}
 use mathlib.Core.List.{List, [], _++_, _∷_, map}
 use mathlib.Core.Path.{_≡_, refl, sym}
 use native.Mathlib.Omega.{arith}
+use lib.Dec.{eqb}
 use borrow.Author.Tests.{eq-eqb, le-ltb, lt-ltb, ne-eqb, not-false, not-true}
 use Rattle.lists.proofs.Parts.{flat-numbers}
 use Rattle.lists.specs.Lists.{flat, numbers}
@@ -26,14 +27,14 @@ module _ (n : ℕ) (c : Bool) (w s : ℕ) where
     error-apart h = rw (lt-ltb 0 n positive, not-true c h)
 
     module _ (one : not c ≡ false) where
-      pub error-open : (w ≡ 3 → ⊥) → Wrong NotClosedShell ≡ firstError (errorsOf n c w s)
-      error-open h = rw (lt-ltb 0 n positive, not-false c one, ne-eqb w 3 h)
+      pub error-open : eqb w 3 ≡ false → Wrong NotClosedShell ≡ firstError (errorsOf n c w s)
+      error-open h = rw (lt-ltb 0 n positive, not-false c one, h)
 
-      pub error-point : w ≡ 3 → (s ≡ 0 → ⊥) → Wrong NotManifold ≡ firstError (errorsOf n c w s)
-      error-point e h = rw (lt-ltb 0 n positive, not-false c one, eq-eqb w 3 e, ne-eqb 0 s (λ o. h (sym o)))
+      pub error-point : eqb w 3 ≡ true → (s ≡ 0 → ⊥) → Wrong NotManifold ≡ firstError (errorsOf n c w s)
+      error-point e h = rw (lt-ltb 0 n positive, not-false c one, e, ne-eqb 0 s (λ o. h (sym o)))
 
-      pub error-none : w ≡ 3 → s ≡ 0 → Fine ≡ firstError (errorsOf n c w s)
-      error-none e h = rw (lt-ltb 0 n positive, not-false c one, eq-eqb w 3 e, eq-eqb 0 s (sym h))
+      pub error-none : eqb w 3 ≡ true → s ≡ 0 → Fine ≡ firstError (errorsOf n c w s)
+      error-none e h = rw (lt-ltb 0 n positive, not-false c one, e, eq-eqb 0 s (sym h))
 
 -- what is wrong with a shell is what is wrong with a solid of it
 pub in-solid : (n : ℕ) (es : List ShellError) → inSolid n (firstError es) ≡ firstOfSolid (inShell n es)

@@ -3,8 +3,9 @@ use Prim.Native.Nat.{ℕ}
 use mathlib.Core.Bool.{Bool}
 use mathlib.Core.List.{List, [], _∷_, _++_, map}
 use lib.Dec.{eqb, ltb}
-use lib.ListN.{length}
+use lib.ListN.{getD, length}
 use Rattle.lists.specs.Lists.{flat, numbers, unless}
+use Rattle.errors.specs.Numbers.{Reply, done, refused}
 use Rattle.pattern.specs.Contents.{Content}
 use Rattle.shell.specs.Conditions.{condition}
 use Rattle.shell.specs.Connected.{connected}
@@ -22,15 +23,14 @@ reasonNumber NotConnected = 11
 reasonNumber NotClosedShell = 12
 reasonNumber NotManifold = 13
 
--- the number of an answer; 0 where it is accepted
-abbrev pub solidNumber : SolidCheck → ℕ
-solidNumber Accepted = 0
-solidNumber (Refused e) = reasonNumber (e .reason)
+-- number and values: the shell's own reason, with the shell
+abbrev pub solidReply : SolidCheck → Reply
+solidReply Accepted = done []
+solidReply (Refused e) = refused (reasonNumber (e .reason)) (e .shell ∷ [])
 
 -- the shell that a refusal names
 abbrev pub solidShell : SolidCheck → ℕ
-solidShell Accepted = 0
-solidShell (Refused e) = e .shell
+solidShell a = getD (solidReply a .values) 0 0
 
 -- a shell with so many listings, of this condition, with so many singular points
 abbrev pub errorsOf : ℕ → Bool → ℕ → ℕ → List ShellError

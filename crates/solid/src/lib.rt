@@ -2,6 +2,7 @@
 ghost use mathlib.Core.Path.{_≡_};
 ghost use Rattle.solid.specs.Solid.{errorsOf, reasonNumber};
 ghost use Rattle.solid.specs.Sequence.{andThen, firstError, inSolid};
+use condition::Condition;
 
 // A shell's own reason.
 pub enum ShellError {
@@ -40,8 +41,13 @@ pub fn reason_number(e: ShellError) -> usize
 }
 
 // What is wrong with a shell: 10, 11, 12, 13 in sequence.
-pub fn check_shell(listings: usize, connected: bool, condition: u8, singular: usize) -> ShellCheck
-    ensures { λ r. ⌜ r ≡ firstError (errorsOf listings connected condition singular) ⌝ }
+pub fn check_shell(
+    listings: usize,
+    connected: bool,
+    condition: Condition,
+    singular: usize,
+) -> ShellCheck
+    ensures { λ r. ⌜ r ≡ firstError (errorsOf listings connected (condition .0) singular) ⌝ }
 {
     if listings == 0 {
         return ShellCheck::Wrong(ShellError::EmptyShell);
@@ -49,7 +55,7 @@ pub fn check_shell(listings: usize, connected: bool, condition: u8, singular: us
     if !connected {
         return ShellCheck::Wrong(ShellError::NotConnected);
     }
-    if condition != 3 {
+    if !condition.is(Condition::CLOSED) {
         return ShellCheck::Wrong(ShellError::NotClosedShell);
     }
     if singular != 0 {

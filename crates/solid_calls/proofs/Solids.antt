@@ -6,16 +6,17 @@ use native.Mathlib.Numerals.{add-one}
 use native.Mathlib.Omega.{arith}
 use lib.ListN.{getD, length}
 use Rattle.columns.specs.Sound.{OfTables, Sound}
+use Rattle.condition.specs.declared.Condition.{Condition}
 use Rattle.errors.specs.Faults.{first}
 use Rattle.errors.specs.declared.Check.the-variants.{Refused as Check·Refused}
 use Rattle.errors.specs.declared.Refusal.{Refusal}
 use Rattle.lists.specs.Lists.{flat, numbers, tabulate}
 use Rattle.pattern.proofs.Counts.{shells-counted}
 use Rattle.pattern.specs.Contents.{Content, content}
-use Rattle.reports.specs.Figures.{groupCounts, openingCounts}
+use Rattle.reports.specs.Figures.{groupCounts}
 use Rattle.reports.specs.declared.GroupCounts.{GroupCounts}
-use Rattle.reports.specs.declared.OpeningCounts.{OpeningCounts}
-use Rattle.shell.specs.Shells.{listingsOf}
+use Rattle.shell.specs.Conditions.{condition}
+use Rattle.shell.specs.Shells.{listingsOf, shellUses}
 use Rattle.store.specs.Store.{countTable, held}
 use Rattle.solid.proofs.Laws.{solid-next}
 use Rattle.solid.specs.Solid.{errorsOf, firstOfSolid, inShell, shellErrors, solidErrors, solidOf}
@@ -35,8 +36,8 @@ pub solid-answered : (fs : List Refusal) → fs ≡ [] → (c : Content) {a : So
 solid-answered fs ok c e = rw (ok, e)
 
 -- ---- one shell
-pub errors-found : (c : Content) (n listings : ℕ) {o : OpeningCounts} {g : GroupCounts} {w : ShellCheck} → listings ≡ length (listingsOf c n) → o ≡ openingCounts c n → g ≡ groupCounts c n
-    → w ≡ firstError (errorsOf listings (g .connected) (o .condition) (g .singular)) → w ≡ firstError (shellErrors c n)
+pub errors-found : (c : Content) (n listings : ℕ) {o : Condition} {g : GroupCounts} {w : ShellCheck} → listings ≡ length (listingsOf c n) → o .0 ≡ condition (shellUses c n) → g ≡ groupCounts c n
+    → w ≡ firstError (errorsOf listings (g .connected) (o .0) (g .singular)) → w ≡ firstError (shellErrors c n)
 errors-found c n listings l a b h = h ∙ rw (l, a, b)
 
 -- ---- the shells one after the other

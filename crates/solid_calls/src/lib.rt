@@ -12,8 +12,8 @@ ghost use Rattle.solid.specs.Sequence.{firstError};
 use columns::put_columns;
 use errors::Check;
 use errors::Refusal;
+use reports::condition_in;
 use reports::put_groups;
-use reports::put_openings;
 use solid::ShellCheck;
 use solid::SolidCheck;
 use solid::SolidError;
@@ -44,12 +44,10 @@ fn shell_check<'a>(
 {
     let first = places[n];
     let end = places[n + 1];
-    let mut walked = [0u16; 2048];
-    let mut lens = [0u16; 2048];
     let mut pairs = [0u16; 512];
     let mut sizes = [0u16; 512];
     let mut corners = [0u16; 2048];
-    let o = put_openings(t, turned, starts, firsts, places, n, &mut walked, &mut lens);
+    let condition = condition_in(t, turned, starts, firsts, places, n);
     let g = put_groups(
         t,
         turned,
@@ -61,7 +59,7 @@ fn shell_check<'a>(
         &mut sizes,
         &mut corners,
     );
-    check_shell(end - first, g.connected, o.condition, g.singular)
+    check_shell(end - first, g.connected, condition, g.singular)
 }
 
 // The shells of a pattern, one after the other.

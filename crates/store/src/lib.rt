@@ -2,7 +2,7 @@
 // the curves beside it. A label stands in two places, the lower half first.
 ghost use mathlib.Core.Path.{_≡_};
 ghost use mathlib.Core.List.{List};
-ghost use Prim.Native.Nat.{ℕ, _+_, _<_, _≤_};
+ghost use Prim.Native.Nat.{_+_, _<_, _≤_};
 ghost use lib.Ieee.{Float};
 ghost use lib.ListN.{length, set};
 ghost use lib.Seq.{sets};

@@ -68,8 +68,8 @@ module _ (file out : List ℕ) where
   write-refused (g ∷ fs) f e = (cc, refl)
 
   module _ (fs : List Refusal) (ok : fs ≡ []) where
-    pub write-short : length out < length file → (NoSpace ≡ writeAnswer fs file out) × (out ≡ writeBytes fs file out)
-    write-short h = (rw (ok, lt-leb (length file) (length out) h), rw (ok, lt-leb (length file) (length out) h))
+    pub write-short : (n : ℕ) → length out < length file → n ≡ length file → (NoSpace n ≡ writeAnswer fs file out) × (out ≡ writeBytes fs file out)
+    write-short n h e = (rw (ok, lt-leb (length file) (length out) h, e), rw (ok, lt-leb (length file) (length out) h))
 
     pub write-whole : (n : ℕ) (out′ : List ℕ) → length file ≤ length out → n ≡ length file → out′ ≡ file ++ drop (length file) out
         → (Length n ≡ writeAnswer fs file out) × (out′ ≡ writeBytes fs file out)

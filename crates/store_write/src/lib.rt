@@ -37,11 +37,12 @@ use words::put_u16;
 use words::put_u32;
 use words::put_u64;
 
-// The answer: the length of the file, the refusal of the reading checks, or no space (17).
+// The answer: the length of the file, the refusal of the reading checks, or no space (17) with the
+// length that the file needs.
 pub enum Written {
     Length(usize),
     Refused(Refusal),
-    NoSpace,
+    NoSpace(usize),
 }
 
 // Writes the first n numbers, of two bytes each, from `at` on.
@@ -159,7 +160,7 @@ pub fn put_file(t: &Tables, spans: &Spans, out: &mut [u8]) -> Written
     tables_known(t);
     let starts = starts_of(counts_in(t));
     if out.len() < starts[BODIES] {
-        return Written::NoSpace;
+        return Written::NoSpace(starts[BODIES]);
     }
     write_content(t, spans, starts, out);
     Written::Length(starts[BODIES])

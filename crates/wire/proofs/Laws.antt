@@ -16,7 +16,8 @@ use Rattle.errors.specs.declared.WireError.the-variants.{EmptyWire, NotClosedWi
 use Rattle.lists.proofs.Marks.{AllBelow, met-fresh}
 use Rattle.lists.specs.Lists.{noDup, unless}
 use Rattle.lists.specs.Marks.{Below, met}
-use Rattle.wire.specs.Wires.{Named, closed, endFrom, findFrom, outlineOf, points, runs, wireFaults}
+use Rattle.wire.specs.Named.{Named}
+use Rattle.wire.specs.Wires.{closed, endFrom, findFrom, outlineOf, points, runs, wireFaults}
 use Rattle.wire.specs.declared.Found.the-variants.{At, Nothing}
 use Rattle.errors.specs.Sequence.{firstOfWire}
 

@@ -1,13 +1,13 @@
 -- The wire, an outline of document 01: uses in sequence. `fronts` and `backs` have the ends of the edges.
-use Prim.Native.Nat.{ℕ, _+_, _<_}
+use Prim.Native.Nat.{ℕ, _+_}
 use mathlib.Core.Bool.{Bool, true, _&&_}
 use mathlib.Core.List.{List, [], _∷_, _++_, map}
-use mathlib.Core.Path.{_≡_}
 use lib.Dec.{eqb, leb, ltb}
-use lib.ListN.{drop, getD, length, take}
+use lib.ListN.{drop, length, take}
 use Rattle.lists.specs.Lists.{noDup, pick, unless}
 use Rattle.errors.specs.declared.WireError.{WireError}
 use Rattle.errors.specs.declared.WireError.the-variants.{EmptyWire, NotClosedWire, NotSimpleWire}
+use Rattle.errors.specs.Numbers.{Reply, done}
 use Rattle.edge.specs.Uses.{edgeNumber, frontOf, backOf}
 use Rattle.wire.specs.declared.Found.{Found}
 use Rattle.wire.specs.declared.Found.the-variants.{At, Nothing}
@@ -31,11 +31,10 @@ module _ (fronts backs : List ℕ) where
   abbrev pub wireFaults : List ℕ → List WireError
   wireFaults us = unless (ltb 0 (length us)) EmptyWire ++ unless (closed us) NotClosedWire ++ unless (noDup (points us)) NotSimpleWire
 
-  -- every use names an edge, and begins at one of 2,048 points
-  pub record Named (us : List ℕ) : Type 0 where
-    pub alike : length backs ≡ length fronts
-    pub edge : (k : ℕ) → k < length us → edgeNumber (getD us k 0) < length fronts
-    pub point : (k : ℕ) → k < length us → frontOf fronts backs (getD us k 0) < 2048
+-- number and values of a search: the place, or none
+abbrev pub foundReply : Found → Reply
+foundReply (At i) = done (i ∷ [])
+foundReply Nothing = done []
 
 -- the place of the first use of edge e; the first use of the list has place i
 unfoldable pub findFrom : ℕ → ℕ → List ℕ → Found

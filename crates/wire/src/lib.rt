@@ -1,13 +1,12 @@
 // The wire (the Rust's wire.rs). A wire is a slice of uses; `fronts` and `backs` have the ends of
 // the edges by edge number.
 ghost use mathlib.Core.Path.{_≡_};
-ghost use Prim.Native.Nat.{_+_, _<_, _≤_};
-ghost use lib.ListN.{getD, length};
-ghost use lib.Seq.{sets};
-ghost use Rattle.lists.specs.Lists.{noDup, pick};
+ghost use Prim.Native.Nat.{_+_, _<_};
+ghost use lib.ListN.{length};
+ghost use Rattle.lists.specs.Lists.{noDup};
 ghost use Rattle.lists.specs.Marks.{stamped, met, Below};
-ghost use Rattle.edge.specs.Uses.{edgeNumber};
-ghost use Rattle.wire.specs.Wires.{closed, points, wireFaults, Named, findFrom, endFrom, outlineOf};
+ghost use Rattle.wire.specs.Named.{Named};
+ghost use Rattle.wire.specs.Wires.{closed, points, wireFaults, findFrom, endFrom, outlineOf};
 ghost use Rattle.errors.specs.Sequence.{firstOfWire};
 use edge::EdgeID;
 use edge::back_of;

@@ -5,7 +5,7 @@ ghost use lib.ListN.{getD, length};
 ghost use lib.Seq.{sets};
 ghost use Rattle.lists.specs.Lists.{pick};
 ghost use Rattle.edge.specs.Uses.{edgeNumber};
-ghost use Rattle.wire.specs.Wires.{Named};
+ghost use Rattle.wire.specs.Named.{Named};
 ghost use Rattle.wire_swaps.specs.Swaps.{sameEnds, swapEdge, swapSubwire};
 use edge::back_of;
 use edge::front_of;

@@ -9,8 +9,8 @@ ghost use Rattle.file_concat.specs.FileConcat.{fileConcat, fileConcatBytes};
 ghost use Rattle.file_cut.specs.FileCut.{fileCut, fileCutBytes};
 ghost use Rattle.file_remove.specs.FileRemove.{fileRemove, fileRemoveBytes};
 ghost use Rattle.file_face_edits.specs.FileFaceEdits.{fileAdd, fileAddOut, fileCutFace, fileCutFaceOut, fileGlue, fileGlueOut};
-ghost use Rattle.file_reports.specs.FileReports.{fileCheck, fileComponents, fileComponentsOut, fileCondition, fileConnected, fileOpenings, fileOpeningsOut, fileOutline, fileSingular, fileSingularOut, fileSolid, fileWritten, fileWrittenBytes};
-ghost use Rattle.report_text.specs.Report.{reportOf};
+ghost use Rattle.file_reports.specs.FileReports.{fileCheck, fileComponents, fileComponentsOut, fileCondition, fileConnected, fileOpenings, fileOpeningsOut, fileOutline, FilePromised, fileSingular, fileSingularOut, fileSolid, fileWritten, fileWrittenBytes};
+ghost use Rattle.report_text.specs.Report.{reportOf, ReportPromised};
 use answers::Answer;
 use file_concat::file_concat;
 use file_cut::file_cut;
@@ -56,6 +56,7 @@ pub extern "C" fn wuzsanget_write(file: &[u8], out: &mut [u8]) -> Answer
 pub extern "C" fn wuzsanget_report(file: &[u8], text: &mut [u8; 1126400]) -> usize
     ensures { λ r. ⌜ r ≡ length (reportOf (now (file .entry))) ⌝ }
     ensures { λ _. ⌜ now (text .exit) ≡ sets (now (text .entry)) 0 (reportOf (now (file .entry))) ⌝ }
+    ensures { λ _. ⌜ ReportPromised (now (file .entry)) ⌝ }
 {
     report(file, text)
 }
@@ -77,6 +78,7 @@ pub extern "C" fn wuzsanget_extract_boundaries(
     ensures { λ r. ⌜ r ≡ fileOpenings (now (file .entry)) shell ⌝ }
     ensures { λ _. ⌜ now (uses .exit) ≡ sets (now (uses .entry)) 0 (flat (fileOpeningsOut (now (file .entry)) shell)) ⌝ }
     ensures { λ _. ⌜ now (lengths .exit) ≡ sets (now (lengths .entry)) 0 (map length (fileOpeningsOut (now (file .entry)) shell)) ⌝ }
+    ensures { λ _. ⌜ FilePromised (now (file .entry)) shell ⌝ }
 {
     file_openings(file, shell, uses, lengths)
 }

@@ -8,14 +8,14 @@ use lib.ListN.{length}
 use borrow.Author.Needs.{needs}
 use Rattle.add_boundary.proofs.Laws.{fine-answer, fine-out, is-short, sets-nothing, sets-same, unfit-answer, unfit-out, uses-fit, wires-fit}
 use Rattle.add_boundary.proofs.add_wire.Statement.{statement}
-use Rattle.add_boundary.specs.Boundary.{boundaryFaults, storedAs}
+use Rattle.add_boundary.specs.Boundary.{newFaults, storedAs}
 use Rattle.edit_answers.specs.declared.FaceAnswer.the-variants.{Written}
 use Rattle.add_boundary.proofs.add_wire.Tie as tie
 
 returns : tie.Need-returns
 returns c =
     let args = c .before .before .before .before .before .before .before .before .before .before .before .args in
-    let es = boundaryFaults (args .fronts .now) (args .backs .now) (args .own .now) (length (args .sizes .now)) (args .wire .now) (length (args .uses .now)) (length (args .lens .now)) in
+    let es = newFaults (args .fronts .now) (args .backs .now) (args .own .now) (length (args .sizes .now)) (args .wire .now) (length (args .uses .now)) (length (args .lens .now)) in
     let h = sym (c .before .before .before .judge-wire .ensures) ∙ c .before .judged .given .1 in (
       unfit-answer es _ (Written (length (args .own .now) + length (args .wire .now)) (suc (length (args .sizes .now)))) h,
       (
@@ -38,7 +38,7 @@ put-length-requires c κs =
 returns-2 : tie.Need-returns-2
 returns-2 c =
     let args = c .before .before .before .before .before .before .before .before .before .before .before .before .before .before .before .before .before .before .args in
-    let es = boundaryFaults (args .fronts .now) (args .backs .now) (args .own .now) (length (args .sizes .now)) (args .wire .now) (length (args .uses .now)) (length (args .lens .now)) in
+    let es = newFaults (args .fronts .now) (args .backs .now) (args .own .now) (length (args .sizes .now)) (args .wire .now) (length (args .uses .now)) (length (args .lens .now)) in
     let h = sym (c .before .before .before .before .before .before .before .before .before .before .judge-wire .ensures) ∙ c .before .before .before .before .before .before .before .before .enum-told .given .1 in (
       rw add-one (fine-answer es (Written (length (args .own .now) + length (args .wire .now)) (suc (length (args .sizes .now)))) h),
       (

@@ -15,8 +15,8 @@ check-wire-requires c κs =
 
 returns : tie.Need-returns
 returns c =
-    let args = c .before .before .before .before .before .before .before .before .before .before .before .args in
-    unfit-wire (args .fronts .now) (args .backs .now) (args .own .now) (args .n) (args .wire .now) (args .m) (args .k) _ _ (sym (c .before .before .before .before .before .check-wire .ensures .0) ∙ c .before .before .answer .given .1) (c .wire-error .ensures)
+    let args = c .before .before .before .before .before .before .before .before .before .before .args in
+    unfit-wire (args .fronts .now) (args .backs .now) (args .own .now) (args .n) (args .wire .now) (args .m) (args .k) _ (sym (c .before .before .before .before .check-wire .ensures .0) ∙ c .before .answer .given .1)
 
 disjoint-from-requires : tie.Need-disjoint-from-requires
 disjoint-from-requires c κs =
@@ -46,5 +46,5 @@ returns-5 c =
     is-fine (args .fronts .now) (args .backs .now) (args .own .now) (args .n) (args .wire .now) (args .m) (args .k) (sym (c .before .before .before .before .before .before .before .before .before .check-wire .ensures .0) ∙ c .before .before .before .before .before .before .enum-told .given .1) (sym (c .before .before .before .before .disjoint-from .ensures) ∙ not-false _ (c .before .before .if1 .left)) (omega arith) (omega arith)
 
 pub judge-wire-spec : {M : Type 1} → statement M
-judge-wire-spec = tie.close (tie.spec (search needs) check-wire-requires (search needs) (search needs) returns (search needs)
+judge-wire-spec = tie.close (tie.spec (search needs) check-wire-requires (search needs) returns (search needs)
     (search needs) disjoint-from-requires returns-2 (search needs) returns-3 (search needs) returns-4 returns-5)

@@ -10,12 +10,13 @@ use Rattle.add_boundary.proofs.Added.{add-owed, unnamed}
 use Rattle.add_boundary.proofs.try_add_boundary.Statement.{statement}
 use Rattle.errors.proofs.Laws.{accepted-none}
 use Rattle.face_edits.specs.FaceEdits.{backsIn, frontsIn, nameEdges}
-use Rattle.face_parts.proofs.Facts.{Stands, all-named, backs-lent, face-missing, face-named, fronts-lent, held-fine, part-asked, part-stands, sizes-few, uses-few, uses-missing, uses-named}
+use Rattle.face_parts.proofs.Facts.{Stands, all-named, backs-lent, face-missing, face-named, fronts-lent, part-asked, part-stands, sizes-few, uses-few, uses-missing, uses-named}
 use Rattle.face_parts.proofs.Owed.{unread-owed}
 use Rattle.pattern.specs.Checks.{patternFaults}
 use Rattle.pattern.specs.Contents.{content}
 use Rattle.shell.specs.Shells.{faceNumber}
 use Rattle.shell_wires.proofs.Facts.{Fine}
+use Rattle.shell_wires.proofs.Held.{held-fine}
 use Rattle.store.specs.Store.{countTable, held, useTable, wireTable}
 use Rattle.add_boundary.proofs.try_add_boundary.Tie as tie
 

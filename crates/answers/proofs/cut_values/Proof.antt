@@ -9,7 +9,7 @@ returns-2 : tie.Need-returns-2
 returns-2 c = rw (c .before .before .w2 .given .1, c .before .before .before .before .before .a .given .1) (c .unread .ensures)
 
 returns-3 : tie.Need-returns-3
-returns-3 c = rw (c .before .enum-told .given .1, c .before .before .before .before .a .given .1) (c .refused .ensures)
+returns-3 c = rw (c .before .before .w3 .given .1, c .before .before .before .before .before .a .given .1) (c .refused .ensures)
 
 returns-4 : tie.Need-returns-4
 returns-4 c = rw (c .before .before .a2 .given .1) (c .unread2 .ensures)

@@ -9,7 +9,7 @@ returns-2 : tie.Need-returns-2
 returns-2 c = rw (c .before .before .a2 .given .1) (c .unread .ensures)
 
 returns-3 : tie.Need-returns-3
-returns-3 c = rw (c .before .enum-told .given .1) (c .refused .ensures)
+returns-3 c = rw (c .before .before .a3 .given .1) (c .refused .ensures)
 
 pub written-values-spec : {M : Type 1} → statement M
 written-values-spec = tie.close (tie.spec (search needs) (search needs) (search needs) (search needs) (search needs) (search needs) returns

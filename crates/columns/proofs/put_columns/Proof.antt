@@ -1,8 +1,7 @@
 -- The tables are those of a pattern without fault, so that each column can be made.
 use borrow.Author.Needs.{needs}
 use native.Mathlib.Omega.{arith}
-use Prim.Native.Nat.{_-_}
-use Rattle.columns.proofs.Made.{firsts-ready, made, places-ready, starts-ready, turned-ready}
+use Rattle.columns.proofs.Made.{firsts-ready, made, places-ready, starts-ready, tables-inside, turned-ready}
 use Rattle.store.proofs.Parts.{part-long}
 use Rattle.columns.proofs.put_columns.Statement.{statement}
 use Rattle.columns.proofs.put_columns.Tie as tie
@@ -13,30 +12,48 @@ short-known-requires c κs = rw (c .before .before .before .uses-in .ensures) (o
 short-known-requires-2 : tie.Need-short-known-requires-2
 short-known-requires-2 c κs = rw (c .listings-in .ensures) (omega (arith, part-long (c .before .before .before .before .before .before .before .before .before .before .before .before .args .t .now) 7704 512 (omega (arith, c .before .before .before .before .before .before .before .tables-known .ensures))))
 
-put-turned-requires : tie.Need-put-turned-requires
-put-turned-requires c κs =
+part-put-turned-uses-end : tie.Need-part-put-turned-uses-end
+part-put-turned-uses-end c =
+    let got = c .before .before .before in
+    let start = got .before .before .before .before .before .before .before .before .before .before in
+    rw (got .before .before .before .before .counts-in .ensures, got .before .before .before .uses-in .ensures) (tables-inside (start .args .t .now) (got .before .before .before .before .before .tables-known .ensures) (start .pre .0) .0)
+
+part-put-turned-uses-end-2 : tie.Need-part-put-turned-uses-end-2
+part-put-turned-uses-end-2 c =
     let got = c .before .before .before .before in
     let start = got .before .before .before .before .before .before .before .before .before .before in
-    let r = turned-ready (start .args .t .now) (got .before .before .before .before .before .tables-known .ensures) (start .pre .0) in
-    rw (got .before .before .before .before .counts-in .ensures, got .before .before .before .uses-in .ensures, got .before .before .wires-in .ensures) (r .0, (r .1, start .pre .1 .0))
+    rw (got .before .before .before .before .counts-in .ensures, got .before .before .wires-in .ensures) (tables-inside (start .args .t .now) (got .before .before .before .before .before .tables-known .ensures) (start .pre .0) .1)
 
-put-starts-requires : tie.Need-put-starts-requires
-put-starts-requires c κs =
-    let got = c .before .before .before .before .before .before .before .before in
+put-turned-uses-requires : tie.Need-put-turned-uses-requires
+put-turned-uses-requires c κs =
+    let got = c .before .before .before .before .before .before in
+    let start = got .before .before .before .before .before .before .before .before .before .before in
+    let r = turned-ready (start .args .t .now) (got .before .before .before .before .before .tables-known .ensures) (start .pre .0) in
+    rw (got .before .before .before .before .counts-in .ensures, got .before .before .before .uses-in .ensures, got .before .before .wires-in .ensures) (r .0, r .1, r .2, start .pre .1 .0)
+
+part-put-face-starts-end : tie.Need-part-put-face-starts-end
+part-put-face-starts-end c =
+    let got = c .before .before .before .before .before .before .before .before .before in
+    let start = got .before .before .before .before .before .before .before .before .before .before in
+    rw (got .before .before .before .before .counts-in .ensures, got .before .before .wires-in .ensures) (tables-inside (start .args .t .now) (got .before .before .before .before .before .tables-known .ensures) (start .pre .0) .1)
+
+put-face-starts-requires : tie.Need-put-face-starts-requires
+put-face-starts-requires c κs =
+    let got = c .before .before .before .before .before .before .before .before .before .before .before in
     let start = got .before .before .before .before .before .before .before .before .before .before in
     let r = starts-ready (start .args .t .now) (got .before .before .before .before .before .tables-known .ensures) (start .pre .0) in
-    rw (got .before .before .before .before .counts-in .ensures, got .before .before .wires-in .ensures, got .before .faces-in .ensures) (r .0, (r .1, start .pre .1 .1))
+    rw (got .before .before .before .before .counts-in .ensures, got .before .before .wires-in .ensures, got .before .faces-in .ensures) (r .0, r .1, r .2, r .3, start .pre .1 .1)
 
 put-firsts-requires : tie.Need-put-firsts-requires
 put-firsts-requires c κs =
-    let got = c .before .before .before .before .before .before .before .before .before .before .before .before in
+    let got = c .before .before .before .before .before .before .before .before .before .before .before .before .before .before .before in
     let start = got .before .before .before .before .before .before .before .before .before .before in
     let r = firsts-ready (start .args .t .now) (got .before .before .before .before .before .tables-known .ensures) (start .pre .0) in
     rw (got .before .before .before .before .counts-in .ensures, got .before .faces-in .ensures) (r .0, r .1, start .pre .1 .2)
 
 put-firsts-requires-2 : tie.Need-put-firsts-requires-2
 put-firsts-requires-2 c κs =
-    let got = c .before .before .before .before .before .before .before .before .before .before .before .before .before .before .before .before in
+    let got = c .before .before .before .before .before .before .before .before .before .before .before .before .before .before .before .before .before .before .before in
     let start = got .before .before .before .before .before .before .before .before .before .before in
     let r = places-ready (start .args .t .now) (got .before .before .before .before .before .tables-known .ensures) (start .pre .0) in
     rw (got .before .before .before .before .counts-in .ensures, got .shells-in .ensures) (r .0, r .1, start .pre .1 .3)
@@ -44,7 +61,7 @@ put-firsts-requires-2 c κs =
 returns : tie.Need-returns
 returns c =
     let starts = c .before .before .before .before .before .before .before .before .before .before in
-    let short = starts .before .before .before .before .before .before in
+    let short = starts .before .before .before .before .before .before .before .before .before in
     let got = short .before .before .before in
     let start = got .before .before .before .before .before .before .before .before .before .before in
     let counts = got .before .before .before .before .counts-in .ensures in
@@ -54,8 +71,8 @@ returns c =
     made (start .args .t .now) (got .before .before .before .before .before .tables-known .ensures) (start .pre .0) _ _ _ _
     (rw uses at (short .before .before .short-known .ensures))
     (rw (short .before .listings-in .ensures) at (short .short-known2 .ensures))
-    (rw (counts, uses, wires) at (starts .before .before .before .before .put-turned .ensures))
-    (rw (counts, wires, faces) at (starts .put-starts .ensures))
+    (rw (counts, uses, wires) at (starts .before .before .before .before .before .put-turned-uses .ensures))
+    (rw (counts, wires, faces) at (starts .put-face-starts .ensures))
     (rw (counts, faces) at (c .before .before .before .before .before .before .put-firsts .ensures))
     (rw (counts, got .shells-in .ensures) at (c .before .before .put-firsts2 .ensures))
 
@@ -74,11 +91,18 @@ put-columns-spec =
     short-known-requires-2
     (search needs)
     (search needs)
-    put-turned-requires
     (search needs)
     (search needs)
-    put-starts-requires
     (search needs)
+    part-put-turned-uses-end
+    (search needs)
+    (search needs)
+    part-put-turned-uses-end-2
+    put-turned-uses-requires
+    (search needs)
+    (search needs)
+    part-put-face-starts-end
+    put-face-starts-requires
     put-firsts-requires
     (search needs)
     put-firsts-requires-2

@@ -11,9 +11,10 @@ use Rattle.pattern.specs.Contents.{Pattern, content}
 use Rattle.shell_edits.proofs.ConcatTheorem.{concat-pattern-accepted}
 use Rattle.shell_edits.specs.Edits.{concatContent, concatFaults, joinedEdge}
 use Rattle.shell_wires.proofs.Facts.{Fine}
+use Rattle.shell_wires.proofs.Held.{held-fine}
 use Rattle.store.specs.Store.{countTable, held}
 use Rattle.concat.proofs.Judged.{concat-room, joint-none}
-use Rattle.concat.proofs.Stored.{held-fine, join-done, join-not, join-refused, joint-whole, next-is, stored-appended}
+use Rattle.concat.proofs.Stored.{join-done, join-not, join-refused, joint-whole, next-is, stored-appended}
 use Rattle.concat.specs.Joins.{appended, joint}
 use Rattle.concat.specs.declared.Joint.the-variants.{Whole}
 use Rattle.concat.proofs.concat.Statement.{statement}

@@ -8,9 +8,10 @@ use Rattle.edge.specs.Uses.{edgeNumber}
 use Rattle.pattern.proofs.Counts.{edges-counted}
 use Rattle.pattern.specs.Contents.{content}
 use Rattle.shell_wires.proofs.Facts.{Fine}
+use Rattle.shell_wires.proofs.Held.{held-fine}
 use Rattle.store.specs.Store.{countTable, held}
 use Rattle.concat.proofs.Judged.{concat-judged, first-unnamed, second-unnamed}
-use Rattle.concat.proofs.Stored.{held-edge-of, held-fine}
+use Rattle.concat.proofs.Stored.{held-edge-of}
 use Rattle.concat.proofs.concat_uses.Statement.{statement}
 use Rattle.concat.proofs.concat_uses.Tie as tie
 

@@ -1,7 +1,7 @@
 use borrow.Author.Needs.{needs}
 use mathlib.Core.Path.{_∙_, sym}
 use Rattle.cut_edge.proofs.Answer.{judged-refused, names, unnamed}
-use Rattle.cut_edge.proofs.Store.{Sound, held-fine}
+use Rattle.cut_edge.proofs.Store.{Sound, sound-fine}
 use Rattle.edit_answers.specs.declared.CutAnswer.the-variants.{Cut, Not, Refused}
 use Rattle.edit_answers.specs.declared.EditError.{EditError}
 use Rattle.errors.specs.declared.Refusal.{Refusal}
@@ -35,7 +35,7 @@ returns c = let s = c .before .before .before .before .before .before in
 
 returns-2 : tie.Need-returns-2
 returns-2 c = let s = c .before .before .before .before .before .before .before .before .before .before .before in
-    let fine = held-fine (sound (c .before .before .before .before)) in
+    let fine = sound-fine (sound (c .before .before .before .before)) in
     let no = rw (c .before .before .counts-in .ensures) at (sym (c .before .all-named .ensures) ∙ not-true _ (c .if1 .taken)) in (
       unnamed (P s) fine (s .args .n) (s .args .e .0) (s .args .v .0) (s .args .at) Refused Not (Cut (nextEdge (P s) 0) (nextEdge (P s) 1)) no,
       (
@@ -46,7 +46,7 @@ returns-2 c = let s = c .before .before .before .before .before .before .before 
 
 cut-named-requires : tie.Need-cut-named-requires
 cut-named-requires c κs = let s = c .before .before .before .before .before .before .before .before .before .before .before .before .before in
-    let fine = held-fine (sound (c .before .before .before .before .before .before)) in
+    let fine = sound-fine (sound (c .before .before .before .before .before .before)) in
     (fine .ok, names (P s) fine (s .args .n) (s .args .e .0) (s .args .v .0) (s .args .at) (rw (c .before .before .before .before .counts-in .ensures) at (sym (c .before .before .before .all-named .ensures) ∙ not-false _ (c .before .before .if1 .left))))
 
 returns-3 : tie.Need-returns-3

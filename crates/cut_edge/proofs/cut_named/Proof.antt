@@ -2,7 +2,7 @@ use borrow.Author.Needs.{needs}
 use native.Mathlib.Omega.{arith}
 use lib.ListN.{length}
 use mathlib.Core.Path.{_≡_, _∙_, ap, sym}
-use Rattle.cut_edge.proofs.Store.{Here, Sound, accepted-answer, accepted-pattern, accepted-room, held-after, held-edge-at, held-judged, held-listed, held-refused, held-rooms, judge-ready}
+use Rattle.cut_edge.proofs.Store.{Here, Sound, accepted-answer, accepted-pattern, accepted-room, held-after, held-edge-at, held-judged, held-refused, held-rooms, judge-ready, sound-listed}
 use Rattle.curve.specs.Curves.{cutCurve}
 use Rattle.cut_edge_faults.specs.Judgement.{judgement}
 use Rattle.edit_answers.specs.declared.CutAnswer.the-variants.{Cut, Not, Refused}
@@ -28,7 +28,7 @@ here : (s : tie.Start) → Here (s .args .t .now) (s .args .n) (s .args .e .0) (
 here s = record { shell = s .pre .1 .0; edge = s .pre .1 .1; vertex = s .pre .1 .2 }
 
 listed : (c : tie.After-listings-in) → Listed (P (c .before .before .before .before .before .before .before .before)) (c .before .before .before .before .counts-in .result) (c .before .before .faces-in .result .now) (c .before .shells-in .result .now) (c .listings-in .result .now)
-listed c = rw (c .before .before .before .before .counts-in .ensures, c .before .before .faces-in .ensures, c .before .shells-in .ensures, c .listings-in .ensures) (held-listed (sound (c .before .before .before .before .before .before)))
+listed c = rw (c .before .before .before .before .counts-in .ensures, c .before .before .faces-in .ensures, c .before .shells-in .ensures, c .listings-in .ensures) (sound-listed (sound (c .before .before .before .before .before .before)))
 
 marked : (c : tie.After-mark-wires) → c .mark-wires .result ≡ marksOf (P (c .before .before .before .before .before .before .before .before .before)) (c .before .before .before .before .before .before .before .before .before .args .n)
 marked c = c .mark-wires .ensures (P (c .before .before .before .before .before .before .before .before .before)) (listed (c .before))
@@ -42,7 +42,7 @@ edge-is c = let s = c .before .before .before .before .before .before .before .b
 
 judged-is : (c : tie.After-judge-cut) → c .judge-cut .result ≡ judgement (cutFaults (content (P (c .before .before .before .before .before .before .before .before .before .before .before .before .before .before .before .before .before .before .before .before .before .before .before .before))) (c .before .before .before .before .before .before .before .before .before .before .before .before .before .before .before .before .before .before .before .before .before .before .before .before .args .n) (c .before .before .before .before .before .before .before .before .before .before .before .before .before .before .before .before .before .before .before .before .before .before .before .before .args .e .0) (c .before .before .before .before .before .before .before .before .before .before .before .before .before .before .before .before .before .before .before .before .before .before .before .before .args .v .0) (c .before .before .before .before .before .before .before .before .before .before .before .before .before .before .before .before .before .before .before .before .before .before .before .before .args .at)) (cutCurve (edgeAt (content (P (c .before .before .before .before .before .before .before .before .before .before .before .before .before .before .before .before .before .before .before .before .before .before .before .before))) (c .before .before .before .before .before .before .before .before .before .before .before .before .before .before .before .before .before .before .before .before .before .before .before .before .args .e .0) .curve) (c .before .before .before .before .before .before .before .before .before .before .before .before .before .before .before .before .before .before .before .before .before .before .before .before .args .at))
 judged-is c = let s = c .before .before .before .before .before .before .before .before .before .before .before .before .before .before .before .before .before .before .before .before .before .before .before .before in
-    held-judged (sound (c .before .before .before .before .before .before .before .before .before .before .before .before .before .before .before .before .before .before .before .before .before .before)) (s .args .at) (here s) (marked (c .before .before .before .before .before .before .before .before .before .before .before .before .before .before .before)) (c .before .before .before .before .before .before .before .before .before .before .before .before .before .before .before .before .before .before .before .before .counts-in .ensures) (c .before .before .before .before .before .before .before .before .uses-in .ensures) (c .before .before .before .before .before .before .before .wires-in .ensures) (c .before .before .before .fronts-in .ensures) (c .before .before .backs-in .ensures) (edge-is (c .before .before .before .before .before .before .before .before .before .before .before)) (c .before .cut-curve .ensures .0) (c .judge-cut .ensures)
+    held-judged (sound (c .before .before .before .before .before .before .before .before .before .before .before .before .before .before .before .before .before .before .before .before .before .before)) (s .args .at) (here s) (marked (c .before .before .before .before .before .before .before .before .before .before .before .before .before .before .before)) (c .before .before .before .before .before .before .before .before .before .before .before .before .before .before .before .before .before .before .before .before .counts-in .ensures) (c .before .before .before .before .before .before .before .before .uses-in .ensures) (c .before .before .before .before .before .before .before .wires-in .ensures) (c .before .before .before .fronts-in .ensures) (c .before .before .backs-in .ensures) (edge-is (c .before .before .before .before .before .before .before .before .before .before .before)) (c .before .cut-curve .ensures) (c .judge-cut .ensures)
 
 mark-wires-requires : tie.Need-mark-wires-requires
 mark-wires-requires c κs = let s = c .before .before .before .before .before .before .before .before in ((P s, listed c), rw (c .before .before .before .before .counts-in .ensures) (s .pre .1 .0))
@@ -81,7 +81,7 @@ returns-2 c =
     let yes = sym (judged-is j) ∙ c .before .before .before .before .before .before .before .judged2 .given .1 in
     let after = c .store-cut .ensures .1 ∙ accepted-pattern (sound (j .before .before .before .before .before .before .before .before .before .before .before .before .before .before .before .before .before .before .before .before .before .before)) (s .args .at) (here s) m yes in (
       c .store-cut .ensures .0 ∙ accepted-answer (sound (j .before .before .before .before .before .before .before .before .before .before .before .before .before .before .before .before .before .before .before .before .before .before)) (s .args .at) (here s) m yes,
-      (after, ap patternFaults after ∙ held-after (sound (j .before .before .before .before .before .before .before .before .before .before .before .before .before .before .before .before .before .before .before .before .before .before)) (s .args .at) (here s) (edge-is (j .before .before .before .before .before .before .before .before .before .before .before)) (j .before .cut-curve .ensures .1)),
+      (after, ap patternFaults after ∙ held-after (sound (j .before .before .before .before .before .before .before .before .before .before .before .before .before .before .before .before .before .before .before .before .before .before)) (s .args .at) (here s)),
     )
 
 pub cut-named-spec : {M : Type 1} → statement M

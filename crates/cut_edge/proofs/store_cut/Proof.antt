@@ -2,8 +2,8 @@ use borrow.Author.Needs.{needs}
 use native.Mathlib.Omega.{arith}
 use Prim.Native.Nat.{ℕ, _≤_, _+_}
 use lib.ListN.{getD, length-replicate, replicate, length-take}
-use mathlib.Core.Path.{ap}
-use Rattle.cut_edge.proofs.Store.{Sound, held-rooms, wires-ready, Written, cut-view, wires-written}
+use mathlib.Core.Path.{_∙_, ap}
+use Rattle.cut_edge.proofs.Store.{Sound, Written, cut-view, held-rooms, sound-fine, wires-ready, wires-written}
 use Rattle.cut_edge.specs.Cutting.{cutIn}
 use Rattle.store.specs.Store.{held, edgeIn}
 use Rattle.edge.specs.Edges.{edge}
@@ -69,8 +69,8 @@ returns c =
     let z = h .last .1 .0 in
     let d = edgeIn (s .args .t .now) (s .args .spans .now) (s .args .e .0) in (
       rw (k .ensures),
-      cut-view (held (s .args .t .now) (s .args .spans .now)) _ _ _ _ _ (getD (k .result) 1 0) (w .put-cut-wires .result) (edge (d .front) (s .args .v) (s .args .k)) (edge (s .args .v) (d .back) (s .args .l)) (cutIn (s .args .flags .now) (s .args .e .0) (s .args .t .now)) _ _
-          (ap (λ (ns : List ℕ). getD ns 1 0) (k .ensures)) (m .size) (m .uses) (m .wires) (h .ensures) (c .before .before .before .before .before .before .before .before .store-uses .ensures z) (c .before .before .before .before .store-wires .ensures z) (c .before .before .store-count .ensures z) (c .store-count2 .ensures z),
+      cut-view (held (s .args .t .now) (s .args .spans .now)) _ _ _ _ _ (sound-fine (sound (w .before .before .before .before .before .before .before .before .before .before .before .before .before .before .before))) (getD (k .result) 1 0) (w .put-cut-wires .result) (edge (d .front) (s .args .v) (s .args .k)) (edge (s .args .v) (d .back) (s .args .l)) (cutIn (s .args .flags .now) (s .args .e .0) (s .args .t .now)) _ _
+          (ap (λ (ns : List ℕ). getD ns 1 0) (k .ensures)) (m .size) (m .uses) (m .wires) (m .wired-all ∙ ap (λ (ns : List ℕ). getD ns 3 0) (k .ensures)) (h .ensures) (c .before .before .before .before .before .before .before .before .store-uses .ensures z) (c .before .before .before .before .store-wires .ensures z) (c .before .before .store-count .ensures z) (c .store-count2 .ensures z),
     )
 
 pub store-cut-spec : {M : Type 1} → statement M

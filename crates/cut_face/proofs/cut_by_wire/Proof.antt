@@ -10,12 +10,13 @@ use Rattle.cut_face.proofs.Top.{cut-asks, cut-owed, not-one, unnamed}
 use Rattle.cut_face.proofs.cut_by_wire.Statement.{statement}
 use Rattle.errors.proofs.Laws.{accepted-none}
 use Rattle.face_edits.specs.FaceEdits.{backsIn, frontsIn, nameEdges}
-use Rattle.face_parts.proofs.Facts.{Stands, all-named, backs-lent, face-missing, fronts-lent, held-fine, part-asked, part-stands, uses-missing}
+use Rattle.face_parts.proofs.Facts.{Stands, all-named, backs-lent, face-missing, fronts-lent, part-asked, part-stands, uses-missing}
 use Rattle.face_parts.proofs.Owed.{unread-owed}
 use Rattle.pattern.specs.Checks.{patternFaults}
 use Rattle.pattern.specs.Contents.{content}
 use Rattle.shell.specs.Shells.{faceNumber}
 use Rattle.shell_wires.proofs.Facts.{Fine}
+use Rattle.shell_wires.proofs.Held.{held-fine}
 use Rattle.store.specs.Store.{countTable, held, useTable, wireTable}
 use Rattle.cut_face.proofs.cut_by_wire.Tie as tie
 

@@ -8,7 +8,7 @@ use lib.Seq.{length-take-le}
 use borrow.Author.Needs.{needs}
 use Rattle.cut_face_results.proofs.Few.{named-of}
 use Rattle.cut_face_outline.proofs.Laws.{end-some, part-named, part-none, part-some}
-use Rattle.cut_face_outline.specs.Cuts.{begins}
+use Rattle.face_edits.specs.FaceEdits.{firstPoint}
 use Rattle.wire.specs.Wires.{endFrom}
 use Rattle.wire.specs.declared.Found.the-variants.{At}
 use Rattle.cut_face_outline.proofs.cut_along.Statement.{statement}
@@ -19,7 +19,7 @@ part-long : (s : tie.Start) → length (take (s .args .n - 0) (s .args .along .n
 part-long s = ap (λ (n : ℕ). length (take n (s .args .along .now))) (sub-zero (s .args .n)) ∙ length-take-le (s .args .n) (s .args .along .now) (s .pre .0 .0)
 
 -- where the front is
-place : (c : tie.After-found) → let s = c .before .before .before .before .before .before .before .before .before .before .before in endFrom (s .args .fronts .now) (s .args .backs .now) 0 (begins (s .args .fronts .now) (s .args .backs .now) (s .args .wire .now)) (take (s .args .n - 0) (s .args .along .now)) ≡ At (c .found .given .0 .0)
+place : (c : tie.After-found) → let s = c .before .before .before .before .before .before .before .before .before .before .before in endFrom (s .args .fronts .now) (s .args .backs .now) 0 (firstPoint (s .args .fronts .now) (s .args .backs .now) (s .args .wire .now)) (take (s .args .n - 0) (s .args .along .now)) ≡ At (c .found .given .0 .0)
 place c =
     let args = c .before .before .before .before .before .before .before .before .before .before .before .args in
     ap (λ (v : ℕ). endFrom (args .fronts .now) (args .backs .now) 0 v (take (args .n - 0) (args .along .now))) (sym (c .before .before .before .first-point .ensures)) ∙ sym (c .before .before .find-end .ensures) ∙ c .found .given .1
@@ -27,7 +27,7 @@ place c =
 inside : (c : tie.After-found) → c .found .given .0 .0 < c .before .before .before .before .before .before .before .before .before .before .before .args .n
 inside c =
     let start = c .before .before .before .before .before .before .before .before .before .before .before in
-    omega (arith, end-some (start .args .fronts .now) (start .args .backs .now) 0 (begins (start .args .fronts .now) (start .args .backs .now) (start .args .wire .now)) (take (start .args .n - 0) (start .args .along .now)) (c .found .given .0 .0) (place c) .1, part-long start)
+    omega (arith, end-some (start .args .fronts .now) (start .args .backs .now) 0 (firstPoint (start .args .fronts .now) (start .args .backs .now) (start .args .wire .now)) (take (start .args .n - 0) (start .args .along .now)) (c .found .given .0 .0) (place c) .1, part-long start)
 
 first-point-requires : tie.Need-first-point-requires
 first-point-requires c κs =

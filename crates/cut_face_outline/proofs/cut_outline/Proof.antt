@@ -6,14 +6,14 @@ use lib.ListN.{length, replicate}
 use borrow.Author.Needs.{needs}
 use Rattle.cut_face_results.proofs.Few.{named-flipped, named-of, rotated-uses}
 use Rattle.cut_face_outline.proofs.Laws.{end-some, outline-empty, outline-none, outline-some, rotated-part}
-use Rattle.cut_face_outline.specs.Cuts.{ends}
+use Rattle.face_edits.specs.FaceEdits.{lastPoint}
 use Rattle.wire.specs.Wires.{endFrom}
 use Rattle.wire.specs.declared.Found.the-variants.{At}
 use Rattle.cut_face_outline.proofs.cut_outline.Statement.{statement}
 use Rattle.cut_face_outline.proofs.cut_outline.Tie as tie
 
 -- where the back is
-place : (c : tie.After-found) → let s = c .before .before .before .before .before .before .before .before .before .before .before in endFrom (s .args .backs .now) (s .args .fronts .now) 0 (ends (s .args .fronts .now) (s .args .backs .now) (s .args .wire .now)) (s .args .outline .now) ≡ At (c .found .given .0 .0)
+place : (c : tie.After-found) → let s = c .before .before .before .before .before .before .before .before .before .before .before in endFrom (s .args .backs .now) (s .args .fronts .now) 0 (lastPoint (s .args .fronts .now) (s .args .backs .now) (s .args .wire .now)) (s .args .outline .now) ≡ At (c .found .given .0 .0)
 place c =
     let args = c .before .before .before .before .before .before .before .before .before .before .before .args in
     ap (λ (v : ℕ). endFrom (args .backs .now) (args .fronts .now) 0 v (args .outline .now)) (sym (c .before .before .before .last-point .ensures)) ∙ sym (c .before .before .find-begin .ensures) ∙ c .found .given .1
@@ -21,7 +21,7 @@ place c =
 inside : (c : tie.After-found) → c .found .given .0 .0 < length (c .before .before .before .before .before .before .before .before .before .before .before .args .outline .now)
 inside c =
     let args = c .before .before .before .before .before .before .before .before .before .before .before .args in
-    omega (arith, end-some (args .backs .now) (args .fronts .now) 0 (ends (args .fronts .now) (args .backs .now) (args .wire .now)) (args .outline .now) (c .found .given .0 .0) (place c) .1)
+    omega (arith, end-some (args .backs .now) (args .fronts .now) 0 (lastPoint (args .fronts .now) (args .backs .now) (args .wire .now)) (args .outline .now) (c .found .given .0 .0) (place c) .1)
 
 returns : tie.Need-returns
 returns c =

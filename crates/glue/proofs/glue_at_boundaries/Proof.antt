@@ -1,21 +1,21 @@
 -- The reading checks first; then each test is one of the definition's, in sequence.
-use Prim.Native.Nat.{_-_, _≤_, _<_, ℕ}
+use Prim.Native.Nat.{_≤_, _<_, ℕ}
 use mathlib.Core.List.{List}
 use mathlib.Core.Path.{_∙_, _≡_, ap, sym}
 use native.Mathlib.Omega.{arith}
-use lib.ListN.{drop, getD, length, replicate, take}
+use lib.ListN.{getD}
 use borrow.Author.Needs.{needs}
 use Rattle.errors.proofs.Laws.{accepted-none}
 use Rattle.face_edits.specs.FaceEdits.{backsIn, frontsIn, surfaceOf}
-use Rattle.face_parts.proofs.Facts.{Stands, backs-lent, fronts-lent, held-fine, part-asked, part-stands}
+use Rattle.face_parts.proofs.Facts.{Stands, backs-lent, fronts-lent, part-asked, part-stands}
 use Rattle.face_parts.proofs.Owed.{unread-owed}
 use Rattle.glue.proofs.Faces.{first-unnamed, glue-owed, parts-fit, second-unnamed, signs-differ, surface-stored, surfaces-differ}
-use Rattle.glue.proofs.Places.{bare-long, bare-whole}
 use Rattle.glue.proofs.glue_at_boundaries.Statement.{statement}
 use Rattle.pattern.specs.Checks.{patternFaults}
 use Rattle.pattern.specs.Contents.{content}
 use Rattle.shell.specs.Shells.{faceNumber}
 use Rattle.shell_wires.proofs.Facts.{Fine}
+use Rattle.shell_wires.proofs.Held.{held-fine}
 use Rattle.store.specs.Store.{countTable, held, useTable, wireTable}
 use Rattle.glue.proofs.glue_at_boundaries.Tie as tie
 
@@ -48,18 +48,18 @@ first-there c = part-stands (c .before .before .before .before .before .before .
 second-there : (c : tie.After-face-part2) → Stands (content (held (c .before .before .before .before .before .before .before .before .before .before .before .before .before .before .before .before .before .before .before .args .t .now) (c .before .before .before .before .before .before .before .before .before .before .before .before .before .before .before .before .before .before .before .args .spans .now))) (c .before .before .before .before .before .before .before .before .before .before .before .before .before .before .before .before .before .before .before .args .g) (useTable (c .before .before .before .before .before .before .before .before .before .before .before .before .before .before .before .before .before .before .before .args .t .now)) (wireTable (c .before .before .before .before .before .before .before .before .before .before .before .before .before .before .before .before .before .before .before .args .t .now)) (c .face-part2 .result)
 second-there c = part-stands (c .before .before .before .before .before .before .before .before .before .before .before .before .before .before .before .before .before .before .before .args .t .now) (c .before .before .before .before .before .before .before .before .before .before .before .before .before .before .before .before .before .before .before .args .spans .now) (c .before .before .before .before .before .before .before .before .before .before .before .before .before .before .before .before .tables-known .ensures) (good (c .before .before .before .before .before .before .before .before .before .before .before .before .before)) (c .before .before .before .before .before .before .before .before .before .before .before .before .before .before .before .before .before .before .before .args .g) (second-here (c .before .before .before .before .before .before .before .before)) _ (c .before .before .before .before .before .before .before .before .before .before .index2 .ensures .0) _ (c .face-part2 .ensures)
 
--- the ends of the edges are lent, and places for the points
-fronts-there : (c : tie.After-first-fronts) → c .first-fronts .result .now ≡ frontsIn (content (held (c .before .before .before .before .before .before .before .before .before .before .before .before .before .before .before .before .before .before .before .before .before .before .before .args .t .now) (c .before .before .before .before .before .before .before .before .before .before .before .before .before .before .before .before .before .before .before .before .before .before .before .args .spans .now)))
-fronts-there c = fronts-lent (c .before .before .before .before .before .before .before .before .before .before .before .before .before .before .before .before .before .before .before .before .before .before .before .args .t .now) (c .before .before .before .before .before .before .before .before .before .before .before .before .before .before .before .before .before .before .before .before .before .before .before .args .spans .now) (c .before .before .before .before .before .before .before .before .before .before .before .before .before .before .before .before .before .before .before .before .tables-known .ensures) (good (c .before .before .before .before .before .before .before .before .before .before .before .before .before .before .before .before .before)) _ (rw (c .before .before .before .before .before .before .before .before .before .before .before .before .before .before .before .before .counts-in .ensures) at (c .first-fronts .ensures))
+-- the ends of the edges are lent
+fronts-there : (c : tie.After-first-fronts) → c .first-fronts .result .now ≡ frontsIn (content (held (c .before .before .before .before .before .before .before .before .before .before .before .before .before .before .before .before .before .before .before .before .before .before .args .t .now) (c .before .before .before .before .before .before .before .before .before .before .before .before .before .before .before .before .before .before .before .before .before .before .args .spans .now)))
+fronts-there c = fronts-lent (c .before .before .before .before .before .before .before .before .before .before .before .before .before .before .before .before .before .before .before .before .before .before .args .t .now) (c .before .before .before .before .before .before .before .before .before .before .before .before .before .before .before .before .before .before .before .before .before .before .args .spans .now) (c .before .before .before .before .before .before .before .before .before .before .before .before .before .before .before .before .before .before .before .tables-known .ensures) (good (c .before .before .before .before .before .before .before .before .before .before .before .before .before .before .before .before)) _ (rw (c .before .before .before .before .before .before .before .before .before .before .before .before .before .before .before .counts-in .ensures) at (c .first-fronts .ensures))
 
-backs-there : (c : tie.After-first-backs) → c .first-backs .result .now ≡ backsIn (content (held (c .before .before .before .before .before .before .before .before .before .before .before .before .before .before .before .before .before .before .before .before .before .before .before .before .args .t .now) (c .before .before .before .before .before .before .before .before .before .before .before .before .before .before .before .before .before .before .before .before .before .before .before .before .args .spans .now)))
-backs-there c = backs-lent (c .before .before .before .before .before .before .before .before .before .before .before .before .before .before .before .before .before .before .before .before .before .before .before .before .args .t .now) (c .before .before .before .before .before .before .before .before .before .before .before .before .before .before .before .before .before .before .before .before .before .before .before .before .args .spans .now) (c .before .before .before .before .before .before .before .before .before .before .before .before .before .before .before .before .before .before .before .before .before .tables-known .ensures) (good (c .before .before .before .before .before .before .before .before .before .before .before .before .before .before .before .before .before .before)) _ (rw (c .before .before .before .before .before .before .before .before .before .before .before .before .before .before .before .before .before .counts-in .ensures) at (c .first-backs .ensures))
+backs-there : (c : tie.After-first-backs) → c .first-backs .result .now ≡ backsIn (content (held (c .before .before .before .before .before .before .before .before .before .before .before .before .before .before .before .before .before .before .before .before .before .before .before .args .t .now) (c .before .before .before .before .before .before .before .before .before .before .before .before .before .before .before .before .before .before .before .before .before .before .before .args .spans .now)))
+backs-there c = backs-lent (c .before .before .before .before .before .before .before .before .before .before .before .before .before .before .before .before .before .before .before .before .before .before .before .args .t .now) (c .before .before .before .before .before .before .before .before .before .before .before .before .before .before .before .before .before .before .before .before .before .before .before .args .spans .now) (c .before .before .before .before .before .before .before .before .before .before .before .before .before .before .before .before .before .before .before .before .tables-known .ensures) (good (c .before .before .before .before .before .before .before .before .before .before .before .before .before .before .before .before .before)) _ (rw (c .before .before .before .before .before .before .before .before .before .before .before .before .before .before .before .before .counts-in .ensures) at (c .first-backs .ensures))
 
 few-points : (c : tie.After-face-part2) → getD (c .before .before .before .before .before .before .before .before .before .before .before .before .counts-in .result) 0 0 ≤ 2048
 few-points c = rw (c .before .before .before .before .before .before .before .before .before .before .before .before .counts-in .ensures) (good (c .before .before .before .before .before .before .before .before .before .before .before .before .before) .limits .points)
 
-kept-long : (c : tie.After-face-part2) → length (take (getD (c .before .before .before .before .before .before .before .before .before .before .before .before .counts-in .result) 0 0 - 0) (drop 0 (replicate {A = ℕ} 2048 65535))) ≡ getD (countTable (c .before .before .before .before .before .before .before .before .before .before .before .before .before .before .before .before .before .before .before .args .t .now)) 0 0
-kept-long c = bare-long _ (few-points c) ∙ ap (λ (ns : List ℕ). getD ns 0 0) (c .before .before .before .before .before .before .before .before .before .before .before .before .counts-in .ensures)
+points-there : (c : tie.After-face-part2) → getD (c .before .before .before .before .before .before .before .before .before .before .before .before .counts-in .result) 0 0 ≡ getD (countTable (c .before .before .before .before .before .before .before .before .before .before .before .before .before .before .before .before .before .before .before .args .t .now)) 0 0
+points-there c = ap (λ (ns : List ℕ). getD ns 0 0) (c .before .before .before .before .before .before .before .before .before .before .before .before .counts-in .ensures)
 
 returns : tie.Need-returns
 returns c = unread-owed _ _ _ _ _ _ (sym (c .before .before .before .check .ensures) ∙ c .before .answer .given .1)
@@ -92,44 +92,41 @@ face-part-requires c κs = part-asked (c .before .before .before .before .before
 face-part-requires-2 : tie.Need-face-part-requires-2
 face-part-requires-2 c κs = part-asked (c .before .before .before .before .before .before .before .before .before .before .before .before .before .before .before .before .before .before .args .t .now) (c .before .before .before .before .before .before .before .before .before .before .before .before .before .before .before .before .before .before .args .spans .now) (c .before .before .before .before .before .before .before .before .before .before .before .before .before .before .before .tables-known .ensures) (good (c .before .before .before .before .before .before .before .before .before .before .before .before)) (c .before .before .before .before .before .before .before .before .before .before .before .before .before .before .before .before .before .before .args .g) (second-here (c .before .before .before .before .before .before .before)) _ (c .before .before .before .before .before .before .before .before .before .index2 .ensures .0)
 
-part-kept-end : tie.Need-part-kept-end
-part-kept-end c = omega (arith, few-points c)
-
 uses-of-requires : tie.Need-uses-of-requires
-uses-of-requires c κs = first-there (c .before .before) .uses-fit
+uses-of-requires c κs = first-there (c .before) .uses-fit
 
 uses-of-requires-2 : tie.Need-uses-of-requires-2
-uses-of-requires-2 c κs = second-there (c .before .before) .uses-fit
+uses-of-requires-2 c κs = second-there (c .before) .uses-fit
 
 first-fronts-requires : tie.Need-first-fronts-requires
-first-fronts-requires c κs = rw (c .before .before .before .before .before .before .before .before .before .before .before .before .before .before .before .counts-in .ensures) (good (c .before .before .before .before .before .before .before .before .before .before .before .before .before .before .before .before) .limits .edges)
+first-fronts-requires c κs = rw (c .before .before .before .before .before .before .before .before .before .before .before .before .before .before .counts-in .ensures) (good (c .before .before .before .before .before .before .before .before .before .before .before .before .before .before .before) .limits .edges)
 
 first-backs-requires : tie.Need-first-backs-requires
-first-backs-requires c κs = rw (c .before .before .before .before .before .before .before .before .before .before .before .before .before .before .before .before .counts-in .ensures) (good (c .before .before .before .before .before .before .before .before .before .before .before .before .before .before .before .before .before) .limits .edges)
+first-backs-requires c κs = rw (c .before .before .before .before .before .before .before .before .before .before .before .before .before .before .before .counts-in .ensures) (good (c .before .before .before .before .before .before .before .before .before .before .before .before .before .before .before .before) .limits .edges)
 
 glue-parts-requires : tie.Need-glue-parts-requires
 glue-parts-requires c κs =
     let lent = c .before .before in
-    let there = lent .before .before .before .before .before in
+    let there = lent .before .before .before .before in
     let named = there .before .before .before .before .before .before .before .before in
     let read = named .before .before .before .before .before in
     let args = read .before .before .before .before .before .before .args in
-    let fit = parts-fit _ (good read) (args .f) (args .g) (args .uses .now) (args .lens .now) (first-here (named .before)) (second-here named) _ _ _ _ _ (fronts-there (lent .before)) (backs-there lent) (lent .before .before .before .uses-of .ensures ∙ first-there (there .before) .its-uses) (lent .before .before .uses-of2 .ensures ∙ second-there there .its-uses) (kept-long there) in
-    (fit .0, (fit .1, bare-whole _ (few-points there)))
+    let fit = parts-fit _ (good read) (args .f) (args .g) (args .uses .now) (args .lens .now) (first-here (named .before)) (second-here named) _ _ _ _ _ (fronts-there (lent .before)) (backs-there lent) (lent .before .before .before .uses-of .ensures ∙ first-there (there .before) .its-uses) (lent .before .before .uses-of2 .ensures ∙ second-there there .its-uses) (points-there there) in
+    (fit .0, (fit .1, few-points there))
 
 returns-6 : tie.Need-returns-6
 returns-6 c =
-    let lent = c .before .before .before .before .before .before .before .before in
-    let there = lent .before .before .before .before .before in
+    let lent = c .before .before .before .before .before .before .before in
+    let there = lent .before .before .before .before in
     let alike = there .before .before in
     let named = there .before .before .before .before .before .before .before .before in
     let read = named .before .before .before .before .before in
     let args = read .before .before .before .before .before .before .args in
-    glue-owed _ (good read) _ _ (args .uses .now) (args .lens .now) (first-here (named .before)) (second-here named) _ _ _ _ _ (fronts-there (lent .before)) (backs-there lent) (lent .before .before .before .uses-of .ensures ∙ first-there (there .before) .its-uses) (lent .before .before .uses-of2 .ensures ∙ second-there there .its-uses) (kept-long there)
-    (first-surface (alike .before .before .before .before) ∙ alike .before .if3 .left ∙ sym (second-surface (alike .before .before .before .before))) (alike .if4 .left) _ _ _ (c .before .before .before .before .before .glue-parts .ensures)
+    glue-owed _ (good read) _ _ (args .uses .now) (args .lens .now) (first-here (named .before)) (second-here named) _ _ _ _ _ (fronts-there (lent .before)) (backs-there lent) (lent .before .before .before .uses-of .ensures ∙ first-there (there .before) .its-uses) (lent .before .before .uses-of2 .ensures ∙ second-there there .its-uses) (points-there there)
+    (first-surface (alike .before .before .before .before) ∙ alike .before .if3 .left ∙ sym (second-surface (alike .before .before .before .before))) (alike .if4 .left) _ _ _ (c .before .before .before .before .glue-parts .ensures)
 
 pub glue-at-boundaries-spec : {M : Type 1} → statement M
 glue-at-boundaries-spec = tie.close (tie.spec (search needs) (search needs) (search needs) returns (search needs) (search needs)
     (search needs) (search needs) (search needs) returns-2 (search needs) returns-3 face-in-requires face-in-requires-2 returns-4 returns-5
-    face-part-requires face-part-requires-2 (search needs) (search needs) (search needs) (search needs) part-kept-end uses-of-requires
-    uses-of-requires-2 first-fronts-requires first-backs-requires glue-parts-requires (search needs) (search needs) returns-6)
+    face-part-requires face-part-requires-2 (search needs) (search needs) uses-of-requires uses-of-requires-2 first-fronts-requires
+    first-backs-requires glue-parts-requires (search needs) (search needs) returns-6)

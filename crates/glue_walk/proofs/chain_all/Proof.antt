@@ -5,7 +5,7 @@ use lib.ListN.{length}
 use borrow.Author.Needs.{needs}
 use Rattle.glue_walk.proofs.chain_all.Statement.{statement}
 use Rattle.glue_walk.proofs.chain_all.Tie as tie
-use Rattle.glue_walk.proofs.Chaining.{Chaining, chaining-all, chaining-lens, chaining-next, chaining-out, chaining-start}
+use Rattle.glue_walk.proofs.Chaining.{Chaining, chaining-all, chaining-left, chaining-lens, chaining-next, chaining-out, chaining-start}
 
 abbrev Inv-loop : tie.InvT-loop
 Inv-loop kept₀ fronts backs out₀ lens₀ w₀ q₀ kept out lens w q = Chaining fronts backs kept₀ out₀ lens₀ kept out lens w q
@@ -36,7 +36,8 @@ same-length-3 : tie.Need-same-length-3 Inv-loop μ-loop
 same-length-3 c = chaining-lens _ _ _ _ _ _ _ _ _ _ (c .before .loop .inv)
 
 returns : tie.Need-returns Inv-loop μ-loop
-returns c = (chaining-all _ _ _ _ _ _ _ _ _ _ (c .before .loop .inv) (omega arith), c .before .loop .inv .room)
+returns c = let inv = c .before .loop .inv in
+    (chaining-all _ _ _ _ _ _ _ _ _ _ inv (omega arith), (inv .room, chaining-left _ _ _ _ _ _ _ _ _ _ inv (omega arith)))
 
 pub chain-all-spec : {M : Type 1} → statement M
 chain-all-spec = tie.close (tie.spec Inv-loop μ-loop loop-holds chain-at-requires (search needs) loop-less loop-again same-length

@@ -18,7 +18,7 @@ put-condition-requires c κs = omega (arith, shell-number-short _ (c .before .be
 
 put-connected-requires : tie.Need-put-connected-requires
 put-connected-requires c κs = let start = c .before .before .before .before .before .before .before .before .before .before .before in
-    omega (arith, shell-number-short (start .args .n) (start .pre .0), condition-short (start .args .condition), c .before .before .before .before .before .before .before .put-number .kept .0, c .before .before .before .put-condition .kept .0)
+    omega (arith, shell-number-short (start .args .n) (start .pre .0), condition-short (start .args .condition .0), c .before .before .before .before .before .before .before .put-number .kept .0, c .before .before .before .put-condition .kept .0)
 
 same-length : tie.Need-same-length
 same-length c = c .before .before .put-connected .kept .0 ∙ c .before .before .before .before .before .before .put-condition .kept .0 ∙ c .before .before .before .before .before .before .before .before .before .before .put-number .kept .0
@@ -27,7 +27,7 @@ returns : tie.Need-returns
 returns c =
     let args = c .before .before .before .before .before .before .before .before .before .before .before .before .before .before .args in
     let x = wordNumber (ascii "shell ") _ in
-    let y = conditionLine (args .condition) in
+    let y = conditionLine (args .condition .0) in
     let p = put-then (args .out .now) _ x y _ _ _ _ (c .before .before .before .before .before .before .before .before .before .before .put-number .ensures) (c .before .before .before .before .before .before .put-condition .ensures) in
     put-then (args .out .now) _ (x ++ y) (connectedLine (args .connected)) _ _ _ _ p (c .before .before .put-connected .ensures)
 

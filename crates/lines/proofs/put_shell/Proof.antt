@@ -13,11 +13,11 @@ use Rattle.lines.proofs.put_shell.Statement.{statement}
 use Rattle.lines.proofs.put_shell.Tie as tie
 
 short : (c : tie.After-shared-slice-known5)
-    → (length (headLines (c .before .before .before .before .before .before .args .n) (c .before .before .before .before .before .before .args .condition) (c .before .before .before .before .before .before .args .connected)) ≤ 43)
+    → (length (headLines (c .before .before .before .before .before .before .args .n) (c .before .before .before .before .before .before .args .condition .0) (c .before .before .before .before .before .before .args .connected)) ≤ 43)
     × (length (openingLines (c .before .before .before .before .before .before .args .lens .now) (c .before .before .before .before .before .before .args .uses .now) (c .before .before .before .before .before .before .args .lookups)) ≤ 30736)
     × (length (componentLines (c .before .before .before .before .before .before .args .plens .now) (c .before .before .before .before .before .before .args .pairs .now) (c .before .before .before .before .before .before .args .points .now)) ≤ 39424)
 short c = let start = c .before .before .before .before .before .before in
-    parts-short (start .args .condition) (start .args .connected) (start .pre) (λ k. omega (arith, c .shared-slice-known5 .given k))
+    parts-short (start .args .condition .0) (start .args .connected) (start .pre) (λ k. omega (arith, c .shared-slice-known5 .given k))
 
 put-openings-requires : tie.Need-put-openings-requires
 put-openings-requires c κs =
@@ -41,12 +41,12 @@ returns c =
     let put-head = c .before .before .before .before .before .before .before .before .before .before .put-head in
     let put-openings = c .before .before .before .before .before .before .put-openings in let put-components = c .before .before .put-components in
     let s = short (c .before .before .before .before .before .before .before .before .before .before .before .before) in
-    let x = headLines (args .n) (args .condition) (args .connected) in
+    let x = headLines (args .n) (args .condition .0) (args .connected) in
     let y = openingLines (args .lens .now) (args .uses .now) (args .lookups) in
     let z = componentLines (args .plens .now) (args .pairs .now) (args .points .now) in
     let p = put-then (args .out .now) (args .at) x y _ _ _ _ (put-head .ensures) (put-openings .ensures) in
     let q = put-then (args .out .now) (args .at) (x ++ y) z _ _ _ _ p (put-components .ensures) in
-    let e = shell-is (args .n) (args .condition) (args .connected) (args .lens .now) (args .uses .now) (args .lookups) (args .plens .now) (args .pairs .now) (args .points .now) in
+    let e = shell-is (args .n) (args .condition .0) (args .connected) (args .lens .now) (args .uses .now) (args .lookups) (args .plens .now) (args .pairs .now) (args .points .now) in
     let r = put-as (args .out .now) (args .at) _ _ (sym e) q in
     (r .0, r .1, omega (arith, put-head .ensures .1, put-openings .ensures .1, put-components .ensures .1))
 

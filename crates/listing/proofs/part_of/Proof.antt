@@ -6,12 +6,12 @@ use Rattle.listing.proofs.part_of.Statement.{statement}
 use Rattle.listing.proofs.part_of.Tie as tie
 
 shown-requires : tie.Need-shown-requires
-shown-requires c κs = let pre = c .before .before .before .before .before .before .pre in
-    rw (add-one, c .before .before .index .ensures .0) (pre .rises, pre .along, pre .back)
+shown-requires c κs = let pre = c .before .before .before .before .before .before .before .pre in
+    rw (add-one, c .before .before .index .ensures .0, c .before .before .before .of-listing .ensures) (pre .rises, pre .along, pre .back)
 
 returns : tie.Need-returns
-returns c = c .shown .ensures .0 ∙ rw (add-one, c .before .before .before .index .ensures .0)
+returns c = c .shown .ensures .0 ∙ rw (add-one, c .before .before .before .index .ensures .0, c .before .before .before .before .of-listing .ensures)
 
 pub part-of-spec : {M : Type 1} → statement M
-part-of-spec = tie.close (tie.spec (search needs) (search needs) (search needs) (search needs) (search needs) (search needs) shown-requires
+part-of-spec = tie.close (tie.spec (search needs) (search needs) (search needs) (search needs) (search needs) (search needs) (search needs) shown-requires
     returns)

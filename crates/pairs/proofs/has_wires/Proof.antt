@@ -5,7 +5,7 @@ use Rattle.pairs.proofs.has_wires.Statement.{statement}
 use Rattle.pairs.proofs.has_wires.Tie as tie
 
 returns : tie.Need-returns
-returns c = rw (add-one, c .before .before .index .ensures .0)
+returns c = rw (add-one, c .before .before .index .ensures .0, c .before .before .before .of-listing .ensures)
 
 pub has-wires-spec : {M : Type 1} → statement M
-has-wires-spec = tie.close (tie.spec (search needs) (search needs) (search needs) (search needs) (search needs) (search needs) returns)
+has-wires-spec = tie.close (tie.spec (search needs) (search needs) (search needs) (search needs) (search needs) (search needs) (search needs) returns)

@@ -1,7 +1,8 @@
 -- As the join is judged.
 use mathlib.Core.Path.{_∙_, sym}
 use borrow.Author.Needs.{needs}
-use Rattle.concat.specs.Joins.{endFaults, joinedEnds}
+use Rattle.shell_edits.specs.Edits.{endFaults}
+use Rattle.shell_edits.specs.NewEdges.{joinedEnds}
 use Rattle.remove_vertex.proofs.Removals.{removal-joins, removal-not}
 use Rattle.remove_vertex.proofs.join_pair.Statement.{statement}
 use Rattle.remove_vertex.proofs.join_pair.Tie as tie

@@ -3,14 +3,15 @@ use native.Mathlib.Omega.{arith}
 use Prim.Native.Nat.{_<_}
 use lib.ListN.{getD}
 use mathlib.Core.Path.{sym, _∙_}
-use Rattle.concat.proofs.Stored.{held-edge-of, held-fine}
+use Rattle.concat.proofs.Stored.{held-edge-of}
 use Rattle.edge.specs.Uses.{edgeNumber}
 use Rattle.pattern.specs.Contents.{Pattern, content}
 use Rattle.shell_wires.proofs.Facts.{Fine}
+use Rattle.shell_wires.proofs.Held.{held-fine, held-lent}
 use Rattle.shell_wires.specs.Lent.{Lent}
 use Rattle.store.specs.Store.{countTable, held}
 use Rattle.remove_vertex.proofs.Removals.{of-edges}
-use Rattle.remove_vertex.proofs.Stored.{held-lent, pair-refused, pair-removed}
+use Rattle.remove_vertex.proofs.Stored.{pair-refused, pair-removed}
 use Rattle.remove_vertex.proofs.judge_removal.Statement.{statement}
 use Rattle.remove_vertex.proofs.judge_removal.Tie as tie
 

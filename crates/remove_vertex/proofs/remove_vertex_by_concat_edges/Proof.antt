@@ -4,7 +4,7 @@ use Prim.Native.Nat.{_<_}
 use lib.ListN.{getD}
 use mathlib.Core.List.{[]}
 use mathlib.Core.Path.{ap, sym, _∙_, _≡_}
-use Rattle.concat.proofs.Stored.{held-fine, join-done, join-not, join-refused, next-is}
+use Rattle.concat.proofs.Stored.{join-done, join-not, join-refused, next-is}
 use Rattle.remove_vertex_corners.specs.Endings.{endingOf}
 use Rattle.remove_vertex_corners.specs.declared.Ending.{Ending}
 use Rattle.edit_answers.specs.declared.JoinAnswer.the-variants.{Joined}
@@ -15,6 +15,7 @@ use Rattle.pattern.specs.Contents.{Pattern, content}
 use Rattle.shell_edits.proofs.RemoveTheorem.{remove-pattern-accepted}
 use Rattle.shell_edits.specs.Edits.{endingWires, removeContent, removeFaults}
 use Rattle.shell_wires.proofs.Facts.{Fine}
+use Rattle.shell_wires.proofs.Held.{held-fine}
 use Rattle.store.specs.Store.{countTable, held}
 use Rattle.remove_vertex.proofs.Removals.{joins-whole, not-joint}
 use Rattle.remove_vertex.proofs.Stored.{removal-room}

@@ -6,9 +6,9 @@ use lib.ListN.{getD, length, length-replicate, replicate}
 use lib.Seq.{length-sets, length-take-le}
 use mathlib.Core.List.{List, map}
 use mathlib.Core.Path.{ap, _∙_, _≡_}
-use Rattle.concat.proofs.Stored.{held-fine}
 use Rattle.lists.specs.Lists.{flat}
 use Rattle.shell_wires.proofs.Facts.{Fine}
+use Rattle.shell_wires.proofs.Held.{held-fine}
 use Rattle.store.specs.Store.{countTable, held}
 use Rattle.remove_vertex.proofs.Stored.{held-removed, held-tables, stored-written}
 use Rattle.remove_vertex.specs.Removals.{removedIn}

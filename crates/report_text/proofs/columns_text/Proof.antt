@@ -5,8 +5,9 @@ use Prim.Native.Nat.{ℕ, _≤_, _<_, _-_}
 use lib.ListN.{getD}
 use mathlib.Core.List.{List}
 use mathlib.Core.Path.{ap}
+use Rattle.columns.specs.Sound.{OfTables, Sound}
 use Rattle.store.specs.Store.{countTable}
-use Rattle.report_text.proofs.Texts.{Writing, shells-few, writing-all, writing-end, writing-next, writing-room, writing-start}
+use Rattle.report_text.proofs.Texts.{Writing, shells-few, sound-openings, writing-all, writing-end, writing-next, writing-room, writing-start}
 use Rattle.report_text.proofs.columns_text.Statement.{statement}
 use Rattle.report_text.proofs.columns_text.Tie as tie
 
@@ -46,7 +47,8 @@ solid-text-requires c κs = writing-end (c .before .before .loop .inv) (few (c .
 returns : tie.Need-returns Inv-loop μ-loop
 returns c =
     let at = c .before .before .before .before .before .before in
-    writing-all (c .before .before .before .before .before .loop .inv) (few at) (ap (λ (l : List ℕ). getD l 5 0) (at .counts-in .ensures)) (λ spans ok. at .before .before .before .before .before .before .pre .0 .all spans ok .0) (omega arith) _ _ (c .before .before .solid-text .ensures)
+    let sound : OfTables (at .before .before .before .before .before .before .args .t .now) Sound = λ spans ok. at .before .before .before .before .before .before .pre .0 .all spans ok .0 in
+    (writing-all (c .before .before .before .before .before .loop .inv) (few at) (ap (λ (l : List ℕ). getD l 5 0) (at .counts-in .ensures)) sound (omega arith) _ _ (c .before .before .solid-text .ensures), λ spans ok. sound-openings _ (sound spans ok))
 
 pub columns-text-spec : {M : Type 1} → statement M
 columns-text-spec =

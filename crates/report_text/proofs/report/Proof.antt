@@ -9,7 +9,7 @@ use Rattle.errors.specs.Faults.{first}
 use Rattle.errors.specs.declared.Check.the-variants.{Accepted}
 use Rattle.pattern_file.specs.File.{fileFaults}
 use Rattle.store.specs.Store.{held}
-use Rattle.report_text.proofs.Texts.{file-accepted, file-passes, file-refused}
+use Rattle.report_text.proofs.Texts.{file-accepted, file-kept, file-passes, file-refused, refused-kept}
 use Rattle.report_text.proofs.report.Statement.{statement}
 use Rattle.report_text.proofs.report.Tie as tie
 use Rattle.pattern.specs.Contents.{Pattern}
@@ -26,15 +26,19 @@ pattern-text-requires c κs = (record { spans = c .before .before .before .befor
 
 returns : tie.Need-returns
 returns c =
-    let t = file-refused _ _ (sym (c .before .before .before .before .before .read .ensures .0) ∙ c .before .before .before .answer .given .1) in
-    (c .put-refusal .ensures .0 ∙ ap (sets _ 0) t, c .put-refusal .ensures .1 ∙ ap length t)
+    let no = sym (c .before .before .before .before .before .read .ensures .0) ∙ c .before .before .before .answer .given .1 in
+    let t = file-refused _ _ no in
+    ((c .put-refusal .ensures .0 ∙ ap (sets _ 0) t, c .put-refusal .ensures .1 ∙ ap length t), refused-kept (c .before .before .before .before .before .before .before .before .before .args .bytes .now) _ no)
 
 returns-2 : tie.Need-returns-2
 returns-2 c =
     let a = c .before .before .before .before .before in
-    let t = file-accepted (a .before .before .before .before .args .bytes .now) (P a) (a .read .ensures .1) (right (c .before .before .before)) in
-    let w = c .pattern-text .ensures (a .read .last .1 .1 .0) (file-passes (a .before .before .before .before .args .bytes .now) (P a) (a .read .ensures .1) (right (c .before .before .before))) in
-    (w .0 ∙ ap (sets _ 0) t, w .1 ∙ ap length t)
+    let file = a .before .before .before .before .args .bytes .now in
+    let yes = right (c .before .before .before) in
+    let t = file-accepted file (P a) (a .read .ensures .1) yes in
+    let ok = file-passes file (P a) (a .read .ensures .1) yes in
+    let w = c .pattern-text .ensures .0 (a .read .last .1 .1 .0) ok in
+    ((w .0 ∙ ap (sets _ 0) t, w .1 ∙ ap length t), file-kept file (P a) (a .read .ensures .1) yes (c .pattern-text .ensures .1 (a .read .last .1 .1 .0) ok))
 
 pub report-spec : {M : Type 1} → statement M
 report-spec =

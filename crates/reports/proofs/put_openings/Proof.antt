@@ -1,15 +1,19 @@
 -- The tally gives the condition and which uses are free; the walk along these is that of the shell.
 use borrow.Author.Needs.{needs}
 use native.Mathlib.Omega.{arith}
-use Prim.Native.Nat.{_<_, _+_, _-_}
+use Prim.Native.Nat.{_≤_, _<_, _+_}
 use lib.ListN.{length, getD}
-use mathlib.Core.Path.{_≡_, _∙_, refl, sym}
+use mathlib.Core.Path.{_≡_, _∙_, ap, refl, sym}
+use native.Mathlib.Nat.{sub-zero}
 use denote.Ref.{now}
-use Rattle.columns.specs.Columns.{Columns, columnsIn}
+use Rattle.columns.specs.Columns.{Columns, columnsIn, lent}
 use Rattle.columns.specs.Sound.{OfTables, Sound}
 use Rattle.store.specs.Store.{countTable, held, wireTable}
-use Rattle.reports.proofs.Columned.{edges-inside, in-hand, inHand, in-places, shell-inside}
-use Rattle.reports.proofs.Openings.{edges-few, k-closed, k-extractable, k-openings, k-tally, k-walk}
+use Rattle.reports.proofs.Columned.{edges-inside, in-hand, in-hand-lent, inHand, in-places, shell-inside}
+use Rattle.reports.proofs.Openings.{edges-few, k-extractable, k-openings, k-walk}
+use Rattle.condition.specs.Tallies.{insertedAll}
+use Rattle.extract.specs.Listings.{noUses}
+use Rattle.reports.specs.InHand.{usesIn}
 use Rattle.reports.proofs.put_openings.Statement.{statement}
 use Rattle.reports.proofs.put_openings.Tie as tie
 use Rattle.pattern.specs.Contents.{Pattern}
@@ -26,6 +30,9 @@ K c =
 -- they are those of the pattern
 columns : (c : tie.After-listings-in) → OfTables (begun c .args .t .now) (λ p. Sound p × (K c ≡ columnsIn p))
 columns c = in-hand (begun c .pre .0 .0) (c .before .before .before .before .counts-in .ensures) (c .before .before .before .uses-in .ensures) refl (c .before .before .fronts-in .ensures) (c .before .backs-in .ensures) (c .listings-in .ensures)
+
+same-columns : (c : tie.After-listings-in) → K c ≡ lent (begun c .args .t .now) (begun c .args .turned .now) (begun c .args .starts .now) (begun c .args .firsts .now) (begun c .args .places .now)
+same-columns c = in-hand-lent (begun c .args .t .now) _ _ _ _ (c .before .before .before .before .counts-in .ensures) (c .before .before .before .uses-in .ensures) refl (c .before .before .fronts-in .ensures) (c .before .backs-in .ensures) (c .listings-in .ensures)
 
 abbrev pattern : tie.After-listings-in → Pattern
 pattern c = held (begun c .args .t .now) (begun c .pre .0 .0 .faultless .spans)
@@ -54,40 +61,49 @@ mul-end c = omega (arith, inside (c .before))
 shared-slice-read-end : tie.Need-shared-slice-read-end
 shared-slice-read-end c = omega (arith, inside (c .before .before))
 
-tally-between-requires : tie.Need-tally-between-requires
-tally-between-requires c κs =
-    let a = c .before .before in
-    let k = own a in
-    let i = in-places (K a) _ _ (k .0) (k .1) (here a) in
-    (i .0, i .1, k-tally (K a) _ _ (k .0) (k .1) (here a))
+-- the tally, of the uses in these columns
+tallied : (c : tie.After-shell-tally) → c .shell-tally .result ≡ insertedAll noUses (usesIn (K (c .before .before .before)) (begun (c .before .before .before) .args .n))
+tallied c = c .shell-tally .ensures ∙ ap (λ (k : Columns). insertedAll noUses (usesIn k (begun (c .before .before .before) .args .n))) (sym (same-columns (c .before .before .before)))
 
 condition-of-requires : tie.Need-condition-of-requires
 condition-of-requires c κs = let k = own (c .before .before .before) in edges-few (K (c .before .before .before)) _ _ (k .0) (k .1) (here (c .before .before .before))
 
+odd-of-requires : tie.Need-odd-of-requires
+odd-of-requires c κs = let k = own (c .before .before .before .before) in edges-few (K (c .before .before .before .before)) _ _ (k .0) (k .1) (here (c .before .before .before .before))
+
+abbrev listed : (c : tie.After-listings-in) → (getD (K c .places) (begun c .args .n) 0 ≤ getD (K c .places) (begun c .args .n + 1) 0) × (getD (K c .places) (begun c .args .n + 1) 0 ≤ length (K c .listings))
+listed c = let k = own c in in-places (K c) _ _ (k .0) (k .1) (here c)
+
+mul-openings-of : tie.Need-mul-openings-of
+mul-openings-of c = omega (arith, listed (c .before .before .before .before .before))
+
+sub-openings-of : tie.Need-sub-openings-of
+sub-openings-of c = omega (arith, listed (c .before .before .before .before .before))
+
+part-openings-of-start : tie.Need-part-openings-of-start
+part-openings-of-start c = omega (arith, listed (c .before .before .before .before .before))
+
+part-openings-of-end : tie.Need-part-openings-of-end
+part-openings-of-end c = omega (arith, listed (c .before .before .before .before .before))
+
+part-openings-of-end-2 : tie.Need-part-openings-of-end-2
+part-openings-of-end-2 c = let a = c .before .before .before .before .before .before .before in let k = own a in edges-inside (K a) _ _ (k .0) (k .1) (here a) .0
+
+part-openings-of-end-3 : tie.Need-part-openings-of-end-3
+part-openings-of-end-3 c = let a = c .before .before .before .before .before .before .before .before in let k = own a in edges-inside (K a) _ _ (k .0) (k .1) (here a) .1
+
+openings-of-requires : tie.Need-openings-of-requires
+openings-of-requires c κs =
+    let a = c .before .before .before .before .before .before .before .before .before .before .before in
+    let k = own a in
+    let room = begun a .pre .1 in
+    rw (sub-zero _) (k-walk (K a) _ _ (k .0) (k .1) (here a), k-extractable (K a) _ _ (k .0) (k .1) (here a) _ (tallied (c .before .before .before .before .before .before .before .before)) _ _ _ (c .before .before .before .before .before .before .odd-of .ensures) (room .0) (room .1))
+
 returns : tie.Need-returns
 returns c =
-    let a = c .before .before .before .before .before .before in
-    let t = c .before .before .before .tally-between .ensures in
-    let i = sym (c .if1 .taken) ∙ c .before .before .condition-of .ensures in
-    (λ spans ok. let k = columns a spans ok in k-openings (K a) _ _ (k .0) (k .1) (here a) _ t _ i (k-closed (K a) _ _ (k .0) (k .1) (here a) _ t _ i refl _ _), (omega arith, omega arith, omega arith))
-
-odd-of-requires : tie.Need-odd-of-requires
-odd-of-requires c κs = let k = own (c .before .before .before .before .before .before) in edges-few (K (c .before .before .before .before .before .before)) _ _ (k .0) (k .1) (here (c .before .before .before .before .before .before))
-
-openings-between-requires : tie.Need-openings-between-requires
-openings-between-requires c κs =
-    let a = c .before .before .before .before .before .before .before .before .before .before in
-    let k = own a in
-    let i = in-places (K a) _ _ (k .0) (k .1) (here a) in
-    let j = edges-inside (K a) _ _ (k .0) (k .1) (here a) in
-    let room = begun a .pre .1 in
-    ((i .0, i .1, j .0, j .1), (k-walk (K a) _ _ (k .0) (k .1) (here a), k-extractable (K a) _ _ (k .0) (k .1) (here a) _ (c .before .before .before .before .before .before .before .tally-between .ensures) _ _ _ (c .before .before .before .odd-of .ensures) (room .0) (room .1)))
-
-returns-2 : tie.Need-returns-2
-returns-2 c =
-    let a = c .before .before .before .before .before .before .before .before .before .before .before .before .before .before .before in
-    let w = c .before .before .before .before .openings-between .ensures in
-    (λ spans ok. let k = columns a spans ok in k-openings (K a) _ _ (k .0) (k .1) (here a) _ (c .before .before .before .before .before .before .before .before .before .before .before .before .tally-between .ensures) _ (c .before .before .before .before .before .before .before .before .before .before .before .condition-of .ensures) w, w .few)
+    let a = c .before .before .before .before .before .before .before .before .before .before .before .before .before .before .before .before in
+    let w = rw (sub-zero (K a .edges)) at (c .before .before .before .before .openings-of .ensures) in
+    (λ spans ok. let k = columns a spans ok in k-openings (K a) _ _ (k .0) (k .1) (here a) _ (tallied (c .before .before .before .before .before .before .before .before .before .before .before .before .before)) _ (c .before .before .before .before .before .before .before .before .before .before .before .before .condition-of .ensures) w, w .few)
 
 pub put-openings-spec : {M : Type 1} → statement M
 put-openings-spec =
@@ -104,13 +120,22 @@ put-openings-spec =
     add-end
     mul-end
     shared-slice-read-end
-    tally-between-requires
+    (λ c κs. search needs)
     condition-of-requires
-    returns
     odd-of-requires
+    mul-openings-of
+    sub-openings-of
+    part-openings-of-start
+    part-openings-of-end
     (search needs)
     (search needs)
-    openings-between-requires
+    (search needs)
+    part-openings-of-end-2
     (search needs)
     (search needs)
-    returns-2)
+    part-openings-of-end-3
+    (search needs)
+    openings-of-requires
+    (search needs)
+    (search needs)
+    returns)

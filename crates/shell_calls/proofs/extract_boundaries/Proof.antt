@@ -1,8 +1,9 @@
 -- The openings are those that are written.
 use borrow.Author.Needs.{needs}
 use Prim.Native.Nat.{_-_}
+use mathlib.Core.Bool.{true≢false}
 use mathlib.Core.Path.{_∙_, refl, sym}
-use Rattle.calls.proofs.Answers.{there-fine, there-ready}
+use Rattle.calls.proofs.Answers.{no-shell-apart, refused-apart, there-fine, there-ready}
 use Rattle.lists.specs.Lists.{flat}
 use Rattle.shell_calls.proofs.extract_boundaries.Statement.{statement}
 use Rattle.shell_calls.proofs.extract_boundaries.Tie as tie
@@ -14,11 +15,11 @@ openings-at-requires c κs =
 
 returns : tie.Need-returns
 unfolding flat
-returns c = rw (← c .before .before .before .find-shell .ensures, c .before .found .given .1) (refl, (refl, refl))
+returns c = rw (← c .before .before .before .find-shell .ensures, c .before .found .given .1) (refl, (refl, (refl, λ h. absurd (true≢false (refused-apart _ h)))))
 
 returns-2 : tie.Need-returns-2
 unfolding flat
-returns-2 c = rw (← c .before .before .find-shell .ensures, c .enum-told .given .1) (refl, (refl, refl))
+returns-2 c = rw (← c .before .before .find-shell .ensures, c .enum-told .given .1) (refl, (refl, (refl, λ h. absurd (true≢false (no-shell-apart h)))))
 
 returns-3 : tie.Need-returns-3
 returns-3 c =
@@ -26,7 +27,7 @@ returns-3 c =
     let told = c .before .before .before .before .before .find-shell .ensures in
     let is = c .before .before .before .enum-told2 .given .1 in
     let o = c .openings-at .ensures (s .args .spans .now) (there-fine _ _ (sym told ∙ is)) in
-    rw (← told, is) (rw (o .counts), (o .uses, o .lengths))
+    rw (← told, is) (rw (o .counts), (o .uses, (o .lengths, λ h. o .promised)))
 
 pub extract-boundaries-spec : {M : Type 1} → statement M
 extract-boundaries-spec =

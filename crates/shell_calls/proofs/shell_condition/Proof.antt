@@ -1,4 +1,4 @@
--- The condition is that of the figures of the openings.
+-- The condition is that of the tally.
 use borrow.Author.Needs.{needs}
 use Prim.Native.Nat.{_-_}
 use mathlib.Core.Path.{_∙_, sym}
@@ -6,10 +6,10 @@ use Rattle.calls.proofs.Answers.{there-fine, there-ready}
 use Rattle.shell_calls.proofs.shell_condition.Statement.{statement}
 use Rattle.shell_calls.proofs.shell_condition.Tie as tie
 
-openings-at-requires : tie.Need-openings-at-requires
-openings-at-requires c κs =
-    let s = c .before .before .before .before .before in
-    (there-ready (s .args .t .now) (s .args .spans .now) _ (sym (c .before .before .before .before .find-shell .ensures) ∙ c .before .before .enum-told2 .given .1), search needs)
+condition-at-requires : tie.Need-condition-at-requires
+condition-at-requires c κs =
+    let s = c .before .before .before in
+    there-ready (s .args .t .now) (s .args .spans .now) _ (sym (c .before .before .find-shell .ensures) ∙ c .enum-told2 .given .1)
 
 returns : tie.Need-returns
 returns c = rw (← c .before .before .before .find-shell .ensures, c .before .found .given .1)
@@ -19,11 +19,10 @@ returns-2 c = rw (← c .before .before .find-shell .ensures, c .enum-told .give
 
 returns-3 : tie.Need-returns-3
 returns-3 c =
-    let s = c .before .before .before .before .before .before .before .before in
-    let told = c .before .before .before .before .before .before .before .find-shell .ensures in
-    let is = c .before .before .before .before .before .enum-told2 .given .1 in
-    let o = c .before .before .openings-at .ensures (s .args .spans .now) (there-fine _ _ (sym told ∙ is)) in
-    rw (← told, is, o .counts)
+    let s = c .before .before .before .before in
+    let told = c .before .before .before .find-shell .ensures in
+    let is = c .before .enum-told2 .given .1 in
+    rw (← told, is, ← c .condition-at .ensures (s .args .spans .now) (there-fine _ _ (sym told ∙ is)))
 
 pub shell-condition-spec : {M : Type 1} → statement M
 shell-condition-spec =
@@ -33,9 +32,7 @@ shell-condition-spec =
     (search needs)
     (search needs)
     (search needs)
-    (search needs)
-    (search needs)
-    openings-at-requires
+    condition-at-requires
     returns
     returns-2
     returns-3)

@@ -23,12 +23,12 @@ shared-slice-read-end : tie.Need-shared-slice-read-end
 shared-slice-read-end c = let pre = c .before .before .before .before .before .before .pre in omega (arith, shell-inside (pre .0) (pre .1))
 
 sub-check-shell : tie.Need-sub-check-shell
-sub-check-shell c = let pre = c .before .before .before .before .before .before .before .before .before .before .before .before .before .before .before .before .before .before .pre in shell-listed (pre .0) (pre .1)
+sub-check-shell c = let pre = c .before .before .before .before .before .before .before .before .before .before .before .before .before .before .pre in shell-listed (pre .0) (pre .1) .0
 
 returns : tie.Need-returns
 returns c spans ok =
-    let pre = c .before .before .before .before .before .before .before .before .before .before .before .before .before .before .before .before .before .before .before .pre in
-    errors-found _ _ _ (listings-count (pre .0) (pre .1) spans ok) (c .before .before .before .before .before .before .before .before .before .before .put-openings .ensures .0 spans ok .counts) (c .before .before .before .before .put-groups .ensures spans ok .counts) (c .check-shell .ensures)
+    let pre = c .before .before .before .before .before .before .before .before .before .before .before .before .before .before .before .pre in
+    errors-found _ _ _ (listings-count (pre .0) (pre .1) spans ok) (c .before .before .before .before .before .before .before .before .condition-in .ensures spans ok) (c .before .before .before .before .put-groups .ensures spans ok .counts) (c .check-shell .ensures)
 
 pub shell-check-spec : {M : Type 1} → statement M
 shell-check-spec =
@@ -39,8 +39,6 @@ shell-check-spec =
     add-end
     mul-end
     shared-slice-read-end
-    (search needs)
-    (search needs)
     (λ c κs. search needs)
     (search needs)
     (search needs)

@@ -34,7 +34,7 @@ starts-of-requires c κs = rw (c .counts-in .ensures) (few (c .before .before .b
 returns : tie.Need-returns
 returns c =
     let s = c .before .before .before .before .before in
-    write-short (fileBytes (content (P s))) (s .args .out .now) [] refl (omega (arith, end (c .before), c .if1 .taken))
+    write-short (fileBytes (content (P s))) (s .args .out .now) [] refl _ (omega (arith, end (c .before), c .if1 .taken)) (end (c .before))
 
 write-content-requires : tie.Need-write-content-requires
 write-content-requires c κs =
@@ -48,5 +48,5 @@ returns-2 c =
     write-whole (fileBytes (content (P s))) (s .args .out .now) [] refl _ _ (omega (arith, end at, c .before .before .before .before .if1 .left)) (end at) (c .before .before .write-content .ensures)
 
 pub put-file-spec : {M : Type 1} → statement M
-put-file-spec = tie.close (tie.spec (search needs) (search needs) starts-of-requires (search needs) returns write-content-requires (search needs) (search needs)
-    returns-2)
+put-file-spec = tie.close (tie.spec (search needs) (search needs) starts-of-requires (search needs) (search needs) returns write-content-requires (search needs)
+    (search needs) returns-2)

@@ -1,0 +1,4 @@
+pub mod Fitting
+pub mod Files
+pub mod CutTheorem
+pub mod JoinTheorem

@@ -1,0 +1,1 @@
+// The edits on files hold what the edits of patterns promise: theorems, no code.
