@@ -2,10 +2,7 @@
 ghost use mathlib.Core.Path.{_≡_};
 ghost use Prim.Native.Nat.{_+_, _<_, _≤_};
 ghost use lib.ListN.{length, getD, take};
-ghost use Rattle.lists.specs.Lists.{split, sum};
 ghost use Rattle.errors.specs.Faults.{first as firstFault, each};
-ghost use Rattle.wire.specs.Named.{Named};
-ghost use Rattle.face.specs.Faces.{faceRule};
 ghost use Rattle.pattern.specs.Contents.{layout};
 ghost use Rattle.pattern.specs.Checks.{countFaults, edgeFaults, nameFaults, sumFaults};
 ghost use Rattle.pattern.specs.Columns.{Checkable, columnFaults, listFaults};
@@ -132,33 +129,6 @@ fn check_lists<'a>(
         .and_then(check_names(listings, lcount, 6, fcount))
 }
 
-// The face rule over the first records of the tables.
-fn check_tables<'a>(
-    uses: &'a [u16],
-    ucount: usize,
-    wires: &'a [u16],
-    wcount: usize,
-    counts: &[u16],
-    fcount: usize,
-    fronts: &[u16],
-    backs: &[u16],
-    ecount: usize,
-) -> Check
-    requires { ⌜ (ucount ≤ length (now uses)) × (wcount ≤ length (now wires)) × (wcount ≤ 1024) × (fcount ≤ length (now counts)) × (fcount ≤ 256) × (ecount ≤ length (now fronts)) × (ecount ≤ length (now backs)) ⌝ }
-    requires { ⌜ Named (take ecount (now fronts)) (take ecount (now backs)) (take ucount (now uses)) ⌝ }
-    requires { ⌜ (sum (take fcount (now counts)) ≡ wcount) × (sum (take wcount (now wires)) ≡ ucount) ⌝ }
-    ensures { λ r. ⌜ r ≡ firstFault (faceRule (take ecount (now (fronts .entry))) (take ecount (now (backs .entry))) 0 (split (take fcount (now (counts .entry))) (split (take wcount (now (wires .entry))) (take ucount (now (uses .entry)))))) ⌝ }
-{
-    check_faces(
-        &uses[0..ucount],
-        &wires[0..wcount],
-        counts,
-        fcount,
-        &fronts[0..ecount],
-        &backs[0..ecount],
-    )
-}
-
 // The reading checks after those of the edges, on columns: the other records, the face rule. Of each
 // column the first numbers count; `faces` has the faces' numbers of wires.
 pub fn check_columns<'a>(
@@ -195,16 +165,13 @@ pub fn check_columns<'a>(
     );
     match records {
         Check::Refused(f) => Check::Refused(f),
-        Check::Accepted => check_tables(
-            uses,
-            ucount,
-            wires,
-            wcount,
+        Check::Accepted => check_faces(
+            &uses[0..ucount],
+            &wires[0..wcount],
             faces,
             fcount,
-            fronts,
-            backs,
-            ecount,
+            &fronts[0..ecount],
+            &backs[0..ecount],
         ),
     }
 }
