@@ -3,4 +3,5 @@ pub mod Ready
 pub mod Alike
 pub mod Groups
 pub mod Columned
+pub mod Closed
 pub mod Openings

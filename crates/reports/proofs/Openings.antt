@@ -16,15 +16,16 @@ use Rattle.condition.specs.declared.Tally.{Tally}
 use Rattle.edge.specs.Edges.{backNumber, frontNumber}
 use Rattle.edge.specs.Uses.{backOf, frontOf}
 use Rattle.extract.proofs.Free.{tally-free}
-use Rattle.extract.specs.Listings.{AllTally, AllWalk, Extractable, Written, noUses}
+use Rattle.extract.specs.Listings.{AllTally, AllWalk, Extractable, Written, noUses, nowhere}
 use Rattle.listing.proofs.Laws.{Placed}
 use Rattle.lists.proofs.Count.{All, all-weaker}
-use Rattle.lists.specs.Lists.{tabulate}
+use Rattle.lists.specs.Lists.{flat, tabulate}
 use Rattle.openings.specs.declared.Walked.{Walked}
 use Rattle.pattern.proofs.Counts.{edges-counted, points-counted}
 use Rattle.pattern.specs.Contents.{Pattern, content}
 use Rattle.reports.proofs.Columned.{backs-are, fronts-are, points-are}
 use Rattle.reports.proofs.Ready.{all-tally, all-walk, shell-placed, use-front, uses-are}
+use Rattle.reports.proofs.Closed.{closed-walk}
 use Rattle.reports.specs.Figures.{Opened}
 use Rattle.reports.specs.InHand.{listingsIn, usesIn}
 use Rattle.shell.proofs.Level.{IsUse}
@@ -104,6 +105,13 @@ module _ (k : Columns) (n : ℕ) (p : Pattern) (s : Sound p) (e : k ≡ columnsI
     -- the walk, from the columns
     abbrev walked : Walk
     walked = walkOf front back (k .points) (usesIn k n)
+
+    pub k-closed : (w : Condition) → w .0 ≡ conditionIn t (k .edges) → w .0 ≡ 3 → (out₀ lens₀ : List ℕ)
+        → Written walked out₀ lens₀ out₀ lens₀ nowhere
+    unfolding flat
+    k-closed w is closed out₀ lens₀ =
+        rw (closed-walk front back (k .points) (usesIn k n) (ap condition k-uses ∙ sym k-condition ∙ sym is ∙ closed))
+        (record { uses = refl; lengths = refl; place = refl; number = refl; asked = refl; few = (omega arith, omega arith, omega arith) })
 
     module _ (w : Condition) (is : w .0 ≡ conditionIn t (k .edges)) {out₀ lens₀ out lens : List ℕ} {r : Walked} (h : Written walked out₀ lens₀ out lens r) where
       walk-is : Written (shellWalk (content p) n) out₀ lens₀ out lens r

@@ -109,6 +109,15 @@ pub fn put_openings<'a>(
     let end = places[n + 1];
     let tally = shell_tally(t, turned, starts, firsts, places, n);
     let condition = condition_of(tally, edges);
+    if condition.is(Condition::CLOSED) {
+        // a Closed shell has no openings
+        return OpeningCounts {
+            condition,
+            openings: 0,
+            used: 0,
+            lookups: 0,
+        };
+    }
     let odd = odd_of(tally, edges);
     let w = openings_of(
         &listings[first..end],

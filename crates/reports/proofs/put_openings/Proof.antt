@@ -1,5 +1,6 @@
 -- The tally gives the condition and which uses are free; the walk along these is that of the shell.
 use borrow.Author.Needs.{needs}
+use borrow.Author.Tests.{eqb-true}
 use native.Mathlib.Omega.{arith}
 use Prim.Native.Nat.{_≤_, _<_, _+_}
 use lib.ListN.{length, getD}
@@ -10,7 +11,7 @@ use Rattle.columns.specs.Columns.{Columns, columnsIn, lent}
 use Rattle.columns.specs.Sound.{OfTables, Sound}
 use Rattle.store.specs.Store.{countTable, held, wireTable}
 use Rattle.reports.proofs.Columned.{edges-inside, in-hand, in-hand-lent, inHand, in-places, shell-inside}
-use Rattle.reports.proofs.Openings.{edges-few, k-extractable, k-openings, k-walk}
+use Rattle.reports.proofs.Openings.{edges-few, k-closed, k-extractable, k-openings, k-walk}
 use Rattle.condition.specs.Tallies.{insertedAll}
 use Rattle.extract.specs.Listings.{noUses}
 use Rattle.reports.specs.InHand.{usesIn}
@@ -68,42 +69,51 @@ tallied c = c .shell-tally .ensures ∙ ap (λ (k : Columns). insertedAll noUses
 condition-of-requires : tie.Need-condition-of-requires
 condition-of-requires c κs = let k = own (c .before .before .before) in edges-few (K (c .before .before .before)) _ _ (k .0) (k .1) (here (c .before .before .before))
 
+-- a Closed shell has no openings
+returns : tie.Need-returns
+returns c =
+    let a = c .before .before .before .before .before .before in
+    let t = tallied (c .before .before .before) in
+    let i = c .before .before .condition-of .ensures in
+    let closed : c .before .before .condition-of .result .0 ≡ 3 = eqb-true _ 3 (sym (c .before .is .ensures) ∙ c .if1 .taken) in
+    (λ spans ok. let k = columns a spans ok in k-openings (K a) _ _ (k .0) (k .1) (here a) _ t _ i (k-closed (K a) _ _ (k .0) (k .1) (here a) _ t _ i closed _ _), (omega arith, omega arith, omega arith))
+
 odd-of-requires : tie.Need-odd-of-requires
-odd-of-requires c κs = let k = own (c .before .before .before .before) in edges-few (K (c .before .before .before .before)) _ _ (k .0) (k .1) (here (c .before .before .before .before))
+odd-of-requires c κs = let k = own (c .before .before .before .before .before .before) in edges-few (K (c .before .before .before .before .before .before)) _ _ (k .0) (k .1) (here (c .before .before .before .before .before .before))
 
 abbrev listed : (c : tie.After-listings-in) → (getD (K c .places) (begun c .args .n) 0 ≤ getD (K c .places) (begun c .args .n + 1) 0) × (getD (K c .places) (begun c .args .n + 1) 0 ≤ length (K c .listings))
 listed c = let k = own c in in-places (K c) _ _ (k .0) (k .1) (here c)
 
 mul-openings-of : tie.Need-mul-openings-of
-mul-openings-of c = omega (arith, listed (c .before .before .before .before .before))
+mul-openings-of c = omega (arith, listed (c .before .before .before .before .before .before .before))
 
 sub-openings-of : tie.Need-sub-openings-of
-sub-openings-of c = omega (arith, listed (c .before .before .before .before .before))
+sub-openings-of c = omega (arith, listed (c .before .before .before .before .before .before .before))
 
 part-openings-of-start : tie.Need-part-openings-of-start
-part-openings-of-start c = omega (arith, listed (c .before .before .before .before .before))
+part-openings-of-start c = omega (arith, listed (c .before .before .before .before .before .before .before))
 
 part-openings-of-end : tie.Need-part-openings-of-end
-part-openings-of-end c = omega (arith, listed (c .before .before .before .before .before))
+part-openings-of-end c = omega (arith, listed (c .before .before .before .before .before .before .before))
 
 part-openings-of-end-2 : tie.Need-part-openings-of-end-2
-part-openings-of-end-2 c = let a = c .before .before .before .before .before .before .before in let k = own a in edges-inside (K a) _ _ (k .0) (k .1) (here a) .0
+part-openings-of-end-2 c = let a = c .before .before .before .before .before .before .before .before .before in let k = own a in edges-inside (K a) _ _ (k .0) (k .1) (here a) .0
 
 part-openings-of-end-3 : tie.Need-part-openings-of-end-3
-part-openings-of-end-3 c = let a = c .before .before .before .before .before .before .before .before in let k = own a in edges-inside (K a) _ _ (k .0) (k .1) (here a) .1
+part-openings-of-end-3 c = let a = c .before .before .before .before .before .before .before .before .before .before in let k = own a in edges-inside (K a) _ _ (k .0) (k .1) (here a) .1
 
 openings-of-requires : tie.Need-openings-of-requires
 openings-of-requires c κs =
-    let a = c .before .before .before .before .before .before .before .before .before .before .before in
+    let a = c .before .before .before .before .before .before .before .before .before .before .before .before .before in
     let k = own a in
     let room = begun a .pre .1 in
-    rw (sub-zero _) (k-walk (K a) _ _ (k .0) (k .1) (here a), k-extractable (K a) _ _ (k .0) (k .1) (here a) _ (tallied (c .before .before .before .before .before .before .before .before)) _ _ _ (c .before .before .before .before .before .before .odd-of .ensures) (room .0) (room .1))
+    rw (sub-zero _) (k-walk (K a) _ _ (k .0) (k .1) (here a), k-extractable (K a) _ _ (k .0) (k .1) (here a) _ (tallied (c .before .before .before .before .before .before .before .before .before .before)) _ _ _ (c .before .before .before .before .before .before .odd-of .ensures) (room .0) (room .1))
 
-returns : tie.Need-returns
-returns c =
-    let a = c .before .before .before .before .before .before .before .before .before .before .before .before .before .before .before .before in
+returns-2 : tie.Need-returns-2
+returns-2 c =
+    let a = c .before .before .before .before .before .before .before .before .before .before .before .before .before .before .before .before .before .before in
     let w = rw (sub-zero (K a .edges)) at (c .before .before .before .before .openings-of .ensures) in
-    (λ spans ok. let k = columns a spans ok in k-openings (K a) _ _ (k .0) (k .1) (here a) _ (tallied (c .before .before .before .before .before .before .before .before .before .before .before .before .before)) _ (c .before .before .before .before .before .before .before .before .before .before .before .before .condition-of .ensures) w, w .few)
+    (λ spans ok. let k = columns a spans ok in k-openings (K a) _ _ (k .0) (k .1) (here a) _ (tallied (c .before .before .before .before .before .before .before .before .before .before .before .before .before .before .before)) _ (c .before .before .before .before .before .before .before .before .before .before .before .before .before .before .condition-of .ensures) w, w .few)
 
 pub put-openings-spec : {M : Type 1} → statement M
 put-openings-spec =
@@ -122,6 +132,8 @@ put-openings-spec =
     shared-slice-read-end
     (λ c κs. search needs)
     condition-of-requires
+    (search needs)
+    returns
     odd-of-requires
     mul-openings-of
     sub-openings-of
@@ -138,4 +150,4 @@ put-openings-spec =
     openings-of-requires
     (search needs)
     (search needs)
-    returns)
+    returns-2)
