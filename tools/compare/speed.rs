@@ -15,66 +15,10 @@ use std::hint::black_box;
 
 // ------------------------------------------------------------------- files
 
-/// A coat, each piece by the points of its outline; neighbours run against each other along
-/// their seam. l and r begin the points of the left and the right side.
-const LEFT: [&str; 5] = [
-    "lneck lhem lside lunder lnotch lshoulder lcollar", // front
-    "lunder lside lback lbackunder",                    // side panel
-    "lshoulder lnotch lcuff1 lcuff2 lbackunder",        // upper sleeve
-    "lnotch lunder lbackunder lcuff2 lcuff3 lcuff1",    // under sleeve
-    "lhem lneck lfacing1 lfacing2",                     // facing
-];
-const MIDDLE: [&str; 3] = [
-    "lbackunder lback rback rbackunder rshoulder rcollar lcollar lshoulder", // back
-    "lneck lcollar rcollar rneck rpoint lpoint",                             // upper collar
-    "lneck lpoint rpoint rneck",                                             // under collar
-];
-const FLAP: &str = "lflap1 lflap2 lflap3";
-
-fn mirrored(piece: &str) -> String {
-    let points = piece.split(' ').rev().map(|point| format!("r{}", &point[1..]));
-    points.collect::<Vec<_>>().join(" ")
-}
-
-/// 15 pieces and 50 seam lines; each pocket flap is a shell of its own.
+/// The coat of the samples; tools/compare/run starts this program at the repository's root.
 fn coat() -> Draft {
-    let mut pieces: Vec<String> = LEFT.map(String::from).into();
-    pieces.extend(LEFT.map(mirrored));
-    pieces.extend(MIDDLE.map(String::from));
-    pieces.extend([FLAP.to_string(), mirrored(FLAP)]);
-    let mut points: Vec<&str> = Vec::new();
-    let mut seams: Vec<(u16, u16)> = Vec::new();
-    let mut faces = Vec::new();
-    for piece in &pieces {
-        let mut corners = Vec::new();
-        for point in piece.split(' ') {
-            let known = points.iter().position(|other| *other == point);
-            corners.push(known.unwrap_or(points.len()) as u16);
-            if known.is_none() {
-                points.push(point);
-            }
-        }
-        let mut wire = Vec::new();
-        for (k, a) in corners.iter().enumerate() {
-            let b = corners[(k + 1) % corners.len()];
-            match seams.iter().position(|seam| *seam == (b, *a)) {
-                Some(seam) => wire.push(seam as u16 + REVERSED),
-                None => {
-                    wire.push(seams.len() as u16);
-                    seams.push((*a, b));
-                }
-            }
-        }
-        faces.push(Face { surface: 1, wires: vec![wire] });
-    }
-    assert_eq!((faces.len(), seams.len()), (15, 50));
-    let edge = |(front, back)| Edge { front, back, t0: 0.0, t1: 1.0 };
-    Draft {
-        points: (0..points.len() as u32).collect(),
-        edges: seams.into_iter().map(edge).collect(),
-        faces,
-        shells: vec![(0..13).collect(), vec![13], vec![14]],
-    }
+    let file = std::fs::read("samples/coat.pattern").expect("samples/coat.pattern");
+    Draft::parse(&file).expect("a pattern file")
 }
 
 /// One shell of 256 faces, each with two outlines of two edges.

@@ -1,4 +1,4 @@
--- Wires in a line, and the line of a refused job.
+-- Wires in a line, and the line of a refused job (docs/GUIDE.md, Edits).
 use Prim.Native.Nat.{ℕ}
 use mathlib.Core.List.{List, _++_, map}
 use lib.Dec.{eqb}

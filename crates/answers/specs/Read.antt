@@ -1,4 +1,4 @@
--- A call on a pattern file: the reading checks answer first; then the call on the pattern.
+-- A call on a pattern file: the reading checks answer first; then the call on the pattern (FORMAT 6.2).
 use mathlib.Core.List.{List, []}
 use Rattle.answers.specs.Values.{unread}
 use Rattle.answers.specs.declared.Answer.{Answer}

@@ -1,4 +1,4 @@
--- The answers as numbers, for callers outside the library: what each answer replies, in six numbers.
+-- The answers as numbers, for callers outside the library: what each answer replies, in six numbers (FORMAT 6.2).
 use Prim.Native.Nat.{ℕ}
 use mathlib.Core.List.{[], _∷_}
 use lib.Dec.{eqb}

@@ -1,5 +1,5 @@
-// Answers as numbers, for callers outside the library: how a call ended, document 01's number of the
-// refusal, and the values.
+// Answers as numbers, for callers outside the library: how a call ended, the number of the
+// refusal, and the values (docs/FORMAT.md 6.2).
 ghost use mathlib.Core.Path.{_≡_};
 ghost use Rattle.answers.specs.Values.{checkValues, cutValues, done, faceValues, figureValues, joinValues, placeValues, refused as refusedAnswer, solidValues, unread as unreadAnswer, writtenValues};
 use calls::FigureAnswer;

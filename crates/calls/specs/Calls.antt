@@ -1,4 +1,4 @@
--- The calls on a shell of a pattern: the reading checks first, then 3 for a shell that does not exist.
+-- The calls on a shell of a pattern: the reading checks first, then 3 for a shell that does not exist (FORMAT 6.2).
 use Prim.Native.Nat.{ℕ}
 use mathlib.Core.List.{List, [], _∷_}
 use lib.Dec.{ltb}

@@ -1,4 +1,4 @@
--- Cutting a curve at a parameter, and joining two (the Rust's Edge::cut and Edge::concat).
+-- Cutting a curve at a parameter, and joining two (the Rust's Edge::cut and Edge::concat): FORMAT 4.1, 4.2.
 use Prim.Native.Nat.{ℕ}
 use mathlib.Core.Bool.{Bool, true, false, not, _||_}
 use lib.Ieee.{Float, nan, inf, fin, binary64, ofBits, nanBits, add, sub, lt}

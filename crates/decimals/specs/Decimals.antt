@@ -1,4 +1,4 @@
--- The ends of spans and parameters as words: a decimal, or 0x and the f64's 16 hexadecimal digits.
+-- The ends of spans and parameters as words: a decimal, or 0x and the f64's 16 hexadecimal digits (docs/GUIDE.md, A first garment by hand).
 use Prim.Native.Nat.{ℕ, suc, zero, _+_, _-_, _*_, _/_, _%_, _^_}
 use mathlib.Core.Bool.{Bool, true, false, _&&_, _||_}
 use mathlib.Core.List.{List, [], _∷_, _++_}

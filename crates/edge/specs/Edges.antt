@@ -1,4 +1,4 @@
--- The edge record: two ends, which are point numbers, and the span of its curve.
+-- The edge record: two ends, which are point numbers, and the span of its curve (FORMAT 1.5).
 use Prim.Native.Nat.{ℕ}
 use mathlib.Core.Bool.{Bool, _&&_}
 use lib.Ieee.{Float, binary64, ofBits, neg, le, lt}

@@ -1,4 +1,4 @@
--- A use of an edge: the edge's number, plus 32,768 if reversed.
+-- A use of an edge: the edge's number, plus 32,768 if reversed (FORMAT 1.6).
 use Prim.Native.Nat.{ℕ, _+_, _-_, _%_}
 use mathlib.Core.List.{List}
 use lib.Dec.{leb}

@@ -1,4 +1,4 @@
--- Checks in sequence: the list of all faults, of which the first is the answer.
+-- Checks in sequence: the list of all faults, of which the first is the answer (FORMAT 2.1).
 use Prim.Native.Nat.{ℕ, suc}
 use mathlib.Core.List.{List, [], _∷_, _++_}
 use Rattle.errors.specs.declared.Refusal.{Refusal}

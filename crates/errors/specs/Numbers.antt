@@ -1,4 +1,4 @@
--- Number, body and record of each refusal, as document 01 gives them; what an answer says in numbers.
+-- Number, body and record of each refusal (FORMAT 2.2, 6.1); what an answer says in numbers (FORMAT 6.2).
 use Prim.Native.Nat.{ℕ}
 use mathlib.Core.List.{List, [], _∷_}
 use Rattle.errors.specs.declared.Check.{Check}
@@ -39,7 +39,7 @@ recordNumber (Span k) = k
 recordNumber (SameVertex k) = k
 recordNumber (Wire k e) = k
 
--- ---- an answer in numbers: how the call ended (0 done, 1 refused by the reading checks, 2 refused by the call itself), document 01's number, 0 if done, and the values
+-- ---- an answer in numbers: how the call ended (0 done, 1 refused by the reading checks, 2 refused by the call itself), the refusal's number, 0 if done, and the values
 pub record Reply : Type 0 where
   pub outcome : ℕ
   pub number : ℕ

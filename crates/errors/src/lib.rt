@@ -1,4 +1,4 @@
-// The refusals of document 01 with their values (the Rust's errors.rs).
+// The refusals of the reading checks with their values (docs/FORMAT.md 2.2; the Rust's errors.rs).
 ghost use mathlib.Core.Path.{_≡_};
 ghost use Rattle.errors.specs.Numbers.{wireNumber, number, body, recordNumber};
 ghost use Rattle.errors.specs.Sequence.{andThen};

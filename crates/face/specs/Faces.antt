@@ -1,4 +1,4 @@
--- The face, a piece of document 01, and the face rule (Face::try_new).
+-- The face, a piece of the garment, and the face rule (Face::try_new): FORMAT 2.3.
 use Prim.Native.Nat.{ℕ, suc, _+_}
 use mathlib.Core.List.{List, [], _∷_, _++_, map}
 use lib.ListN.{length}

@@ -1,4 +1,4 @@
--- What each edit of a face answers, and the wires that it writes. The reading checks come first; refused, nothing is written.
+-- What each edit of a face answers, and the wires that it writes. The reading checks come first; refused, nothing is written (FORMAT 5.1).
 use Prim.Native.Nat.{ℕ}
 use mathlib.Core.List.{List, []}
 use lib.ListN.{length}

@@ -1,4 +1,4 @@
--- The edits of a face: add an outline (try_add_boundary), cut a face (cut_by_wire), glue (glue_at_boundaries). They make wires, and change nothing stored. A face is given with a sign, as a listing: its number, plus 32,768 if reversed.
+-- The edits of a face: add an outline (try_add_boundary), cut a face (cut_by_wire), glue (glue_at_boundaries). They make wires, and change nothing stored (FORMAT 5). A face is given with a sign, as a listing: its number, plus 32,768 if reversed.
 use Prim.Native.Nat.{ℕ, suc, _/_}
 use mathlib.Core.Bool.{Bool, true, false, _&&_}
 use mathlib.Core.List.{List, [], _∷_, _++_, map, reverse}

@@ -1,4 +1,4 @@
--- What the theorems on the edits of a face speak of, beside the edits.
+-- What the theorems on the edits of a face speak of, beside the edits (FORMAT 5).
 use Prim.Native.Nat.{ℕ}
 use mathlib.Core.Bool.{false, not}
 use mathlib.Core.List.{List, []}

@@ -1,4 +1,4 @@
--- The file of a pattern after an edit that makes one edge.
+-- The file of a pattern after an edit that makes one edge (FORMAT 6.2).
 use Prim.Native.Nat.{ℕ}
 use mathlib.Core.List.{List}
 use Rattle.edit_answers.specs.declared.JoinAnswer.the-variants.{Joined, Not, Refused}

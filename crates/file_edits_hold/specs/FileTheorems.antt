@@ -1,4 +1,4 @@
--- What the theorems on the edits of a file speak of.
+-- What the theorems on the edits of a file speak of (FORMAT 4, 6.2).
 use Prim.Native.Nat.{ℕ, _<_, _≤_}
 use mathlib.Core.List.{List, []}
 use mathlib.Core.Path.{_≡_}

@@ -1,4 +1,4 @@
--- The edits of a face on a pattern file, given by its bytes: what is answered, and the wires that are written. m and k are the lengths of the lent lists of uses and of wire lengths.
+-- The edits of a face on a pattern file, given by its bytes: what is answered, and the wires that are written (FORMAT 5, 6.2). m and k are the lengths of the lent lists of uses and of wire lengths.
 use Prim.Native.Nat.{ℕ}
 use mathlib.Core.List.{List}
 use Rattle.answers.specs.Read.{ifRead, whenRead}

@@ -1,4 +1,4 @@
--- Reading, writing and each report on a pattern file, given by its bytes: what is answered, what is written.
+-- Reading, writing and each report on a pattern file, given by its bytes: what is answered, what is written (FORMAT 1.8, 3, 6.2).
 use Prim.Native.Nat.{ℕ, _<_}
 use mathlib.Core.List.{List, []}
 use mathlib.Core.Path.{_≡_}

@@ -1,4 +1,4 @@
--- The form of a line: what each of its words after the first must be.
+-- The form of a line: what each of its words after the first must be (docs/GUIDE.md, A first garment by hand and Edits).
 use Prim.Native.Nat.{ℕ, suc, _+_, _*_}
 use mathlib.Core.List.{List, [], _∷_}
 use lib.Dec.{eqb, leb, ltb}

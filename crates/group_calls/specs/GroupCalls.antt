@@ -1,4 +1,4 @@
--- The calls that ask for the groups of a shell of a pattern.
+-- The calls that ask for the groups of a shell of a pattern (FORMAT 3.5 to 3.7, 6.2).
 use Prim.Native.Nat.{ℕ}
 use mathlib.Core.List.{List}
 use lib.ListN.{length}

@@ -1,4 +1,4 @@
--- Groups of linked members: what they mean, and an executable definition. Members are numbers below n.
+-- Groups of linked members: what they mean, and an executable definition (FORMAT 3.5 to 3.7). Members are numbers below n.
 use Prim.Native.Nat.{ℕ, _<_}
 use mathlib.Core.Bool.{Bool, true, _&&_}
 use mathlib.Core.List.{List, [], _∷_, map, List·Memᴰ}

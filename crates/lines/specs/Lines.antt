@@ -1,4 +1,4 @@
--- The lines that `report` prints of a shell. All numbers are decimal.
+-- The lines that `report` prints of a shell (FORMAT 3.1). All numbers are decimal.
 use Prim.Native.Nat.{ℕ, _%_}
 use Prim.Native.String.{String}
 use mathlib.Core.Bool.{Bool}

@@ -1,5 +1,5 @@
 -- The parts of the lines of a shell and of a solid, where a word is given by its bytes, and what
--- `put_shell` requires.
+-- `put_shell` requires (FORMAT 3.1).
 use Prim.Native.Nat.{ℕ, _+_, _<_, _≤_}
 use mathlib.Core.Bool.{Bool}
 use mathlib.Core.List.{List, _++_, map}

@@ -1,4 +1,4 @@
--- What the programs print, as bytes.
+-- What the programs print, as bytes: numbers, and the line of a refused file (FORMAT 3.1).
 use Prim.Native.Nat.{ℕ, zero, suc, _+_, _/_, _%_}
 use Prim.Native.Char.{code}
 use Prim.Native.String.{String, [] as []ₛ, _∷_ as _∷ₛ_}

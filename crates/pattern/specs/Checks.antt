@@ -1,4 +1,4 @@
--- The reading checks, in sequence, from the counts on.
+-- The reading checks, in sequence, from the counts on (FORMAT 2.2).
 use Prim.Native.Nat.{ℕ, _%_}
 use mathlib.Core.Bool.{not, _&&_}
 use mathlib.Core.List.{List, _++_, map}

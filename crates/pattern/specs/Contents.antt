@@ -1,4 +1,4 @@
--- A pattern: seven bodies, each a list of records. Its storage holds every limit in full.
+-- A pattern: seven bodies, each a list of records (FORMAT 1.3). Its storage holds every limit in full.
 use Prim.Native.Nat.{ℕ}
 use mathlib.Core.List.{List, [], _∷_}
 use lib.Ieee.{binary64, ofBits}

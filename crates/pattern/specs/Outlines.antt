@@ -1,4 +1,4 @@
--- Asked for an outline: where its uses stand in the use list.
+-- Asked for an outline: where its uses stand in the use list (FORMAT 1.8).
 use Prim.Native.Nat.{ℕ}
 use mathlib.Core.List.{List, [], _∷_}
 use lib.Dec.{ltb}

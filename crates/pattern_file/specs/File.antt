@@ -1,4 +1,4 @@
--- The pattern file: a contents table, seven entries of offset and count; then, without gaps, the bodies.
+-- The pattern file: a contents table, seven entries of offset and count; then, without gaps, the bodies (FORMAT 1.2, 1.3); its reading checks (FORMAT 2.2).
 use Prim.Native.Nat.{ℕ, _+_, _*_}
 use mathlib.Core.Bool.{_&&_}
 use mathlib.Core.List.{List, [], _∷_, _++_, map}

@@ -1,4 +1,4 @@
--- What `report` prints, for every file.
+-- What `report` prints, for every file (FORMAT 3.1).
 use Prim.Native.Nat.{ℕ}
 use mathlib.Core.List.{List, [], _∷_, _++_, map}
 use mathlib.Core.Path.{_≡_}

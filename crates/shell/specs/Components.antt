@@ -1,4 +1,4 @@
--- Components (connected_components): face and sign pairs linked by a shared edge.
+-- Components (connected_components): face and sign pairs linked by a shared edge (FORMAT 3.6).
 use Prim.Native.Nat.{ℕ}
 use mathlib.Core.Bool.{Bool, not}
 use mathlib.Core.List.{List, [], map}

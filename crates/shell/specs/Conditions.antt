@@ -1,4 +1,4 @@
--- The condition of a shell (shell_condition), over its uses: Irregular 0, Regular 1, Oriented 2, Closed 3.
+-- The condition of a shell (shell_condition), over its uses: Irregular 0, Regular 1, Oriented 2, Closed 3 (FORMAT 3.3).
 use Prim.Native.Nat.{ℕ}
 use mathlib.Core.List.{List}
 use lib.Dec.{eqb, leb, ltb}

@@ -1,4 +1,4 @@
--- Connected (is_connected): the points of the uses, linked by edges and by the first points of neighbouring wires of one face, form at most one group. No points: yes.
+-- Connected (is_connected): the points of the uses, linked by edges and by the first points of neighbouring wires of one face, form at most one group. No points: yes (FORMAT 3.5).
 use Prim.Native.Nat.{ℕ}
 use mathlib.Core.Bool.{Bool}
 use mathlib.Core.List.{List, _++_, map}

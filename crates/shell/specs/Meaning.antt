@@ -1,4 +1,4 @@
--- What connected, components and singular points mean, by chains of points, of pairs and of edges.
+-- What connected, components and singular points mean, by chains of points, of pairs and of edges (FORMAT 3.5 to 3.7).
 use Prim.Native.Nat.{ℕ, suc, _<_}
 use mathlib.Core.Bool.{true}
 use mathlib.Core.List.{List, [], _∷_, map, List·Memᴰ}

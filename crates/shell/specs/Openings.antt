@@ -1,4 +1,4 @@
--- The openings of a shell (extract_boundaries): the walk along its free uses.
+-- The openings of a shell (extract_boundaries): the walk along its free uses (FORMAT 3.4).
 use Prim.Native.Nat.{ℕ, zero, suc, _+_, _%_}
 use mathlib.Core.Bool.{Bool}
 use mathlib.Core.List.{List, [], _∷_, map}

@@ -1,4 +1,4 @@
--- What holds of the openings of shell n of a pattern.
+-- What holds of the openings of shell n of a pattern (FORMAT 3.4).
 use Prim.Native.Nat.{ℕ, _*_, _+_, _≤_}
 use mathlib.Core.Bool.{Bool, true}
 use mathlib.Core.List.{[], map}

@@ -1,4 +1,4 @@
--- A shell that is the same in two patterns.
+-- A shell that is the same in two patterns: all that is reported of it is the same (FORMAT 3).
 use Prim.Native.Nat.{ℕ}
 use mathlib.Core.List.{map}
 use mathlib.Core.Path.{_≡_}

@@ -1,4 +1,4 @@
--- The shell, a garment of document 01: listings of faces, in sequence.
+-- The shell, a garment: listings of faces, in sequence (FORMAT 1.7).
 use Prim.Native.Nat.{ℕ, _%_}
 use mathlib.Core.List.{List, [], map, reverse}
 use lib.Dec.{leb}

@@ -1,4 +1,4 @@
--- Singular points (singular_vertices): points where the edges, linked when neighbours on a wire there, fall into more than one group.
+-- Singular points (singular_vertices): points where the edges, linked when neighbours on a wire there, fall into more than one group (FORMAT 3.7).
 use Prim.Native.Nat.{ℕ, _*_, _+_}
 use mathlib.Core.Bool.{Bool, not}
 use mathlib.Core.List.{List, [], _∷_, _++_, map}

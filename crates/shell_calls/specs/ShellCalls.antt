@@ -1,4 +1,4 @@
--- The calls that ask for the condition and the openings of a shell of a pattern.
+-- The calls that ask for the condition and the openings of a shell of a pattern (FORMAT 3.3, 3.4, 6.2).
 use Prim.Native.Nat.{ℕ}
 use mathlib.Core.List.{List}
 use mathlib.Core.Path.{_≡_}

@@ -1,4 +1,4 @@
--- What the theorems on what a cut keeps speak of, beside the edits.
+-- What the theorems on what a cut keeps speak of, beside the edits (FORMAT 4.2).
 use Prim.Native.Nat.{ℕ}
 use mathlib.Core.List.{List, [], _∷_, map}
 use mathlib.Core.Path.{_≡_}

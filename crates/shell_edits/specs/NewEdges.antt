@@ -1,4 +1,4 @@
--- The new edges of a cut and of a join, from whole edges.
+-- The new edges of a cut and of a join, from whole edges (FORMAT 4.1 to 4.4).
 use Prim.Native.Nat.{ℕ}
 use mathlib.Core.Bool.{Bool, true, false}
 use mathlib.Core.List.{List, [], _∷_}

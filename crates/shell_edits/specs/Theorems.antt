@@ -1,4 +1,4 @@
--- What the theorems on the edits speak of, beside the edits.
+-- What the theorems on the edits speak of, beside the edits (FORMAT 4).
 use Prim.Native.Nat.{ℕ, _+_}
 use mathlib.Core.Bool.{Bool, false, not, _&&_}
 use mathlib.Core.List.{List, [], _∷_, _++_, map}

@@ -1,4 +1,4 @@
--- The solid (Solid::try_new): each shell in turn, 10, 11, 12, 13.
+-- The solid (Solid::try_new): each shell in turn, 10, 11, 12, 13 (FORMAT 3.8).
 use Prim.Native.Nat.{ℕ}
 use mathlib.Core.Bool.{Bool}
 use mathlib.Core.List.{List, [], _∷_, _++_, map}

@@ -1,4 +1,4 @@
--- The solid of a pattern in storage: the reading checks first, then each shell in turn.
+-- The solid of a pattern in storage: the reading checks first, then each shell in turn (FORMAT 3.8, 6.2).
 use mathlib.Core.List.{List, [], _∷_}
 use Rattle.errors.specs.Numbers.{Reply, done, unread}
 use Rattle.errors.specs.declared.Refusal.{Refusal}

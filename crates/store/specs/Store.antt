@@ -1,4 +1,4 @@
--- The store of a pattern: the tables of 16 bits in one list, the ends of the curves beside it. What it holds is a pattern.
+-- The store of a pattern: the tables of 16 bits in one list, the ends of the curves beside it. What it holds is a pattern (FORMAT 1.8).
 use Prim.Native.Nat.{ℕ, _+_, _*_}
 use mathlib.Core.List.{List}
 use lib.Ieee.{Float, nan}

@@ -1,4 +1,4 @@
--- A pattern file and the store: what the reading checks answer, which pattern an accepted file has, what a store holds that a file was read into.
+-- A pattern file and the store: what the reading checks answer, which pattern an accepted file has, what a store holds that a file was read into (FORMAT 1.8, 2.1).
 use Prim.Native.Nat.{ℕ}
 use mathlib.Core.List.{List, [], _∷_}
 use Rattle.errors.specs.Faults.{first}

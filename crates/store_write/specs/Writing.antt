@@ -1,4 +1,4 @@
--- What the writer answers, and what the lent slice then holds.
+-- What the writer answers, and what the lent slice then holds (FORMAT 1.8, 6.2).
 use Prim.Native.Nat.{ℕ}
 use mathlib.Core.List.{List, [], _++_, _∷_}
 use lib.Dec.{leb}

@@ -1,4 +1,4 @@
--- The lines of a text and the words of a line. A line ends at a line feed or the end of the text; a carriage return just before that is dropped. Words are parted by spaces and tabs.
+-- The lines of a text and the words of a line. A line ends at a line feed or the end of the text; a carriage return just before that is dropped. Words are parted by spaces and tabs (docs/GUIDE.md, Edits).
 use Prim.Native.Nat.{ℕ, _-_}
 use mathlib.Core.Bool.{Bool, not, _||_}
 use mathlib.Core.List.{List, [], _∷_, map}

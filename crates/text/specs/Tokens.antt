@@ -1,4 +1,4 @@
--- What a word can say: a number, a use or listing, a name.
+-- What a word can say: a number, a use or listing, a name (docs/GUIDE.md, Edits).
 use Prim.Native.Nat.{ℕ, _+_, _-_, _*_, min}
 use mathlib.Core.Bool.{Bool, true, _&&_}
 use mathlib.Core.List.{List, [], _∷_}

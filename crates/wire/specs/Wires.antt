@@ -1,4 +1,4 @@
--- The wire, an outline of document 01: uses in sequence. `fronts` and `backs` have the ends of the edges.
+-- The wire, an outline: uses in sequence (FORMAT 1.6), and what the face rule asks of one (FORMAT 2.3). `fronts` and `backs` have the ends of the edges.
 use Prim.Native.Nat.{ℕ, _+_}
 use mathlib.Core.Bool.{Bool, true, _&&_}
 use mathlib.Core.List.{List, [], _∷_, _++_, map}

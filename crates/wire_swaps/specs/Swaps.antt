@@ -1,4 +1,4 @@
--- The swaps of a wire (swap_edge_into_wire, swap_subwire_into_edges).
+-- The swaps of a wire (swap_edge_into_wire, swap_subwire_into_edges): FORMAT 4.2, 4.3.
 use Prim.Native.Nat.{ℕ, suc, _+_, _-_}
 use mathlib.Core.Bool.{Bool, false, _&&_}
 use mathlib.Core.List.{List, [], _∷_, _++_}

@@ -1,4 +1,4 @@
--- Little-endian numbers of two, four and eight bytes.
+-- Little-endian numbers of two, four and eight bytes (FORMAT 1.1).
 use Prim.Native.Nat.{ℕ, _+_, _*_, _/_, _%_, min}
 use mathlib.Core.List.{List, [], _∷_, _++_}
 use lib.ListN.{getD}

@@ -1,4 +1,4 @@
--- The pieces worked by hand that document 01 marks (M), in one table. The answers are document 01's, or follow from it by hand.
+-- The pieces worked by hand (FORMAT 3.9), in one table. The answers are those given there, or follow from FORMAT by hand.
 use Prim.Native.Nat.{ℕ, _+_}
 use Prim.Native.String.{String}
 use mathlib.Core.List.{List, [], _∷_, _++_, map}

@@ -1,1 +1,1 @@
-// The pieces of document 01 that are worked by hand and marked (M): specs/Table.antt; that they are right: proofs/Table.antt.
+// The pieces worked by hand (docs/FORMAT.md 3.9): specs/Table.antt; that they are right: proofs/Table.antt.
