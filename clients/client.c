@@ -1,9 +1,17 @@
-/* A client in C, and the test of the library from C: each call on document 01's triangle, then inputs
- * that no file has. Prints nothing but what fails; exit status 0 if nothing does. */
+/* A client in C, and the test of the library from C: each call on document 01's triangle, with numbers that
+ * no pattern has, with null for lists of no entries, then on inputs that no file has. The calls run in
+ * threads with small stacks. Prints nothing but what fails; exit status 0 if nothing does. Compiled with
+ * another number for LOOKUPS it must fail; tests/run sees to that. */
 #include "wuzsanget.h"
 
+#include <pthread.h>
 #include <stdio.h>
 #include <string.h>
+
+/* The lookups of the triangle's opening: one for each use, and one that finds none. */
+#ifndef LOOKUPS
+#define LOOKUPS 4
+#endif
 
 static int failures;
 
@@ -66,11 +74,12 @@ static size_t triangle(uint8_t *file)
 
 static uint8_t out[WUZSANGET_FILE];
 static uint8_t text[WUZSANGET_REPORT];
-static uint16_t uses[WUZSANGET_POINTS], lengths[WUZSANGET_POINTS];
+static uint16_t uses[WUZSANGET_POINTS], lengths[WUZSANGET_POINTS], counts[WUZSANGET_BODIES];
 
 static void lend(void)
 {
     memset(out, 0xa5, sizeof out);
+    memset(counts, 0xa5, sizeof counts);
     memset(uses, 0xa5, sizeof uses);
     memset(lengths, 0xa5, sizeof lengths);
 }
@@ -86,27 +95,42 @@ static int kept(const void *list, size_t bytes, size_t n)
 
 static int all_kept(void)
 {
-    return kept(out, sizeof out, 0) && kept(uses, sizeof uses, 0) && kept(lengths, sizeof lengths, 0);
+    return kept(out, sizeof out, 0) && kept(uses, sizeof uses, 0) &&
+           kept(lengths, sizeof lengths, 0) && kept(counts, sizeof counts, 0);
+}
+
+/* Whether the first n bytes of `text` are these. */
+static int says(size_t n, const char *said)
+{
+    return n == strlen(said) && memcmp(text, said, n) == 0;
 }
 
 /* ---- the calls on the triangle */
 
 static void reports(const uint8_t *file, size_t n)
 {
-    static const char said[] = "shell 0\ncondition Oriented\nconnected yes\nopening 0+ 1+ 2+\n"
-                               "lookups 4\ncomponent 0+\nsolid refused 12 shell 0\n";
+    static const uint16_t own[WUZSANGET_BODIES] = {4, 3, 3, 1, 1, 1, 1};
     EXPECT(wuzsanget_read(file, n), WUZSANGET_DONE, 0, 0, 0, 0);
+    EXPECT(wuzsanget_counts(file, n, counts), WUZSANGET_DONE, 0, 0, 0, 0);
+    expect(memcmp(counts, own, sizeof own) == 0, "the counts");
     EXPECT(wuzsanget_outline(file, n, 0), WUZSANGET_DONE, 0, 0, 3, 0);
     EXPECT(wuzsanget_outline(file, n, 1), WUZSANGET_REFUSED, 3, 0, 0, 0);
-    expect(wuzsanget_report(file, n, text) == strlen(said), "the report's length");
-    expect(memcmp(text, said, strlen(said)) == 0, "the report");
+    expect(says(wuzsanget_report(file, n, text),
+                "shell 0\ncondition Oriented\nconnected yes\nopening 0+ 1+ 2+\nlookups 4\n"
+                "component 0+\nsolid refused 12 shell 0\n"),
+           "the report");
+    expect(says(wuzsanget_show(file, n, text),
+                "point 0 label 7000\npoint 1 label 7001\npoint 2 label 7002\npoint 3 label 7003\n"
+                "edge 0 from 0 to 1 span 0 1\nedge 1 from 1 to 2 span 0 1\n"
+                "edge 2 from 2 to 0 span 0 1\nface 0 surface 5 wire 0+ 1+ 2+\nshell 0 faces 0+\n"),
+           "the pattern as text");
     EXPECT(wuzsanget_shell_condition(file, n, 0), WUZSANGET_DONE, 0, 2, 0, 0);
     EXPECT(wuzsanget_shell_condition(file, n, 1), WUZSANGET_REFUSED, 3, 0, 0, 0);
     EXPECT(wuzsanget_is_connected(file, n, 0), WUZSANGET_DONE, 0, 1, 0, 0);
-    EXPECT(wuzsanget_solid(file, n), WUZSANGET_REFUSED, 12, 0, 0, 0);
+    EXPECT(wuzsanget_solid(file, n), WUZSANGET_REFUSED, WUZSANGET_NOT_CLOSED_SHELL, 0, 0, 0);
 
     lend();
-    EXPECT(wuzsanget_extract_boundaries(file, n, 0, uses, lengths), WUZSANGET_DONE, 0, 1, 3, 4);
+    EXPECT(wuzsanget_extract_boundaries(file, n, 0, uses, lengths), WUZSANGET_DONE, 0, 1, 3, LOOKUPS);
     expect(uses[0] == 0 && uses[1] == 1 && uses[2] == 2 && lengths[0] == 3, "the opening");
     expect(kept(uses, sizeof uses, 6) && kept(lengths, sizeof lengths, 2), "entries past it");
     lend();
@@ -121,7 +145,7 @@ static void edits(const uint8_t *file, size_t n)
 {
     static const uint16_t there_and_back[2] = {3, 3 | WUZSANGET_REVERSED};
     static const uint16_t edge[1] = {0};
-    uint8_t edited[WUZSANGET_FILE];
+    static uint8_t edited[WUZSANGET_FILE];
     wuzsanget_answer a;
 
     lend();
@@ -174,6 +198,97 @@ static void edits(const uint8_t *file, size_t n)
            0, 0, 0);
 }
 
+/* Whether a job answers with this line, and with an edited file of so many bytes. */
+static int answers(const char *line, const uint8_t *file, size_t n, const char *said, size_t bytes)
+{
+    wuzsanget_job j = wuzsanget_edit((const uint8_t *)line, strlen(line), file, n, out, text);
+    return says(j.text, said) && j.file == bytes;
+}
+
+/* The jobs of `edit`. */
+static void jobs(const uint8_t *file, size_t n)
+{
+    static uint8_t edited[WUZSANGET_FILE];
+    lend();
+    expect(answers("cut 0 65536 3 0.5", file, n, "refused 3\n", 0), "a job that names nothing");
+    expect(answers("cutface 0+ 0+\r", file, n, "done wire 1+ 2+ 0+ wire 0+ 0-\n", 0), "a face cut");
+    expect(answers("glue 0+ 0+", file, n, "done wire 0+ 1+ 2+\n", 0), "faces glued");
+    expect(answers("cut 0", file, n, "no job: word 3 of cut SHELL EDGE POINT PARAMETER\n", 0),
+           "a job without its words");
+    expect(answers("cut 0 0 3 0.5", file, 55, "refused 1 body 0 record 0\n", 0), "a job on no file");
+    expect(answers("cut 0 0 3 0.5", NULL, 0, "refused 1 body 0 record 0\n", 0), "a job on null");
+    expect(says(wuzsanget_edit(NULL, 0, NULL, 0, out, text).text,
+                "no job: begin with cut, remove, concat, add, cutface or glue\n"),
+           "no line");
+    expect(all_kept(), "jobs that give no file");
+    wuzsanget_cut_edge(file, n, 0, 0, 3, HALF, edited, sizeof edited);
+    expect(answers("cut 0 0 3 0.5", file, n, "done edges 3 4\n", n + 42), "a cut as a job");
+    expect(memcmp(out, edited, n + 42) == 0 && kept(out, sizeof out, n + 42), "its file");
+}
+
+/* ---- numbers that name nothing: 3, also where the number's lower 16 bits name something */
+
+static void unnamed(const uint8_t *file, size_t n)
+{
+    static const size_t above[5] = {65536, 131072, (size_t)1 << 32, SIZE_MAX - 65535, 65535};
+    static const uint16_t edge[1] = {0};
+    static uint8_t cut[WUZSANGET_FILE];
+    size_t m = wuzsanget_cut_edge(file, n, 0, 0, 3, HALF, cut, sizeof cut).third;
+    lend();
+    for (int k = 0; k < 5; k++) {
+        size_t up = above[k];
+        EXPECT(wuzsanget_outline(file, n, up), WUZSANGET_REFUSED, 3, 0, 0, 0);
+        EXPECT(wuzsanget_shell_condition(file, n, up), WUZSANGET_REFUSED, 3, 0, 0, 0);
+        EXPECT(wuzsanget_extract_boundaries(file, n, up, uses, lengths), WUZSANGET_REFUSED, 3, 0, 0, 0);
+        EXPECT(wuzsanget_is_connected(file, n, up), WUZSANGET_REFUSED, 3, 0, 0, 0);
+        EXPECT(wuzsanget_connected_components(file, n, up, uses, lengths), WUZSANGET_REFUSED, 3, 0, 0,
+               0);
+        EXPECT(wuzsanget_singular_vertices(file, n, up, uses), WUZSANGET_REFUSED, 3, 0, 0, 0);
+        EXPECT(wuzsanget_cut_edge(file, n, up, 0, 3, HALF, out, sizeof out), WUZSANGET_REFUSED, 3, 0, 0,
+               0);
+        EXPECT(wuzsanget_cut_edge(file, n, 0, up, 3, HALF, out, sizeof out), WUZSANGET_REFUSED, 3, 0, 0,
+               0);
+        EXPECT(wuzsanget_cut_edge(file, n, 0, 0, up + 3, HALF, out, sizeof out), WUZSANGET_REFUSED, 3,
+               0, 0, 0);
+        EXPECT(wuzsanget_remove_vertex(cut, m, up, 3, out, sizeof out), WUZSANGET_REFUSED, 3, 0, 0, 0);
+        EXPECT(wuzsanget_remove_vertex(cut, m, 0, up + 3, out, sizeof out), WUZSANGET_REFUSED, 3, 0, 0,
+               0);
+        EXPECT(wuzsanget_concat(file, n, up, 1, out, sizeof out), WUZSANGET_REFUSED, 3, 0, 0, 0);
+        EXPECT(wuzsanget_concat(file, n, 0, up + 1, out, sizeof out), WUZSANGET_REFUSED, 3, 0, 0, 0);
+        EXPECT(wuzsanget_add_boundary(file, n, up, edge, 0, uses, 9, lengths, 9), WUZSANGET_REFUSED, 3,
+               0, 0, 0);
+        EXPECT(wuzsanget_cut_by_wire(file, n, up, edge, 1, uses, 9, lengths, 9), WUZSANGET_REFUSED, 3,
+               0, 0, 0);
+        EXPECT(wuzsanget_cut_by_edge(file, n, up, 0, uses, 9, lengths, 9), WUZSANGET_REFUSED, 3, 0, 0,
+               0);
+        EXPECT(wuzsanget_cut_by_edge(file, n, 0, up, uses, 9, lengths, 9), WUZSANGET_REFUSED, 3, 0, 0,
+               0);
+        EXPECT(wuzsanget_glue(file, n, up, 0, uses, 9, lengths, 9), WUZSANGET_REFUSED, 3, 0, 0, 0);
+        EXPECT(wuzsanget_glue(file, n, 0, up, uses, 9, lengths, 9), WUZSANGET_REFUSED, 3, 0, 0, 0);
+    }
+    EXPECT(wuzsanget_cut_edge(file, n, 0, 65542, 3, HALF, out, sizeof out), WUZSANGET_REFUSED, 3, 0, 0,
+           0);
+    expect(all_kept(), "a number that names nothing");
+}
+
+/* ---- null for a list of no entries */
+
+static void nulls(const uint8_t *file, size_t n)
+{
+    lend();
+    EXPECT(wuzsanget_write(file, n, NULL, 0), WUZSANGET_REFUSED, 17, n, 0, 0);
+    EXPECT(wuzsanget_cut_edge(file, n, 0, 0, 3, HALF, NULL, 0), WUZSANGET_REFUSED, 17, n + 42, 0, 0);
+    EXPECT(wuzsanget_remove_vertex(file, n, 0, 3, NULL, 0), WUZSANGET_REFUSED, 23, 0, 0, 0);
+    EXPECT(wuzsanget_concat(file, n, 0, 1, NULL, 0), WUZSANGET_REFUSED, 17, n + 20, 0, 0);
+    EXPECT(wuzsanget_add_boundary(file, n, 0, NULL, 0, NULL, 0, NULL, 0), WUZSANGET_REFUSED, 6, 0, 0, 0);
+    EXPECT(wuzsanget_cut_by_wire(file, n, 0, NULL, 0, NULL, 0, NULL, 0), WUZSANGET_REFUSED, 19, 0, 0, 0);
+    EXPECT(wuzsanget_cut_by_edge(file, n, 0, 0, NULL, 0, NULL, 0), WUZSANGET_REFUSED, 17, 0, 0, 0);
+    EXPECT(wuzsanget_glue(file, n, 0, 0, NULL, 0, NULL, 0), WUZSANGET_REFUSED, 17, 0, 0, 0);
+    expect(says(wuzsanget_report(NULL, 0, text), "refused 1 body 0 record 0\n"), "a report of nothing");
+    expect(says(wuzsanget_show(NULL, 0, text), "refused 1 body 0 record 0\n"), "nothing as text");
+    expect(all_kept(), "null for a list");
+}
+
 /* ---- inputs that no file has: each call answers as the reading checks do, and writes nothing */
 
 static int same(wuzsanget_answer a, wuzsanget_answer b)
@@ -181,12 +296,13 @@ static int same(wuzsanget_answer a, wuzsanget_answer b)
     return memcmp(&a, &b, sizeof a) == 0;
 }
 
-static void every_call(const uint8_t *file, size_t n, size_t number, uint16_t name, uint64_t bits)
+static void every_call(const uint8_t *file, size_t n, size_t number, size_t name, uint64_t bits)
 {
     static const uint16_t wire[3] = {0, 65535, 32767};
     wuzsanget_answer a = wuzsanget_read(file, n);
     expect(a.outcome == WUZSANGET_UNREAD, "a file that no reading accepts");
     lend();
+    expect(same(a, wuzsanget_counts(file, n, counts)), "counts");
     expect(same(a, wuzsanget_outline(file, n, number)), "outline");
     expect(same(a, wuzsanget_write(file, n, out, sizeof out)), "write");
     expect(same(a, wuzsanget_shell_condition(file, n, number)), "shell_condition");
@@ -209,6 +325,7 @@ static void every_call(const uint8_t *file, size_t n, size_t number, uint16_t na
     expect(same(a, wuzsanget_glue(file, n, name, name, uses, 2048, lengths, 2048)), "glue");
     expect(all_kept(), "a refusal writes nothing");
     expect(wuzsanget_report(file, n, text) > 0, "report");
+    expect(wuzsanget_show(file, n, text) > 0, "show");
 }
 
 static uint64_t state = 1;
@@ -222,13 +339,14 @@ static uint64_t random_bits(void)
 static void strange(void)
 {
     static uint8_t file[100000];
+    every_call(NULL, 0, 0, 0, 0);
     every_call(file, 0, 0, 0, 0);
-    every_call(file, sizeof file, SIZE_MAX, 65535, UINT64_MAX);
+    every_call(file, sizeof file, SIZE_MAX, SIZE_MAX, UINT64_MAX);
     for (int k = 0; k < 2000; k++) {
         size_t n = random_bits() % 50000;
         for (size_t i = 0; i < n; i++)
             file[i] = (uint8_t)random_bits();
-        every_call(file, n, random_bits(), (uint16_t)random_bits(), random_bits());
+        every_call(file, n, random_bits(), random_bits(), random_bits());
     }
     /* The triangle with one byte changed is refused or read, and no call faults on it. */
     size_t n = triangle(file);
@@ -243,12 +361,41 @@ static void strange(void)
         }
 }
 
-int main(void)
+/* ---- the threads */
+
+static uint8_t file[WUZSANGET_FILE];
+
+static void *every_job(void *unused)
 {
-    uint8_t file[WUZSANGET_FILE];
+    jobs(file, triangle(file));
+    return unused;
+}
+
+static void *all_else(void *unused)
+{
     size_t n = triangle(file);
+    expect(wuzsanget_version() == WUZSANGET_VERSION, "the version");
     reports(file, n);
     edits(file, n);
+    unnamed(file, n);
+    nulls(file, n);
     strange();
+    return unused;
+}
+
+static void with_stack(size_t bytes, void *(*calls)(void *))
+{
+    pthread_t thread;
+    pthread_attr_t attributes;
+    pthread_attr_init(&attributes);
+    expect(pthread_attr_setstacksize(&attributes, bytes) == 0, "the stack of a thread");
+    expect(pthread_create(&thread, &attributes, calls, NULL) == 0, "a thread");
+    expect(pthread_join(thread, NULL) == 0, "the end of a thread");
+}
+
+int main(void)
+{
+    with_stack(WUZSANGET_STACK, every_job);
+    with_stack(131072, all_else);
     return failures != 0;
 }

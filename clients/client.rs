@@ -13,30 +13,68 @@ struct Answer {
     fourth: usize,
 }
 
+/// The answer of a job: the lengths of its line and of the edited file.
+#[repr(C)]
+#[derive(Clone, Copy)]
+struct Job {
+    text: usize,
+    file: usize,
+}
+
+const VERSION: usize = 1;
 const FILE: usize = 41_048;
 const REPORT: usize = 1_126_400;
+const SHOW: usize = 262_144;
+const LINE: usize = 65_536;
+const BODIES: usize = 7;
 const POINTS: usize = 2_048;
+const WIRES: usize = 1_024;
 const NOWHERE: u64 = 0x7ff8_0000_0000_0000;
 const REVERSED: u16 = 32_768;
 
 mod c {
-    use super::Answer;
+    use super::{Answer, Job};
     #[link(name = "wuzsanget", kind = "static")]
     extern "C" {
+        pub fn wuzsanget_version() -> usize;
         pub fn wuzsanget_read(file: *const u8, n: usize) -> Answer;
+        pub fn wuzsanget_counts(file: *const u8, n: usize, counts: *mut u16) -> Answer;
+        pub fn wuzsanget_outline(file: *const u8, n: usize, wire: usize) -> Answer;
         pub fn wuzsanget_report(file: *const u8, n: usize, text: *mut u8) -> usize;
+        pub fn wuzsanget_show(file: *const u8, n: usize, text: *mut u8) -> usize;
         pub fn wuzsanget_extract_boundaries(
             file: *const u8, n: usize, shell: usize, uses: *mut u16, lengths: *mut u16,
         ) -> Answer;
         pub fn wuzsanget_solid(file: *const u8, n: usize) -> Answer;
         pub fn wuzsanget_cut_edge(
-            file: *const u8, n: usize, shell: usize, edge: u16, point: u16, parameter: u64,
+            file: *const u8, n: usize, shell: usize, edge: usize, point: usize, parameter: u64,
             out: *mut u8, m: usize,
         ) -> Answer;
+        pub fn wuzsanget_remove_vertex(
+            file: *const u8, n: usize, shell: usize, point: usize, out: *mut u8, m: usize,
+        ) -> Answer;
+        pub fn wuzsanget_concat(
+            file: *const u8, n: usize, a: usize, b: usize, out: *mut u8, m: usize,
+        ) -> Answer;
         pub fn wuzsanget_add_boundary(
-            file: *const u8, n: usize, face: u16, wire: *const u16, k: usize,
+            file: *const u8, n: usize, face: usize, wire: *const u16, k: usize,
             uses: *mut u16, m: usize, lengths: *mut u16, l: usize,
         ) -> Answer;
+        pub fn wuzsanget_cut_by_wire(
+            file: *const u8, n: usize, face: usize, wire: *const u16, k: usize,
+            uses: *mut u16, m: usize, lengths: *mut u16, l: usize,
+        ) -> Answer;
+        pub fn wuzsanget_cut_by_edge(
+            file: *const u8, n: usize, face: usize, edge_use: usize,
+            uses: *mut u16, m: usize, lengths: *mut u16, l: usize,
+        ) -> Answer;
+        pub fn wuzsanget_glue(
+            file: *const u8, n: usize, face: usize, other: usize,
+            uses: *mut u16, m: usize, lengths: *mut u16, l: usize,
+        ) -> Answer;
+        pub fn wuzsanget_edit(
+            line: *const u8, k: usize, file: *const u8, n: usize, out: *mut u8, text: *mut u8,
+        ) -> Job;
     }
 }
 
@@ -47,11 +85,46 @@ fn read(file: &[u8]) -> Answer {
     unsafe { c::wuzsanget_read(file.as_ptr(), file.len()) }
 }
 
+/// The numbers of points, edges, uses, wires, faces, shells and listings, or the refusal.
+fn counts(file: &[u8]) -> Result<[u16; BODIES], Answer> {
+    let mut counts = [0; BODIES];
+    let a = unsafe { c::wuzsanget_counts(file.as_ptr(), file.len(), counts.as_mut_ptr()) };
+    if a.outcome == 0 { Ok(counts) } else { Err(a) }
+}
+
+fn outline(file: &[u8], wire: usize) -> Answer {
+    unsafe { c::wuzsanget_outline(file.as_ptr(), file.len(), wire) }
+}
+
+/// The first n bytes of a text.
+fn text_of(mut text: Vec<u8>, n: usize) -> String {
+    text.truncate(n);
+    String::from_utf8(text).expect("the library writes ASCII")
+}
+
 fn report(file: &[u8]) -> String {
     let mut text = vec![0; REPORT];
     let n = unsafe { c::wuzsanget_report(file.as_ptr(), file.len(), text.as_mut_ptr()) };
-    text.truncate(n);
-    String::from_utf8(text).expect("a report is ASCII")
+    text_of(text, n)
+}
+
+fn show(file: &[u8]) -> String {
+    let mut text = vec![0; SHOW];
+    let n = unsafe { c::wuzsanget_show(file.as_ptr(), file.len(), text.as_mut_ptr()) };
+    text_of(text, n)
+}
+
+/// The answer of a job, and the edited file if there is one.
+fn edit(line: &[u8], file: &[u8]) -> (String, Option<Vec<u8>>) {
+    let (mut out, mut text) = (vec![0; FILE], vec![0; LINE]);
+    let job = unsafe {
+        c::wuzsanget_edit(
+            line.as_ptr(), line.len(), file.as_ptr(), file.len(), out.as_mut_ptr(),
+            text.as_mut_ptr(),
+        )
+    };
+    out.truncate(job.file);
+    (text_of(text, job.text), (job.file > 0).then_some(out))
 }
 
 /// The openings of a shell and the lookups, or the refusal.
@@ -65,39 +138,60 @@ fn openings(file: &[u8], shell: usize) -> Result<(Vec<Vec<u16>>, usize), Answer>
     if a.outcome != 0 {
         return Err(a);
     }
-    let mut rest = &uses[..a.second];
-    let opening = |n: &u16| {
-        let (opening, after) = rest.split_at(*n as usize);
-        rest = after;
-        opening.to_vec()
+    Ok((parted(&uses[..a.second], &lengths[..a.first]), a.third))
+}
+
+/// Uses parted into wires of these lengths.
+fn parted(mut uses: &[u16], lengths: &[u16]) -> Vec<Vec<u16>> {
+    let wire = |n: &u16| {
+        let (wire, after) = uses.split_at(*n as usize);
+        uses = after;
+        wire.to_vec()
     };
-    Ok((lengths[..a.first].iter().map(opening).collect(), a.third))
+    lengths.iter().map(wire).collect()
 }
 
 fn solid(file: &[u8]) -> Answer {
     unsafe { c::wuzsanget_solid(file.as_ptr(), file.len()) }
 }
 
+/// The edited file that a call wrote, with its answer, or the refusal.
+fn edited(call: impl FnOnce(*mut u8, usize) -> Answer) -> Result<(Vec<u8>, Answer), Answer> {
+    let mut out = vec![0; FILE];
+    let a = call(out.as_mut_ptr(), out.len());
+    out.truncate(a.third);
+    if a.outcome == 0 { Ok((out, a)) } else { Err(a) }
+}
+
 /// The edited file and the two new edges, or the refusal.
 fn cut_edge(
-    file: &[u8], shell: usize, edge: u16, point: u16, parameter: Option<f64>,
+    file: &[u8], shell: usize, edge: usize, point: usize, parameter: Option<f64>,
 ) -> Result<(Vec<u8>, [usize; 2]), Answer> {
-    let mut out = vec![0; FILE];
     let bits = parameter.map_or(NOWHERE, f64::to_bits);
-    let a = unsafe {
-        c::wuzsanget_cut_edge(
-            file.as_ptr(), file.len(), shell, edge, point, bits, out.as_mut_ptr(), out.len(),
-        )
-    };
-    if a.outcome != 0 {
-        return Err(a);
-    }
-    out.truncate(a.third);
+    let (out, a) = edited(|out, m| unsafe {
+        c::wuzsanget_cut_edge(file.as_ptr(), file.len(), shell, edge, point, bits, out, m)
+    })?;
     Ok((out, [a.first, a.second]))
 }
 
+/// The edited file and the new edge, or the refusal.
+fn remove_vertex(file: &[u8], shell: usize, point: usize) -> Result<(Vec<u8>, usize), Answer> {
+    let (out, a) = edited(|out, m| unsafe {
+        c::wuzsanget_remove_vertex(file.as_ptr(), file.len(), shell, point, out, m)
+    })?;
+    Ok((out, a.first))
+}
+
+/// The edited file and the new edge, or the refusal.
+fn concat(file: &[u8], a: usize, b: usize) -> Result<(Vec<u8>, usize), Answer> {
+    let (out, a) = edited(|out, m| unsafe {
+        c::wuzsanget_concat(file.as_ptr(), file.len(), a, b, out, m)
+    })?;
+    Ok((out, a.first))
+}
+
 fn add_boundary(
-    file: &[u8], face: u16, wire: &[u16], uses: &mut [u16], lengths: &mut [u16],
+    file: &[u8], face: usize, wire: &[u16], uses: &mut [u16], lengths: &mut [u16],
 ) -> Answer {
     unsafe {
         c::wuzsanget_add_boundary(
@@ -105,6 +199,35 @@ fn add_boundary(
             uses.as_mut_ptr(), uses.len(), lengths.as_mut_ptr(), lengths.len(),
         )
     }
+}
+
+/// The wires that a call wrote to lists with room for every result, or the refusal.
+fn wires(
+    call: impl FnOnce(*mut u16, usize, *mut u16, usize) -> Answer,
+) -> Result<Vec<Vec<u16>>, Answer> {
+    let (mut uses, mut lengths) = ([0; POINTS], [0; WIRES]);
+    let a = call(uses.as_mut_ptr(), uses.len(), lengths.as_mut_ptr(), lengths.len());
+    if a.outcome == 0 { Ok(parted(&uses[..a.first], &lengths[..a.second])) } else { Err(a) }
+}
+
+fn cut_by_wire(file: &[u8], face: usize, wire: &[u16]) -> Result<Vec<Vec<u16>>, Answer> {
+    wires(|uses, m, lengths, l| unsafe {
+        c::wuzsanget_cut_by_wire(
+            file.as_ptr(), file.len(), face, wire.as_ptr(), wire.len(), uses, m, lengths, l,
+        )
+    })
+}
+
+fn cut_by_edge(file: &[u8], face: usize, edge_use: usize) -> Result<Vec<Vec<u16>>, Answer> {
+    wires(|uses, m, lengths, l| unsafe {
+        c::wuzsanget_cut_by_edge(file.as_ptr(), file.len(), face, edge_use, uses, m, lengths, l)
+    })
+}
+
+fn glue(file: &[u8], face: usize, other: usize) -> Result<Vec<Vec<u16>>, Answer> {
+    wires(|uses, m, lengths, l| unsafe {
+        c::wuzsanget_glue(file.as_ptr(), file.len(), face, other, uses, m, lengths, l)
+    })
 }
 
 /// The triangle 0+ 1+ 2+ of points 0, 1 and 2, and two points more that edge 3 joins.
@@ -142,37 +265,86 @@ fn answer(outcome: usize, number: usize, first: usize, second: usize, third: usi
 }
 
 fn main() {
+    assert_eq!(unsafe { c::wuzsanget_version() }, VERSION);
     let file = triangle();
+    let nothing = answer(1, 1, 0, 0, 0);
     assert_eq!(read(&file), answer(0, 0, 0, 0, 0));
-    assert_eq!(read(&file[..55]), answer(1, 1, 0, 0, 0));
-    assert_eq!(read(&[]), answer(1, 1, 0, 0, 0));
-    assert_eq!(read(&vec![0; 100_000]), answer(1, 1, 0, 0, 0));
+    assert_eq!(read(&file[..55]), nothing);
+    assert_eq!(read(&[]), nothing);
+    assert_eq!(unsafe { c::wuzsanget_read(std::ptr::null(), 0) }, nothing);
+    assert_eq!(read(&vec![0; 100_000]), nothing);
+    assert_eq!(counts(&file), Ok([5, 4, 3, 1, 1, 1, 1]));
+    assert_eq!(counts(&[]), Err(nothing));
+    assert_eq!(outline(&file, 0), answer(0, 0, 0, 3, 0));
     assert_eq!(
         report(&file),
         "shell 0\ncondition Oriented\nconnected yes\nopening 0+ 1+ 2+\nlookups 4\n\
          component 0+\nsolid refused 12 shell 0\n"
     );
     assert_eq!(report(&[]), "refused 1 body 0 record 0\n");
+    assert_eq!(
+        show(&file),
+        "point 0 label 7000\npoint 1 label 7001\npoint 2 label 7002\npoint 3 label 7003\n\
+         point 4 label 7004\nedge 0 from 0 to 1 span 0 1\nedge 1 from 1 to 2 span 0 1\n\
+         edge 2 from 2 to 0 span 0 1\nedge 3 from 3 to 4 span 0 1\n\
+         face 0 surface 5 wire 0+ 1+ 2+\nshell 0 faces 0+\n"
+    );
     assert_eq!(openings(&file, 0), Ok((vec![vec![0, 1, 2]], 4)));
-    assert_eq!(openings(&file, 1), Err(answer(2, 3, 0, 0, 0)));
     assert_eq!(solid(&file), answer(2, 12, 0, 0, 0));
 
     // Cut at a half; the same cut again is 14, and the first edge with a fresh point 15.
     assert_eq!(cut_edge(&file, 0, 0, 3, None), Err(answer(2, 16, 0, 0, 0)));
     assert_eq!(cut_edge(&file, 0, 0, 3, Some(f64::INFINITY)), Err(answer(2, 16, 0, 0, 0)));
-    let (edited, new) = cut_edge(&file, 0, 0, 3, Some(0.5)).expect("a cut");
-    assert_eq!((edited.len(), new), (file.len() + 42, [4, 5]));
-    assert_eq!(openings(&edited, 0), Ok((vec![vec![4, 5, 1, 2]], 5)));
-    assert_eq!(cut_edge(&edited, 0, 0, 3, Some(0.5)), Err(answer(2, 14, 0, 0, 0)));
-    assert_eq!(cut_edge(&edited, 0, 0, 4, Some(0.5)), Err(answer(2, 15, 0, 0, 0)));
+    let (cut, new) = cut_edge(&file, 0, 0, 3, Some(0.5)).expect("a cut");
+    assert_eq!((cut.len(), new), (file.len() + 42, [4, 5]));
+    assert_eq!(openings(&cut, 0), Ok((vec![vec![4, 5, 1, 2]], 5)));
+    assert_eq!(cut_edge(&cut, 0, 0, 3, Some(0.5)), Err(answer(2, 14, 0, 0, 0)));
+    assert_eq!(cut_edge(&cut, 0, 0, 4, Some(0.5)), Err(answer(2, 15, 0, 0, 0)));
+    let (removed, new) = remove_vertex(&cut, 0, 3).expect("a removal");
+    assert_eq!((removed.len(), new), (cut.len() + 18, 6));
+    let (joined, new) = concat(&file, 0, 1).expect("a concat");
+    assert_eq!((joined.len(), new), (file.len() + 20, 4));
+
+    // The same cut as a job.
+    assert_eq!(edit(b"cut 0 0 3 0.5", &file), ("done edges 4 5\n".into(), Some(cut.clone())));
+    assert_eq!(edit(b"cut 0 65536 3 0.5", &file), ("refused 3\n".into(), None));
+    assert_eq!(edit(b"glue 0+ 0+", &file), ("done wire 0+ 1+ 2+\n".into(), None));
+
+    // The face cut along edge 0, which runs along its outline.
+    let halves = vec![vec![1, 2, 0], vec![0, REVERSED]];
+    assert_eq!(cut_by_edge(&file, 0, 0), Ok(halves.clone()));
+    assert_eq!(cut_by_wire(&file, 0, &[0]), Ok(halves));
+    assert_eq!(cut_by_wire(&file, 0, &[]), Err(answer(2, 19, 0, 0, 0)));
+    assert_eq!(glue(&file, 0, 0), Ok(vec![vec![0, 1, 2]]));
 
     // An outline far from the triangle, added to the reversed face: it is stored turned.
     let wire = [3, 3 + REVERSED];
     let (mut uses, mut lengths) = ([7; 6], [7; 3]);
-    let a = add_boundary(&file, REVERSED, &wire, &mut uses, &mut lengths);
+    let a = add_boundary(&file, REVERSED.into(), &wire, &mut uses, &mut lengths);
     assert_eq!(a, answer(0, 0, 5, 2, 0));
     assert_eq!((uses, lengths), ([0, 1, 2, 3, 3 + REVERSED, 7], [3, 2, 7]));
     let a = add_boundary(&file, 0, &wire, &mut uses[..4], &mut []);
     assert_eq!(a, answer(2, 17, 0, 0, 0));
     assert_eq!((uses, lengths), ([0, 1, 2, 3, 3 + REVERSED, 7], [3, 2, 7]));
+
+    // Numbers that name nothing, though their lower 16 bits do.
+    let unnamed = answer(2, 3, 0, 0, 0);
+    assert_eq!(cut_edge(&file, 0, 65_542, 3, Some(0.5)), Err(unnamed));
+    for up in [65_536, 1 << 32, usize::MAX - 65_535] {
+        assert_eq!(outline(&file, up), unnamed);
+        assert_eq!(openings(&file, up), Err(unnamed));
+        assert_eq!(cut_edge(&file, up, 0, 3, Some(0.5)), Err(unnamed));
+        assert_eq!(cut_edge(&file, 0, up, 3, Some(0.5)), Err(unnamed));
+        assert_eq!(cut_edge(&file, 0, 0, up + 3, Some(0.5)), Err(unnamed));
+        assert_eq!(remove_vertex(&cut, up, 3), Err(unnamed));
+        assert_eq!(remove_vertex(&cut, 0, up + 3), Err(unnamed));
+        assert_eq!(concat(&file, up, 1), Err(unnamed));
+        assert_eq!(concat(&file, 0, up + 1), Err(unnamed));
+        assert_eq!(add_boundary(&file, up, &wire, &mut uses, &mut lengths), unnamed);
+        assert_eq!(cut_by_wire(&file, up, &[0]), Err(unnamed));
+        assert_eq!(cut_by_edge(&file, up, 0), Err(unnamed));
+        assert_eq!(cut_by_edge(&file, 0, up), Err(unnamed));
+        assert_eq!(glue(&file, up, 0), Err(unnamed));
+        assert_eq!(glue(&file, 0, up), Err(unnamed));
+    }
 }

@@ -1,4 +1,4 @@
-//! The port: the functions of include/wuzsanget.h, and a safe call of each.
+//! The port: the functions of include/wuzsanget.h that are compared, and a safe call of each.
 
 pub const FILE: usize = 41_048;
 pub const REPORT: usize = 1_126_400;
@@ -51,30 +51,30 @@ extern "C" {
     ) -> Answer;
     fn wuzsanget_solid(file: *const u8, file_length: usize) -> Answer;
     fn wuzsanget_cut_edge(
-        file: *const u8, file_length: usize, shell: usize, edge: u16, point: u16, parameter: u64,
+        file: *const u8, file_length: usize, shell: usize, edge: usize, point: usize, parameter: u64,
         out: *mut u8, out_length: usize,
     ) -> Answer;
     fn wuzsanget_remove_vertex(
-        file: *const u8, file_length: usize, shell: usize, point: u16,
+        file: *const u8, file_length: usize, shell: usize, point: usize,
         out: *mut u8, out_length: usize,
     ) -> Answer;
     fn wuzsanget_concat(
-        file: *const u8, file_length: usize, a: u16, b: u16, out: *mut u8, out_length: usize,
+        file: *const u8, file_length: usize, a: usize, b: usize, out: *mut u8, out_length: usize,
     ) -> Answer;
     fn wuzsanget_add_boundary(
-        file: *const u8, file_length: usize, face: u16, wire: *const u16, wire_length: usize,
+        file: *const u8, file_length: usize, face: usize, wire: *const u16, wire_length: usize,
         uses: *mut u16, uses_length: usize, lengths: *mut u16, lengths_length: usize,
     ) -> Answer;
     fn wuzsanget_cut_by_wire(
-        file: *const u8, file_length: usize, face: u16, wire: *const u16, wire_length: usize,
+        file: *const u8, file_length: usize, face: usize, wire: *const u16, wire_length: usize,
         uses: *mut u16, uses_length: usize, lengths: *mut u16, lengths_length: usize,
     ) -> Answer;
     fn wuzsanget_cut_by_edge(
-        file: *const u8, file_length: usize, face: u16, edge: u16,
+        file: *const u8, file_length: usize, face: usize, edge_use: usize,
         uses: *mut u16, uses_length: usize, lengths: *mut u16, lengths_length: usize,
     ) -> Answer;
     fn wuzsanget_glue(
-        file: *const u8, file_length: usize, face: u16, other: u16,
+        file: *const u8, file_length: usize, face: usize, other: usize,
         uses: *mut u16, uses_length: usize, lengths: *mut u16, lengths_length: usize,
     ) -> Answer;
 }
@@ -132,6 +132,7 @@ pub fn cut_edge(
     file: &[u8], shell: usize, edge: u16, point: u16, parameter: u64, out: &mut [u8],
 ) -> Answer {
     let (to, room) = (out.as_mut_ptr(), out.len());
+    let (edge, point) = (edge.into(), point.into());
     unsafe {
         wuzsanget_cut_edge(file.as_ptr(), file.len(), shell, edge, point, parameter, to, room)
     }
@@ -139,12 +140,12 @@ pub fn cut_edge(
 
 pub fn remove_vertex(file: &[u8], shell: usize, point: u16, out: &mut [u8]) -> Answer {
     let (to, room) = (out.as_mut_ptr(), out.len());
-    unsafe { wuzsanget_remove_vertex(file.as_ptr(), file.len(), shell, point, to, room) }
+    unsafe { wuzsanget_remove_vertex(file.as_ptr(), file.len(), shell, point.into(), to, room) }
 }
 
 pub fn concat(file: &[u8], a: u16, b: u16, out: &mut [u8]) -> Answer {
     let (to, room) = (out.as_mut_ptr(), out.len());
-    unsafe { wuzsanget_concat(file.as_ptr(), file.len(), a, b, to, room) }
+    unsafe { wuzsanget_concat(file.as_ptr(), file.len(), a.into(), b.into(), to, room) }
 }
 
 pub fn add_boundary(
@@ -152,7 +153,7 @@ pub fn add_boundary(
 ) -> Answer {
     unsafe {
         wuzsanget_add_boundary(
-            file.as_ptr(), file.len(), face, wire.as_ptr(), wire.len(),
+            file.as_ptr(), file.len(), face.into(), wire.as_ptr(), wire.len(),
             uses.as_mut_ptr(), uses.len(), lengths.as_mut_ptr(), lengths.len(),
         )
     }
@@ -163,7 +164,7 @@ pub fn cut_by_wire(
 ) -> Answer {
     unsafe {
         wuzsanget_cut_by_wire(
-            file.as_ptr(), file.len(), face, wire.as_ptr(), wire.len(),
+            file.as_ptr(), file.len(), face.into(), wire.as_ptr(), wire.len(),
             uses.as_mut_ptr(), uses.len(), lengths.as_mut_ptr(), lengths.len(),
         )
     }
@@ -174,7 +175,7 @@ pub fn cut_by_edge(
 ) -> Answer {
     unsafe {
         wuzsanget_cut_by_edge(
-            file.as_ptr(), file.len(), face, edge,
+            file.as_ptr(), file.len(), face.into(), edge.into(),
             uses.as_mut_ptr(), uses.len(), lengths.as_mut_ptr(), lengths.len(),
         )
     }
@@ -185,7 +186,7 @@ pub fn glue(
 ) -> Answer {
     unsafe {
         wuzsanget_glue(
-            file.as_ptr(), file.len(), face, other,
+            file.as_ptr(), file.len(), face.into(), other.into(),
             uses.as_mut_ptr(), uses.len(), lengths.as_mut_ptr(), lengths.len(),
         )
     }

@@ -7,6 +7,7 @@ use Rattle.answers.specs.Values.{checkValues, figureValues, placeValues, solidV
 use Rattle.answers.specs.declared.Answer.{Answer}
 use Rattle.group_calls.specs.GroupCalls.{componentsAnswer, componentsOut, connectedAnswer, singularAnswer, singularOut}
 use Rattle.shell_calls.specs.ShellCalls.{conditionAnswer, openingsAnswer, openingsOut}
+use Rattle.pattern.specs.Contents.{countsOf}
 use Rattle.pattern.specs.Outlines.{wirePlace}
 use Rattle.pattern_file.specs.File.{fileContent, fileFaults}
 use Rattle.shell.specs.OpeningsHold.{OpeningsPromised}
@@ -17,6 +18,10 @@ use Rattle.answers.specs.Read.{afterRead, ifRead, whenRead}
 
 abbrev pub fileCheck : List ℕ → Answer
 fileCheck s = checkValues (checkOf s)
+
+-- how many records each body has
+abbrev pub fileCountsOut : List ℕ → List ℕ
+fileCountsOut s = ifRead (checkOf s) (countsOf (fileContent s))
 
 abbrev pub fileOutline : List ℕ → ℕ → Answer
 fileOutline s w = whenRead (checkOf s) (placeValues (wirePlace (patternOf s) w))

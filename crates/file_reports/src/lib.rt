@@ -4,9 +4,10 @@ ghost use mathlib.Core.List.{map};
 ghost use lib.ListN.{length};
 ghost use lib.Seq.{sets};
 ghost use Rattle.lists.specs.Lists.{flat};
-ghost use Rattle.file_reports.specs.FileReports.{fileCheck, fileComponents, fileComponentsOut, fileCondition, fileConnected, fileOpenings, fileOpeningsOut, fileOutline, FilePromised, fileSingular, fileSingularOut, fileSolid, fileWritten, fileWrittenBytes};
+ghost use Rattle.file_reports.specs.FileReports.{fileCheck, fileComponents, fileComponentsOut, fileCondition, fileConnected, fileCountsOut, fileOpenings, fileOpeningsOut, fileOutline, FilePromised, fileSingular, fileSingularOut, fileSolid, fileWritten, fileWrittenBytes};
 use answers::Answer;
 use answers::check_values;
+use answers::done_with;
 use answers::figure_values;
 use answers::place_values;
 use answers::solid_values;
@@ -16,15 +17,18 @@ use errors::Check;
 use group_calls::connected_components;
 use group_calls::is_connected;
 use group_calls::singular_vertices;
+use pattern::BODIES;
 use shell_calls::extract_boundaries;
 use shell_calls::shell_condition;
 use solid_calls::try_new;
 use store::SPANS;
 use store::TABLES;
+use store::tables_known;
 use store_check::wire_place;
 use store_read::load;
 use store_read::read;
 use store_write::write;
+use words::copy_u16s;
 
 // The reading checks of a file.
 pub fn check_file(file: &[u8]) -> Answer
@@ -33,6 +37,24 @@ pub fn check_file(file: &[u8]) -> Answer
     let mut t = [0u16; TABLES];
     let mut spans = [0.0; SPANS];
     check_values(read(file, &mut t, &mut spans))
+}
+
+// How many records each body has.
+pub fn file_counts(file: &[u8], counts: &mut [u16; BODIES]) -> Answer
+    ensures { λ r. ⌜ r ≡ fileCheck (now (file .entry)) ⌝ }
+    ensures { λ _. ⌜ now (counts .exit) ≡ sets (now (counts .entry)) 0 (fileCountsOut (now (file .entry))) ⌝ }
+{
+    let mut t = [0u16; TABLES];
+    let mut spans = [0.0; SPANS];
+    let checked = read(file, &mut t, &mut spans);
+    match checked {
+        Check::Refused(f) => unread(f),
+        Check::Accepted => {
+            tables_known(&t);
+            copy_u16s(&t[0..BODIES], counts, 0);
+            done_with(0, 0, 0)
+        }
+    }
 }
 
 // Where the uses of wire w stand in the use list.

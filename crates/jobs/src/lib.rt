@@ -38,6 +38,7 @@ fn do_face_job(j: usize, v: &[u64], file: &[u8], text: &mut [u8]) -> usize
 }
 
 // The lengths of an answer's text and of the edited file; 0 where the file stays as it is.
+#[repr(C)]
 pub struct Job {
     pub text: usize,
     pub file: usize,

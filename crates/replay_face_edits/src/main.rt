@@ -59,15 +59,15 @@ fn apply(
     lens: &mut [u16],
 ) -> Answer {
     if name == GLUE {
-        return wuzsanget_glue(file, v[0], v[1], uses, lens);
+        return wuzsanget_glue(file, index(v[0]), index(v[1]), uses, lens);
     }
     if name == CUTEDGE {
-        return wuzsanget_cut_by_edge(file, v[0], v[3], uses, lens);
+        return wuzsanget_cut_by_edge(file, index(v[0]), index(v[3]), uses, lens);
     }
     if name == ADD {
-        return wuzsanget_add_boundary(file, v[0], wire, uses, lens);
+        return wuzsanget_add_boundary(file, index(v[0]), wire, uses, lens);
     }
-    wuzsanget_cut_by_wire(file, v[0], wire, uses, lens)
+    wuzsanget_cut_by_wire(file, index(v[0]), wire, uses, lens)
 }
 
 // Writes the answer of an edit whose result is these wires, and returns its length.

@@ -9,8 +9,11 @@ ghost use Rattle.file_concat.specs.FileConcat.{fileConcat, fileConcatBytes};
 ghost use Rattle.file_cut.specs.FileCut.{fileCut, fileCutBytes};
 ghost use Rattle.file_remove.specs.FileRemove.{fileRemove, fileRemoveBytes};
 ghost use Rattle.file_face_edits.specs.FileFaceEdits.{fileAdd, fileAddOut, fileCutFace, fileCutFaceOut, fileGlue, fileGlueOut};
-ghost use Rattle.file_reports.specs.FileReports.{fileCheck, fileComponents, fileComponentsOut, fileCondition, fileConnected, fileOpenings, fileOpeningsOut, fileOutline, FilePromised, fileSingular, fileSingularOut, fileSolid, fileWritten, fileWrittenBytes};
+ghost use Rattle.file_reports.specs.FileReports.{fileCheck, fileComponents, fileComponentsOut, fileCondition, fileConnected, fileCountsOut, fileOpenings, fileOpeningsOut, fileOutline, FilePromised, fileSingular, fileSingularOut, fileSolid, fileWritten, fileWrittenBytes};
+ghost use Rattle.jobs.specs.Jobs.{lineLength, lineOut, lineText};
 ghost use Rattle.report_text.specs.Report.{reportOf, ReportPromised};
+ghost use Rattle.show_text.specs.PatternText.{fileText};
+ghost use Rattle.words.specs.Words.{short};
 use answers::Answer;
 use file_concat::file_concat;
 use file_cut::file_cut;
@@ -23,18 +26,49 @@ use file_reports::check_file;
 use file_reports::file_components;
 use file_reports::file_condition;
 use file_reports::file_connected;
+use file_reports::file_counts;
 use file_reports::file_openings;
 use file_reports::file_outline;
 use file_reports::file_singular;
 use file_reports::file_solid;
 use file_reports::rewrite_file;
+use jobs::Job;
+use jobs::run;
+use pattern::BODIES;
+use pattern::LONGEST;
 use report_text::report;
+use show_text::show;
+use words::saturated;
+
+// A number as a client gives it, as one of 16 bits. Above 65,535 it names nothing, as 65,535 does: no pattern
+// has a point, an edge, a use or a face of that number.
+fn named(n: usize) -> u16
+    ensures { λ r. ⌜ r ≡ short n ⌝ }
+{
+    saturated(n as u64)
+}
+
+// WUZSANGET_VERSION of include/wuzsanget.h.
+#[no_mangle]
+pub extern "C" fn wuzsanget_version() -> usize
+    ensures { λ r. ⌜ r ≡ 1 ⌝ }
+{
+    1
+}
 
 #[no_mangle]
 pub extern "C" fn wuzsanget_read(file: &[u8]) -> Answer
     ensures { λ r. ⌜ r ≡ fileCheck (now (file .entry)) ⌝ }
 {
     check_file(file)
+}
+
+#[no_mangle]
+pub extern "C" fn wuzsanget_counts(file: &[u8], counts: &mut [u16; BODIES]) -> Answer
+    ensures { λ r. ⌜ r ≡ fileCheck (now (file .entry)) ⌝ }
+    ensures { λ _. ⌜ now (counts .exit) ≡ sets (now (counts .entry)) 0 (fileCountsOut (now (file .entry))) ⌝ }
+{
+    file_counts(file, counts)
 }
 
 #[no_mangle]
@@ -59,6 +93,13 @@ pub extern "C" fn wuzsanget_report(file: &[u8], text: &mut [u8; 1126400]) -> usi
     ensures { λ _. ⌜ ReportPromised (now (file .entry)) ⌝ }
 {
     report(file, text)
+}
+
+#[no_mangle]
+pub extern "C" fn wuzsanget_show(file: &[u8], text: &mut [u8; 262144]) -> usize
+    ensures { λ r. ⌜ (now (text .exit) ≡ sets (now (text .entry)) 0 (fileText (now (file .entry)))) × (r ≡ length (fileText (now (file .entry)))) ⌝ }
+{
+    show(file, text)
 }
 
 #[no_mangle]
@@ -127,94 +168,107 @@ pub extern "C" fn wuzsanget_solid(file: &[u8]) -> Answer
 pub extern "C" fn wuzsanget_cut_edge(
     file: &[u8],
     shell: usize,
-    edge: u16,
-    point: u16,
+    edge: usize,
+    point: usize,
     parameter: u64,
     out: &mut [u8],
 ) -> Answer
-    ensures { λ r. ⌜ r ≡ fileCut (now (file .entry)) shell edge point parameter (now (out .entry)) ⌝ }
-    ensures { λ _. ⌜ now (out .exit) ≡ fileCutBytes (now (file .entry)) shell edge point parameter (now (out .entry)) ⌝ }
+    ensures { λ r. ⌜ r ≡ fileCut (now (file .entry)) shell (short edge) (short point) parameter (now (out .entry)) ⌝ }
+    ensures { λ _. ⌜ now (out .exit) ≡ fileCutBytes (now (file .entry)) shell (short edge) (short point) parameter (now (out .entry)) ⌝ }
 {
-    file_cut(file, shell, edge, point, parameter, out)
+    file_cut(file, shell, named(edge), named(point), parameter, out)
 }
 
 #[no_mangle]
 pub extern "C" fn wuzsanget_remove_vertex(
     file: &[u8],
     shell: usize,
-    point: u16,
+    point: usize,
     out: &mut [u8],
 ) -> Answer
-    ensures { λ r. ⌜ r ≡ fileRemove (now (file .entry)) shell point (now (out .entry)) ⌝ }
-    ensures { λ _. ⌜ now (out .exit) ≡ fileRemoveBytes (now (file .entry)) shell point (now (out .entry)) ⌝ }
+    ensures { λ r. ⌜ r ≡ fileRemove (now (file .entry)) shell (short point) (now (out .entry)) ⌝ }
+    ensures { λ _. ⌜ now (out .exit) ≡ fileRemoveBytes (now (file .entry)) shell (short point) (now (out .entry)) ⌝ }
 {
-    file_remove(file, shell, point, out)
+    file_remove(file, shell, named(point), out)
 }
 
 #[no_mangle]
-pub extern "C" fn wuzsanget_concat(file: &[u8], a: u16, b: u16, out: &mut [u8]) -> Answer
-    ensures { λ r. ⌜ r ≡ fileConcat (now (file .entry)) a b (now (out .entry)) ⌝ }
-    ensures { λ _. ⌜ now (out .exit) ≡ fileConcatBytes (now (file .entry)) a b (now (out .entry)) ⌝ }
+pub extern "C" fn wuzsanget_concat(file: &[u8], a: usize, b: usize, out: &mut [u8]) -> Answer
+    ensures { λ r. ⌜ r ≡ fileConcat (now (file .entry)) (short a) (short b) (now (out .entry)) ⌝ }
+    ensures { λ _. ⌜ now (out .exit) ≡ fileConcatBytes (now (file .entry)) (short a) (short b) (now (out .entry)) ⌝ }
 {
-    file_concat(file, a, b, out)
+    file_concat(file, named(a), named(b), out)
 }
 
 #[no_mangle]
 pub extern "C" fn wuzsanget_add_boundary(
     file: &[u8],
-    face: u16,
+    face: usize,
     wire: &[u16],
     uses: &mut [u16],
     lengths: &mut [u16],
 ) -> Answer
-    ensures { λ r. ⌜ r ≡ fileAdd (now (file .entry)) face (now (wire .entry)) (length (now (uses .entry))) (length (now (lengths .entry))) ⌝ }
-    ensures { λ _. ⌜ now (uses .exit) ≡ sets (now (uses .entry)) 0 (flat (fileAddOut (now (file .entry)) face (now (wire .entry)) (length (now (uses .entry))) (length (now (lengths .entry))))) ⌝ }
-    ensures { λ _. ⌜ now (lengths .exit) ≡ sets (now (lengths .entry)) 0 (map length (fileAddOut (now (file .entry)) face (now (wire .entry)) (length (now (uses .entry))) (length (now (lengths .entry))))) ⌝ }
+    ensures { λ r. ⌜ r ≡ fileAdd (now (file .entry)) (short face) (now (wire .entry)) (length (now (uses .entry))) (length (now (lengths .entry))) ⌝ }
+    ensures { λ _. ⌜ now (uses .exit) ≡ sets (now (uses .entry)) 0 (flat (fileAddOut (now (file .entry)) (short face) (now (wire .entry)) (length (now (uses .entry))) (length (now (lengths .entry))))) ⌝ }
+    ensures { λ _. ⌜ now (lengths .exit) ≡ sets (now (lengths .entry)) 0 (map length (fileAddOut (now (file .entry)) (short face) (now (wire .entry)) (length (now (uses .entry))) (length (now (lengths .entry))))) ⌝ }
 {
-    file_add(file, face, wire, uses, lengths)
+    file_add(file, named(face), wire, uses, lengths)
 }
 
 #[no_mangle]
 pub extern "C" fn wuzsanget_cut_by_wire(
     file: &[u8],
-    face: u16,
+    face: usize,
     wire: &[u16],
     uses: &mut [u16],
     lengths: &mut [u16],
 ) -> Answer
-    ensures { λ r. ⌜ r ≡ fileCutFace (now (file .entry)) face (now (wire .entry)) (length (now (uses .entry))) (length (now (lengths .entry))) ⌝ }
-    ensures { λ _. ⌜ now (uses .exit) ≡ sets (now (uses .entry)) 0 (flat (fileCutFaceOut (now (file .entry)) face (now (wire .entry)) (length (now (uses .entry))) (length (now (lengths .entry))))) ⌝ }
-    ensures { λ _. ⌜ now (lengths .exit) ≡ sets (now (lengths .entry)) 0 (map length (fileCutFaceOut (now (file .entry)) face (now (wire .entry)) (length (now (uses .entry))) (length (now (lengths .entry))))) ⌝ }
+    ensures { λ r. ⌜ r ≡ fileCutFace (now (file .entry)) (short face) (now (wire .entry)) (length (now (uses .entry))) (length (now (lengths .entry))) ⌝ }
+    ensures { λ _. ⌜ now (uses .exit) ≡ sets (now (uses .entry)) 0 (flat (fileCutFaceOut (now (file .entry)) (short face) (now (wire .entry)) (length (now (uses .entry))) (length (now (lengths .entry))))) ⌝ }
+    ensures { λ _. ⌜ now (lengths .exit) ≡ sets (now (lengths .entry)) 0 (map length (fileCutFaceOut (now (file .entry)) (short face) (now (wire .entry)) (length (now (uses .entry))) (length (now (lengths .entry))))) ⌝ }
 {
-    file_cut_by_wire(file, face, wire, uses, lengths)
+    file_cut_by_wire(file, named(face), wire, uses, lengths)
 }
 
 #[no_mangle]
 pub extern "C" fn wuzsanget_cut_by_edge(
     file: &[u8],
-    face: u16,
-    edge: u16,
+    face: usize,
+    edge_use: usize,
     uses: &mut [u16],
     lengths: &mut [u16],
 ) -> Answer
-    ensures { λ r. ⌜ r ≡ fileCutFace (now (file .entry)) face (edge ∷ []) (length (now (uses .entry))) (length (now (lengths .entry))) ⌝ }
-    ensures { λ _. ⌜ now (uses .exit) ≡ sets (now (uses .entry)) 0 (flat (fileCutFaceOut (now (file .entry)) face (edge ∷ []) (length (now (uses .entry))) (length (now (lengths .entry))))) ⌝ }
-    ensures { λ _. ⌜ now (lengths .exit) ≡ sets (now (lengths .entry)) 0 (map length (fileCutFaceOut (now (file .entry)) face (edge ∷ []) (length (now (uses .entry))) (length (now (lengths .entry))))) ⌝ }
+    ensures { λ r. ⌜ r ≡ fileCutFace (now (file .entry)) (short face) (short edge_use ∷ []) (length (now (uses .entry))) (length (now (lengths .entry))) ⌝ }
+    ensures { λ _. ⌜ now (uses .exit) ≡ sets (now (uses .entry)) 0 (flat (fileCutFaceOut (now (file .entry)) (short face) (short edge_use ∷ []) (length (now (uses .entry))) (length (now (lengths .entry))))) ⌝ }
+    ensures { λ _. ⌜ now (lengths .exit) ≡ sets (now (lengths .entry)) 0 (map length (fileCutFaceOut (now (file .entry)) (short face) (short edge_use ∷ []) (length (now (uses .entry))) (length (now (lengths .entry))))) ⌝ }
 {
-    file_cut_by_edge(file, face, edge, uses, lengths)
+    file_cut_by_edge(file, named(face), named(edge_use), uses, lengths)
 }
 
 #[no_mangle]
 pub extern "C" fn wuzsanget_glue(
     file: &[u8],
-    face: u16,
-    other: u16,
+    face: usize,
+    other: usize,
     uses: &mut [u16],
     lengths: &mut [u16],
 ) -> Answer
-    ensures { λ r. ⌜ r ≡ fileGlue (now (file .entry)) face other (length (now (uses .entry))) (length (now (lengths .entry))) ⌝ }
-    ensures { λ _. ⌜ now (uses .exit) ≡ sets (now (uses .entry)) 0 (flat (fileGlueOut (now (file .entry)) face other (length (now (uses .entry))) (length (now (lengths .entry))))) ⌝ }
-    ensures { λ _. ⌜ now (lengths .exit) ≡ sets (now (lengths .entry)) 0 (map length (fileGlueOut (now (file .entry)) face other (length (now (uses .entry))) (length (now (lengths .entry))))) ⌝ }
+    ensures { λ r. ⌜ r ≡ fileGlue (now (file .entry)) (short face) (short other) (length (now (uses .entry))) (length (now (lengths .entry))) ⌝ }
+    ensures { λ _. ⌜ now (uses .exit) ≡ sets (now (uses .entry)) 0 (flat (fileGlueOut (now (file .entry)) (short face) (short other) (length (now (uses .entry))) (length (now (lengths .entry))))) ⌝ }
+    ensures { λ _. ⌜ now (lengths .exit) ≡ sets (now (lengths .entry)) 0 (map length (fileGlueOut (now (file .entry)) (short face) (short other) (length (now (uses .entry))) (length (now (lengths .entry))))) ⌝ }
 {
-    file_glue(file, face, other, uses, lengths)
+    file_glue(file, named(face), named(other), uses, lengths)
+}
+
+#[no_mangle]
+pub extern "C" fn wuzsanget_edit(
+    line: &[u8],
+    file: &[u8],
+    out: &mut [u8; LONGEST],
+    text: &mut [u8; 65536],
+) -> Job
+    ensures { λ r. ⌜ (now (text .exit) ≡ sets (now (text .entry)) 0 (lineText (now (line .entry)) (now (file .entry)) (now (out .entry)))) × (r .text ≡ length (lineText (now (line .entry)) (now (file .entry)) (now (out .entry)))) ⌝ }
+    ensures { λ r. ⌜ (now (out .exit) ≡ lineOut (now (line .entry)) (now (file .entry)) (now (out .entry))) × (r .file ≡ lineLength (now (line .entry)) (now (file .entry)) (now (out .entry))) ⌝ }
+{
+    run(line, file, out, text)
 }
