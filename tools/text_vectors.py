@@ -2,7 +2,7 @@
 """Vectors for patterns as text.
 
 Each row of the table below is one text and what its making gives, worked out by hand from the form of a line
-(docs/GUIDE.md) and document 01: `length N`, or the line of its first fault. The pattern files among the
+(docs/GUIDE.md) and document 01: `length N`, or the line of its first fault with its numbers. The pattern files among the
 recorded ones go to text and back.
 
 It writes, into crates/replay_text or the folder given,
@@ -31,8 +31,19 @@ FACE_FORM = "face NUMBER surface SURFACE wire USE .. wire USE .."
 SHELL_FORM = "shell NUMBER faces LISTING .."
 
 
+# A refusal has a second line: the number of the refusal, the line, and the word or the number that is expected, or 0.
+
+
 def word(line, k, form):
-    return f"line {line}: word {k} of {form}"
+    return f"line {line}: word {k} of {form}\nanswer 0 {line} {k}"
+
+
+def number(line, kind, k):
+    return f"line {line}: {kind} {k} is expected\nanswer 0 {line} {k}"
+
+
+def whole(sentence):
+    return f"{sentence}\nanswer 0 0 0"
 
 
 def refused(line, n):
@@ -45,7 +56,7 @@ def refused(line, n):
         7: "a wire that is not closed",
         8: "a wire that meets a point twice, or meets an earlier wire of its face",
     }[n]
-    return f"line {line}: refused {n}: {meaning}"
+    return f"line {line}: refused {n}: {meaning}\nanswer {n} {line} 0"
 
 
 def file_length(points, edges, uses, wires, faces, shells, listings):
@@ -57,12 +68,55 @@ def with_span(t0, t1):
 
 
 LENGTH = f"length {file_length(3, 3, 3, 1, 1, 1, 1)}"
-KEYWORDS = "line 1: begin with point, edge, face, shell or #"
+EMPTY_LENGTH = f"length {file_length(0, 0, 0, 0, 0, 0, 0)}"
+
+
+def keywords(line):
+    return f"line {line}: begin with point, edge, face, shell, empty or #\nanswer 0 {line} 1"
+
+
+KEYWORDS = keywords(1)
+MARKED = whole("begins with a byte order mark: save the text as UTF-8 without one")
+NOTHING = whole('says nothing: no point, edge, face or shell (a line "empty" makes an empty pattern)')
+NOT_EMPTY = whole('has a line "empty", and points, edges, faces or shells too')
 
 # name, text, answer
 VECTORS = [
-    ("empty", "", "length 56"),
-    ("comment", "# nothing\n#\n   # here\n\n \t \n", "length 56"),
+    # no records
+    ("nothing", "", NOTHING),
+    ("blanks", " \t \n\r\n\n\t", NOTHING),
+    ("comment", "# nothing\n#\n   # here\n\n \t \n", NOTHING),
+    ("comment-empty", "# empty\n#empty\n", NOTHING),
+    ("empty", "empty\n", EMPTY_LENGTH),
+    ("empty-no-feed", "empty", EMPTY_LENGTH),
+    ("empty-with-comments", "# as yet\n\n\t empty \r\n# no records\n", EMPTY_LENGTH),
+    ("empty-twice", "empty\nempty\n", EMPTY_LENGTH),
+    ("empty-before-records", "empty\n" + TRIANGLE, NOT_EMPTY),
+    ("empty-after-records", TRIANGLE + "empty\n", NOT_EMPTY),
+    ("empty-with-point", "empty\npoint 0 label 0\n", NOT_EMPTY),
+    ("empty-with-edge", "empty\nedge 0 from 0 to 1 span 0 1\n", NOT_EMPTY),
+    ("empty-with-face", "face 0 surface 0\nempty\n", NOT_EMPTY),
+    ("empty-with-shell", "shell 0 faces\nempty\n", NOT_EMPTY),
+    ("empty-and-word", "empty x\n", word(1, 2, "empty")),
+    ("empty-and-number", "# none\nempty 0 0\n", word(2, 2, "empty")),
+    ("empty-and-comment", "empty # none\n", word(1, 2, "empty")),
+    ("empty-longer", "emptyy\n", KEYWORDS),
+    ("empty-capital", "Empty\n", KEYWORDS),
+    ("words-before-empty", "empty\npoint 0 label 0\npoint 1\n", word(3, 3, POINT_FORM)),
+    # byte order marks
+    ("mark-8", b"\xef\xbb\xbf" + TRIANGLE.encode(), MARKED),
+    ("mark-16-big", b"\xfe\xff" + TRIANGLE.encode("utf-16-be"), MARKED),
+    ("mark-16-little", b"\xff\xfe" + TRIANGLE.encode("utf-16-le"), MARKED),
+    ("mark-alone", b"\xef\xbb\xbf", MARKED),
+    ("mark-before-empty", b"\xef\xbb\xbfempty\n", MARKED),
+    ("mark-of-two-bytes", b"\xef\xbb", KEYWORDS),
+    ("mark-other-third", b"\xef\xbb\xbe", KEYWORDS),
+    ("mark-half-big", b"\xfe", KEYWORDS),
+    ("mark-half-little", b"\xff\xff", KEYWORDS),
+    ("mark-within", POINTS.encode() + b"\xef\xbb\xbfpoint 3 label 0\n", keywords(4)),
+    ("mark-after-feed", b"\n\xff\xfe", keywords(2)),
+    ("mark-in-comment", b"#\xef\xbb\xbf\n" + TRIANGLE.encode(), LENGTH),
+    # lines and words
     ("triangle", TRIANGLE, LENGTH),
     ("no-last-feed", TRIANGLE[:-1], LENGTH),
     ("carriage-returns", TRIANGLE.replace("\n", "\r\n"), LENGTH),
@@ -83,13 +137,24 @@ VECTORS = [
     ("word-of-eight", "pointttt 0 label 0\n", KEYWORDS),
     ("zero-byte", "point\0 0 label 0\n", KEYWORDS),
     ("comment-after", "point 0 label 0 # first\n", word(1, 5, POINT_FORM)),
-    ("number-skipped", "point 0 label 0\npoint 2 label 0\n", word(2, 2, POINT_FORM)),
-    ("number-again", "point 0 label 0\npoint 0 label 0\n", word(2, 2, POINT_FORM)),
+    ("number-skipped", "point 0 label 0\npoint 2 label 0\n", number(2, "point", 1)),
+    ("number-again", "point 0 label 0\npoint 0 label 0\n", number(2, "point", 1)),
+    ("number-from-1", "point 1 label 0\npoint 2 label 0\n", number(1, "point", 0)),
+    ("number-of-nine-digits", POINTS + "point 999999999 label 0\n", number(4, "point", 3)),
+    ("number-of-ten-digits", POINTS + "point 0000000003 label 0\n", word(4, 2, POINT_FORM)),
+    ("number-of-edge-skipped", POINTS + EDGES.replace("edge 2", "edge 3"), number(6, "edge", 2)),
+    ("number-of-edge-again", POINTS + EDGES.replace("edge 2", "edge 1"), number(6, "edge", 2)),
+    ("number-of-edge-from-1", POINTS + "edge 1 from 0 to 1 span 0 1\n", number(4, "edge", 0)),
+    ("number-of-face-skipped", POINTS + EDGES + FACE + "# one more\nface 2 surface 0\n", number(9, "face", 1)),
+    ("number-of-face-from-1", "face 1 surface 0\n", number(1, "face", 0)),
+    ("number-of-shell-again", TRIANGLE + "shell 0 faces 0-\n", number(9, "shell", 1)),
+    ("number-of-shell-from-1", "shell 1 faces\n", number(1, "shell", 0)),
+    ("number-of-two-digits", "".join(f"shell {k} faces\n" for k in range(12)) + "shell 11 faces\n", number(13, "shell", 12)),
     ("number-missing", "point\n", word(1, 2, POINT_FORM)),
-    ("number-wrong-first", "point 5 label x\n", word(1, 2, POINT_FORM)),
+    ("number-wrong-first", "point 5 label x\n", number(1, "point", 0)),
     ("label-missing", "point 0 label\n", word(1, 4, POINT_FORM)),
     ("label-negative", "point 0 label -1\n", word(1, 4, POINT_FORM)),
-    ("edge-number-counts-edges", POINTS + "edge 3 from 0 to 1 span 0 1\n", word(4, 2, EDGE_FORM)),
+    ("edge-number-counts-edges", POINTS + "edge 3 from 0 to 1 span 0 1\n", number(4, "edge", 0)),
     ("edge-short", POINTS + "edge 0 from 0 to 1 span 0\n", word(4, 9, EDGE_FORM)),
     ("edge-long", POINTS + "edge 0 from 0 to 1 span 0 1 2\n", word(4, 10, EDGE_FORM)),
     ("edge-words", POINTS + "edge 0 from 0 for 1 span 0 1\n", word(4, 5, EDGE_FORM)),
@@ -128,7 +193,7 @@ VECTORS = [
     ("point-twice", TRIANGLE + "face 1 surface 0 wire 0+ 0- 0+ 0-\n", refused(9, 8)),
     ("wires-meet", TRIANGLE + "face 1 surface 0 wire 0+ 0- wire 1+ 1-\n", refused(9, 8)),
     ("first-check-first", POINTS + FACE + EDGES.replace("from 1 to 2 span 0 1", "from 1 to 2 span 1 0"), refused(6, 4)),
-    ("words-before-checks", POINTS + FACE.replace("1+", "1-") + EDGES + "shell 1 faces 0+\n", word(8, 2, SHELL_FORM)),
+    ("words-before-checks", POINTS + FACE.replace("1+", "1-") + EDGES + "shell 1 faces 0+\n", number(8, "shell", 0)),
     # limits
     ("points-2048", "".join(f"point {k} label 0\n" for k in range(2048)), f"length {56 + 4 * 2048}"),
     ("points-2049", "".join(f"point {k} label 0\n" for k in range(2049)), refused(2049, 2)),
@@ -171,7 +236,7 @@ def main():
         old.unlink()
     names, told = [], ""
     for name, text, answer in VECTORS:
-        (data / name).write_bytes(text.encode())
+        (data / name).write_bytes(text if isinstance(text, bytes) else text.encode())
         names.append(name)
         told += f"file {name}\n{answer}\n"
     for name, content in patterns():

@@ -1,10 +1,16 @@
 // What the programs share: their usage, standard input read to its end, the files that the arguments
 // name, and texts written to a descriptor. No contract says what a descriptor gave or was given; the texts
 // are proved where they are made.
+ghost use mathlib.Core.Path.{_≡_};
+ghost use lib.ListN.{length};
 ghost use Rattle.io.specs.Counts.{Counts};
+ghost use Rattle.libc.specs.Io.{Moved};
+ghost use Rattle.console.specs.Help.{isHelp};
 use errors::Refusal;
 use libc::STDERR_FILENO;
 use libc::STDIN_FILENO;
+use libc::STDOUT_FILENO;
+use text::name_of;
 
 // Whether the program was started with so many words after its name. Where it was not, its usage goes to
 // standard error.
@@ -19,28 +25,87 @@ pub fn is_used(words: usize, usage: &[u8]) -> bool {
     false
 }
 
-// Reads the rest of an input that is longer than any that is taken.
-fn drain() {
+// Whether a word asks for help.
+fn is_help(word: &[u8]) -> bool
+    ensures { λ r. ⌜ r ≡ isHelp (now (word .entry)) ⌝ }
+{
+    let name = name_of(word);
+    if name == 0x12d2d68656c70 {
+        return true;
+    }
+    name == 0x12d68
+}
+
+// Whether a program that takes no words was started with none. Where its only word asks for help, its usage
+// goes to standard output, which `output` names; where it was started with others, to standard error.
+pub fn is_alone(output: &[u8], usage: &[u8]) -> bool {
+    if os::arg_count() == 2 {
+        let mut word = [0u8; 8];
+        let n = os::arg(1, &mut word);
+        if is_help(&word[..n]) {
+            if !io::write_all(STDOUT_FILENO, usage) {
+                os::fail(output);
+            }
+            return false;
+        }
+    }
+    is_used(0, usage)
+}
+
+// Reads until the list is full or the input ends, and answers how many bytes, or -1 at a read that fails.
+fn read_all(fd: i32, bytes: &mut [u8]) -> isize
+    ensures { λ r. ⌜ Moved (length (now (bytes .entry))) r ⌝ }
+{
+    let mut done: usize = 0;
+    while done < bytes.len() {
+        let got = libc::read(fd, &mut bytes[done..]);
+        if got < 0 {
+            return -1;
+        }
+        let more = io::count(got, &bytes[done..]);
+        if more == 0 {
+            return done as isize;
+        }
+        done += more;
+    }
+    done as isize
+}
+
+// Reads the rest of an input that is longer than any that is taken. Whether no read failed.
+fn drain() -> bool {
     let mut scratch = [0u8; 4096];
     let mut turn: u64 = 0;
     while turn < 18446744073709551615 {
-        if io::read_full(STDIN_FILENO, &mut scratch) == 0 {
-            return;
+        let got = libc::read(STDIN_FILENO, &mut scratch);
+        if got < 0 {
+            return false;
+        }
+        if got == 0 {
+            return true;
         }
         turn += 1;
     }
+    true
 }
 
 // Reads standard input to its end, and answers how many bytes it put at the start of the list: a list of
-// one byte more than is taken is full where the input is too long.
-pub fn read_input(bytes: &mut [u8]) -> usize
-    ensures { λ r. ⌜ Counts r (now (bytes .exit)) ⌝ }
+// one byte more than is taken is full where the input is too long. Where a read fails, at any place, it says
+// why on standard error, after `input`, and answers -1.
+pub fn read_input(input: &[u8], bytes: &mut [u8]) -> isize
+    ensures { λ r. ⌜ Moved (length (now (bytes .entry))) r ⌝ }
 {
-    let n = io::read_full(STDIN_FILENO, bytes);
-    if n == bytes.len() {
-        drain();
+    let got = read_all(STDIN_FILENO, bytes);
+    if got < 0 {
+        os::fail(input);
+        return -1;
     }
-    n
+    if io::count(got, bytes) == bytes.len() {
+        if !drain() {
+            os::fail(input);
+            return -1;
+        }
+    }
+    got
 }
 
 // The first n bytes, or nothing where there are fewer. Whether all was written.

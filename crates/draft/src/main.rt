@@ -7,7 +7,9 @@ use pattern::LONGEST;
 
 fn print_file(file: &[u8; LONGEST], n: usize) {
     let whole: &[u8] = file;
-    console::print_first(STDOUT_FILENO, whole, n);
+    if !console::print_first(STDOUT_FILENO, whole, n) {
+        os::fail(b"draft: standard output");
+    }
 }
 
 fn print_line(line: &[u8; 256], n: usize) {
@@ -16,13 +18,20 @@ fn print_line(line: &[u8; 256], n: usize) {
 }
 
 fn main() {
-    if !console::is_used(0, b"usage: draft < TEXT > FILE\n") {
+    if !console::is_alone(
+        b"draft: standard output",
+        b"usage: draft < TEXT > FILE\nreads a text and writes the pattern file that it describes, or says what is wrong\n",
+    ) {
         return;
     }
     // One byte more than the longest text.
     let mut text = [0u8; 262145];
+    let got = console::read_input(b"draft: standard input", &mut text);
+    if got < 0 {
+        return;
+    }
+    let n = io::count(got, &text);
     let mut file = [0u8; LONGEST];
-    let n = console::read_input(&mut text);
     let made = draft_text::make(&text[0..n], &mut file);
     match made {
         Made::Length(length) => {

@@ -4,18 +4,23 @@ use mathlib.Core.List.{List, [], _++_}
 use lib.Dec.{eqb}
 use Rattle.errors.specs.Numbers.{number}
 use Rattle.lists.specs.Lists.{pick}
-use Rattle.output.specs.Text.{ascii, field}
+use Rattle.output.specs.Text.{ascii, decimal, field}
 use Rattle.draft_text.specs.declared.Fault.{Fault}
-use Rattle.draft_text.specs.declared.Fault.the-variants.{Refused, Word}
+use Rattle.draft_text.specs.declared.Fault.the-variants.{Number, Refused, Word}
 use Rattle.draft_text.specs.declared.Made.{Made}
-use Rattle.draft_text.specs.declared.Made.the-variants.{At, Length, TooLong}
+use Rattle.draft_text.specs.declared.Made.the-variants.{At, Length, Marked, NotEmpty, Nothing, TooLong}
 
 unfoldable pub lineForm : ℕ → List ℕ
 lineForm k =
     pick (eqb k 1) (ascii "point NUMBER label LABEL\n")
     (pick (eqb k 2) (ascii "edge NUMBER from POINT to POINT span T0 T1\n")
     (pick (eqb k 3) (ascii "face NUMBER surface SURFACE wire USE .. wire USE ..\n")
-    (ascii "shell NUMBER faces LISTING ..\n")))
+    (pick (eqb k 6) (ascii "empty\n")
+    (ascii "shell NUMBER faces LISTING ..\n"))))
+
+-- the word of a line that has a number
+unfoldable pub lineWord : ℕ → List ℕ
+lineWord k = pick (eqb k 1) (ascii ": point ") (pick (eqb k 2) (ascii ": edge ") (pick (eqb k 3) (ascii ": face ") (ascii ": shell ")))
 
 -- document 01's meaning of a refusal of the reading checks
 unfoldable pub meaning : ℕ → List ℕ
@@ -31,7 +36,8 @@ meaning n =
 
 abbrev pub faultText : Fault → List ℕ
 faultText (Word k w) =
-    pick (eqb k 0) (ascii ": begin with point, edge, face, shell or #\n") (field ": word " w ++ ascii " of " ++ lineForm k)
+    pick (eqb k 0) (ascii ": begin with point, edge, face, shell, empty or #\n") (field ": word " w ++ ascii " of " ++ lineForm k)
+faultText (Number k n) = lineWord k ++ decimal n ++ ascii " is expected\n"
 faultText (Refused f) = field ": refused " (number f) ++ meaning (number f)
 
 -- nothing where there is no fault
@@ -39,3 +45,6 @@ unfoldable pub madeText : Made → List ℕ
 madeText (Length n) = []
 madeText (At n f) = field "line " n ++ faultText f
 madeText TooLong = ascii "over 262144 bytes\n"
+madeText Marked = ascii "begins with a byte order mark: save the text as UTF-8 without one\n"
+madeText Nothing = ascii "says nothing: no point, edge, face or shell (a line \"empty\" makes an empty pattern)\n"
+madeText NotEmpty = ascii "has a line \"empty\", and points, edges, faces or shells too\n"

@@ -3,10 +3,11 @@ ghost use mathlib.Core.Path.{_≡_};
 ghost use Prim.Native.Nat.{_+_, _≤_};
 ghost use lib.ListN.{length};
 ghost use lib.Seq.{sets};
-ghost use Rattle.draft_faults.specs.FaultLines.{faultText, lineForm, madeText, meaning};
+ghost use Rattle.draft_faults.specs.FaultLines.{faultText, lineForm, lineWord, madeText, meaning};
 use draft_text::Fault;
 use draft_text::Made;
 use errors::number_of;
+use output::put_decimal;
 use output::put_field;
 use output::put_text;
 
@@ -28,7 +29,27 @@ fn put_form(out: &mut [u8], at: usize, k: usize) -> usize
             b"face NUMBER surface SURFACE wire USE .. wire USE ..\n",
         );
     }
+    if k == 6 {
+        return put_text(out, at, b"empty\n");
+    }
     put_text(out, at, b"shell NUMBER faces LISTING ..\n")
+}
+
+// Writes the word of a line of kind k, which has a number, from `at` on, and returns the place after it.
+fn put_word(out: &mut [u8], at: usize, k: usize) -> usize
+    requires { ⌜ at + 80 ≤ length (now out) ⌝ }
+    ensures { λ r. ⌜ (now (out .exit) ≡ sets (now (out .entry)) at (lineWord k)) × (r ≡ at + length (lineWord k)) × (r ≤ at + 80) ⌝ }
+{
+    if k == 1 {
+        return put_text(out, at, b": point ");
+    }
+    if k == 2 {
+        return put_text(out, at, b": edge ");
+    }
+    if k == 3 {
+        return put_text(out, at, b": face ");
+    }
+    put_text(out, at, b": shell ")
 }
 
 // Writes the meaning of refusal n from `at` on, and returns the place after it.
@@ -72,11 +93,20 @@ fn put_fault(out: &mut [u8], at: usize, f: Fault) -> usize
     match f {
         Fault::Word(k, w) => {
             if k == 0 {
-                return put_text(out, at, b": begin with point, edge, face, shell or #\n");
+                return put_text(
+                    out,
+                    at,
+                    b": begin with point, edge, face, shell, empty or #\n",
+                );
             }
             let mut end = put_field(out, at, b": word ", w);
             end = put_text(out, end, b" of ");
             put_form(out, end, k)
+        }
+        Fault::Number(k, n) => {
+            let mut end = put_word(out, at, k);
+            end = put_decimal(out, end, n);
+            put_text(out, end, b" is expected\n")
         }
         Fault::Refused(r) => {
             let n = number_of(r);
@@ -93,6 +123,21 @@ pub fn put_made(m: Made, out: &mut [u8; 256]) -> usize
     match m {
         Made::Length(n) => 0,
         Made::TooLong => put_text(out, 0, b"over 262144 bytes\n"),
+        Made::Marked => put_text(
+            out,
+            0,
+            b"begins with a byte order mark: save the text as UTF-8 without one\n",
+        ),
+        Made::Nothing => put_text(
+            out,
+            0,
+            b"says nothing: no point, edge, face or shell (a line \"empty\" makes an empty pattern)\n",
+        ),
+        Made::NotEmpty => put_text(
+            out,
+            0,
+            b"has a line \"empty\", and points, edges, faces or shells too\n",
+        ),
         Made::At(line, f) => {
             let at = put_field(out, 0, b"line ", line);
             put_fault(out, at, f)

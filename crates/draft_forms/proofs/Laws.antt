@@ -35,7 +35,7 @@ module _ (k : ℕ) where
   unfolding wordKinds furtherKind name nameAfter
   kinds-shell e = rw e (refl, refl)
 
-  pub kinds-none : (k ≡ 1 → ⊥) → (k ≡ 2 → ⊥) → (k ≡ 3 → ⊥) → (k ≡ 4 → ⊥) → (wordKinds k ≡ 1 ∷ 0x16661636573 ∷ []) × (furtherKind k ≡ 0)
+  pub kinds-none : (k ≡ 1 → ⊥) → (k ≡ 2 → ⊥) → (k ≡ 3 → ⊥) → (k ≡ 4 → ⊥) → (wordKinds k ≡ []) × (furtherKind k ≡ 0)
   unfolding wordKinds furtherKind name nameAfter
   kinds-none a b c d = rw (ne-eqb k 1 a, ne-eqb k 2 b, ne-eqb k 3 c, ne-eqb k 4 d) (refl, refl)
 
@@ -58,9 +58,13 @@ module _ (n : ℕ) where
   unfolding kindNamed name nameAfter
   named-shell e = rw e
 
-  pub named-none : (n ≡ 0x1706f696e74 → ⊥) → (n ≡ 0x165646765 → ⊥) → (n ≡ 0x166616365 → ⊥) → (n ≡ 0x17368656c6c → ⊥) → 0 ≡ kindNamed n
+  pub named-empty : n ≡ 0x1656d707479 → 6 ≡ kindNamed n
   unfolding kindNamed name nameAfter
-  named-none a b c d = rw (ne-eqb n 0x1706f696e74 a, ne-eqb n 0x165646765 b, ne-eqb n 0x166616365 c, ne-eqb n 0x17368656c6c d)
+  named-empty e = rw e
+
+  pub named-none : (n ≡ 0x1706f696e74 → ⊥) → (n ≡ 0x165646765 → ⊥) → (n ≡ 0x166616365 → ⊥) → (n ≡ 0x17368656c6c → ⊥) → (n ≡ 0x1656d707479 → ⊥) → 0 ≡ kindNamed n
+  unfolding kindNamed name nameAfter
+  named-none a b c d e = rw (ne-eqb n 0x1706f696e74 a, ne-eqb n 0x165646765 b, ne-eqb n 0x166616365 c, ne-eqb n 0x17368656c6c d, ne-eqb n 0x1656d707479 e)
 
 -- ---- the first word of a line
 

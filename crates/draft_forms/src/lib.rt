@@ -29,6 +29,9 @@ fn kind_named(name: u64) -> usize
     if name == 0x17368656c6c {
         return 4;
     }
+    if name == 0x1656d707479 {
+        return 6;
+    }
     0
 }
 
@@ -83,10 +86,11 @@ pub fn match_line(k: usize, line: &[u8], from: usize, out: &mut [u64]) -> Matche
         let kinds: [u64; 4] = [forms::NUMBER, 0x173757266616365, forms::SHORT, 0x177697265];
         return put_values(line, from, &kinds, forms::WIRES, out);
     }
-    let kinds: [u64; 2] = [forms::NUMBER, 0x16661636573];
     if k == 4 {
+        let kinds: [u64; 2] = [forms::NUMBER, 0x16661636573];
         return put_values(line, from, &kinds, forms::SIGNED, out);
     }
+    let kinds: [u64; 0] = [];
     put_values(line, from, &kinds, 0, out)
 }
 

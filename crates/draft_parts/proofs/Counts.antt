@@ -1,16 +1,18 @@
 -- The seven counts after a line.
 use Prim.Native.Nat.{_+_, _-_, _<_, _≤_, ℕ}
+use mathlib.Core.Bool.{false}
 use mathlib.Core.List.{List, [], _∷_}
-use mathlib.Core.Path.{_≡_}
+use mathlib.Core.Path.{_≡_, ap, sym}
 use native.Mathlib.Nat.{add-zero}
 use native.Mathlib.Omega.{arith}
 use lib.ListN.{drop, drop-of-length-le, getD, length, length-drop, length-map, set, take}
 use lib.Seq.{take-all}
+use lib.Dec.{eqb}
 use borrow.Author.Tests.{ne-eqb}
 use Rattle.lists.specs.Lists.{flat}
 use Rattle.pattern.specs.Contents.{countsOf}
 use Rattle.draft_parts.specs.Adding.{summed}
-use Rattle.draft_parts.specs.Parts.{marked, nothing, partsOf, wiresOf}
+use Rattle.draft_parts.specs.Parts.{bare, marked, nothing, partsOf, wiresOf}
 use Rattle.words.specs.Words.{short}
 
 seven-cases : (P : List ℕ → Type 0) → ((a b c d e f g : ℕ) → P (a ∷ b ∷ c ∷ d ∷ e ∷ f ∷ g ∷ [])) → (ns : List ℕ) → length ns ≡ 7 → P ns
@@ -83,3 +85,12 @@ module _ (k : ℕ) (vs ns : List ℕ) (seven : length ns ≡ 7) where
 
   pub after-none : (k ≡ 1 → ⊥) → (k ≡ 2 → ⊥) → (k ≡ 3 → ⊥) → (k ≡ 4 → ⊥) → ns ≡ summed ns (countsOf (partsOf k vs))
   after-none a b c d = rw (parts-none k vs a b c d) (summed-none ns seven)
+
+-- ---- whether there are points, edges, faces or shells
+
+module _ (ns : List ℕ) where
+  pub some : 0 < getD ns 0 0 + getD ns 1 0 + getD ns 4 0 + getD ns 5 0 → false ≡ bare ns
+  some h = sym (ne-eqb (getD ns 0 0 + getD ns 1 0 + getD ns 4 0 + getD ns 5 0) 0 (λ e. omega arith))
+
+  pub none : getD ns 0 0 ≤ 0 → getD ns 1 0 ≤ 0 → getD ns 4 0 ≤ 0 → eqb (getD ns 5 0) 0 ≡ bare ns
+  none a b c = let e : getD ns 0 0 + getD ns 1 0 + getD ns 4 0 + getD ns 5 0 ≡ getD ns 5 0 = omega arith in ap (λ (n : ℕ). eqb n 0) (sym e)

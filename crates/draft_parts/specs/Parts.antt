@@ -1,5 +1,6 @@
--- What a line of text adds to a pattern: a point, an edge, a face with its wires, a shell with its listings. Lines have kinds: 1 point, 2 edge, 3 face, 4 shell.
-use Prim.Native.Nat.{min, ℕ}
+-- What a line of text adds to a pattern: a point, an edge, a face with its wires, a shell with its listings. Lines have kinds: 1 point, 2 edge, 3 face, 4 shell, 6 that there is none of them.
+use Prim.Native.Nat.{_+_, min, ℕ}
+use mathlib.Core.Bool.{Bool}
 use mathlib.Core.List.{List, [], _++_, _∷_, map}
 use lib.Dec.{eqb}
 use lib.Ieee.{binary64, ofBits}
@@ -14,10 +15,14 @@ use Rattle.words.specs.Words.{short}
 
 -- how many words must be there after the first
 unfoldable pub neededWords : ℕ → ℕ
-neededWords k = pick (eqb k 2) 8 (pick (eqb k 4) 2 3)
+neededWords k = pick (eqb k 2) 8 (pick (eqb k 4) 2 (pick (eqb k 6) 0 3))
 
 abbrev pub nothing : Content
 nothing = record { points = []; edges = []; uses = []; wires = []; faces = []; shells = []; listings = [] }
+
+-- whether a pattern with these counts has no points, edges, faces and shells
+abbrev pub bare : List ℕ → Bool
+bare ns = eqb (getD ns 0 0 + getD ns 1 0 + getD ns 4 0 + getD ns 5 0) 0
 
 abbrev pub joined : Content → Content → Content
 joined p q = record {

@@ -10,7 +10,7 @@ ghost use Rattle.pattern.specs.Checks.{countFaults};
 ghost use Rattle.pattern.specs.Contents.{countsOf};
 ghost use Rattle.store.specs.Store.{countTable, held};
 ghost use Rattle.draft_parts.specs.Adding.{added, summed};
-ghost use Rattle.draft_parts.specs.Parts.{edgeOf, edgeParts, faceParts, neededWords, partsOf, pointParts, shellParts, wireLengths, wireLists};
+ghost use Rattle.draft_parts.specs.Parts.{bare, edgeOf, edgeParts, faceParts, neededWords, partsOf, pointParts, shellParts, wireLengths, wireLists};
 ghost use Rattle.words.specs.Words.{short};
 ghost use Rattle.store.specs.Columns.{withUses, withWires};
 use edge::Curve;
@@ -44,7 +44,26 @@ pub fn needed(k: usize) -> usize
     if k == 4 {
         return 2;
     }
+    if k == 6 {
+        return 0;
+    }
     3
+}
+
+// Whether a pattern with these counts has no points, edges, faces and shells.
+pub fn is_bare(counts: Counts) -> bool
+    ensures { λ r. ⌜ r ≡ bare counts ⌝ }
+{
+    if counts[0] > 0 {
+        return false;
+    }
+    if counts[1] > 0 {
+        return false;
+    }
+    if counts[4] > 0 {
+        return false;
+    }
+    counts[5] == 0
 }
 
 // A length as a number of 16 bits; 65,535 for a larger one.

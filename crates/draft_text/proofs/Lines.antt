@@ -22,7 +22,7 @@ use Rattle.text.specs.declared.Token.the-variants.{Not, Value}
 use Rattle.draft_text.specs.Gathering.{Read, firstWrong, readFaults}
 use Rattle.draft_text.specs.TextPattern.{nextNumber, wordFaults}
 use Rattle.draft_text.specs.declared.Fault.{Fault}
-use Rattle.draft_text.specs.declared.Fault.the-variants.{Word}
+use Rattle.draft_text.specs.declared.Fault.the-variants.{Number, Word}
 use Rattle.draft_text.specs.declared.LineCheck.{LineCheck}
 use Rattle.draft_text.specs.declared.LineCheck.the-variants.{Right, Wrong}
 
@@ -112,9 +112,11 @@ module _ {ws : List (List ℕ)} {k n : ℕ} {all : Bool} {out : List ℕ} (m : M
       (λ (h : eqb a b ≡ false). ne-eqb (suc a) (length ws) (λ (q : suc a ≡ length ws). eqb-false a b h (omega arith)) ∙ sym (m .whole ∙ h))
       (cases (eqb a b))
 
-  pub read-number : 0 < n → (getD out 0 0 ≡ nextNumber k counts → ⊥) → Answered counts ws k n (Wrong (Word k 2)) out
+  pub read-number : (next : ℕ) → next ≡ nextNumber k counts → 0 < n → (getD out 0 0 ≡ next → ⊥) → Answered counts ws k n (Wrong (Number k next)) out
   unfolding wordFaults
-  read-number h d = ((m .kind, rw (of-words, value h, ne-eqb (getD out 0 0) (nextNumber k counts) d)), wrong-right (Word k 2))
+  read-number next e h d =
+      let test : eqb (getD (lineValues ws) 0 (nextNumber k counts)) (nextNumber k counts) ≡ false = rw (value h) (ne-eqb (getD out 0 0) (nextNumber k counts) (λ q. d (q ∙ sym e))) in
+      ((m .kind, rw (of-words, test) (ap (λ (j : ℕ). Wrong (Number k j)) e)), wrong-right (Number k next))
 
   -- the number is the next, or there is none
   abbrev pub Next : Type 0

@@ -1,19 +1,22 @@
 -- The answer for a text, and the list afterwards.
 use Prim.Native.Nat.{_<_, _≤_, ℕ}
+use mathlib.Core.Bool.{Bool, Bool·beq, false, not, true, true≢false}
 use mathlib.Core.List.{List, [], _++_, _∷_}
 use mathlib.Core.Path.{_∙_, _≡_, ap, refl, sym}
 use native.Mathlib.Omega.{arith}
+use lib.Dec.{eqb}
 use lib.Ieee.{Float}
-use lib.ListN.{drop, length}
-use borrow.Author.Tests.{le-leb, le-ltb, lt-ltb}
+use lib.ListN.{drop, getD, length}
+use borrow.Author.Tests.{le-leb, le-ltb, lt-ltb, ne-eqb}
 use Rattle.errors.proofs.Laws.{accepted-none, none-both}
 use Rattle.errors.specs.Faults.{first}
 use Rattle.errors.specs.Numbers.{body, recordNumber}
 use Rattle.errors.specs.declared.Check.the-variants.{Accepted, Refused as CheckRefused}
 use Rattle.errors.specs.declared.Refusal.{Refusal}
-use Rattle.draft_parts.specs.Parts.{nothing}
+use Rattle.draft_parts.specs.Parts.{bare, nothing}
+use Rattle.lists.specs.Lists.{pick}
 use Rattle.pattern.specs.Checks.{contentFaults, countFaults, patternFaults}
-use Rattle.pattern.specs.Contents.{Content, content}
+use Rattle.pattern.specs.Contents.{Content, content, countsOf}
 use Rattle.pattern_file.proofs.Places.{end-le, end-limit}
 use Rattle.pattern_file.specs.File.{fileBytes, startOf}
 use Rattle.store.proofs.View.{held-full, held-seven}
@@ -21,13 +24,13 @@ use Rattle.store.specs.Store.{countTable, held}
 use Rattle.store_write.proofs.Parts.{counts-same, upto-length}
 use Rattle.text.specs.Text.{lines}
 use Rattle.draft_text.specs.Gathering.{stopped}
-use Rattle.draft_text.specs.TextPattern.{checked, firstMade, lineWith, made, madeIn, textContent, textFaults, textFile}
+use Rattle.draft_text.specs.TextPattern.{agreed, checked, firstMade, hasMark, lineWith, made, madeIn, said, textContent, textFaults, textFile}
 use Rattle.draft_text.specs.declared.Fault.{Fault}
 use Rattle.draft_text.specs.declared.Fault.the-variants.{Refused}
 use Rattle.draft_text.specs.declared.LineCheck.{LineCheck}
 use Rattle.draft_text.specs.declared.LineCheck.the-variants.{Right, Wrong}
 use Rattle.draft_text.specs.declared.Made.{Made}
-use Rattle.draft_text.specs.declared.Made.the-variants.{At, Length, TooLong}
+use Rattle.draft_text.specs.declared.Made.the-variants.{At, Length, Marked, NotEmpty, Nothing, TooLong}
 use Rattle.store_write.specs.Writing.{writeAnswer, writeBytes}
 use Rattle.store_write.specs.declared.Written.{Written}
 use Rattle.store_write.specs.declared.Written.the-variants.{Length as Filled}
@@ -35,6 +38,10 @@ use Rattle.store_write.specs.declared.Written.the-variants.{Length as Filled}
 -- the answer of the reading checks
 abbrev pub judged : List ℕ → Made
 judged text = checked (contentFaults (textContent text)) text (textFile text)
+
+-- and before it whether the text says that the pattern is empty
+abbrev pub told : List ℕ → Made
+told text = agreed (bare (countsOf (textContent text))) (said (lines text)) (judged text)
 
 module _ (text out : List ℕ) where
   abbrev pub Done : Made → List ℕ → Type 0
@@ -47,26 +54,56 @@ module _ (text out : List ℕ) where
   unfolding made
   making-long h = done TooLong out (rw (lt-ltb 262144 (length text) h)) refl
 
+  pub making-marked : length text ≤ 262144 → true ≡ hasMark text → Done Marked out
+  unfolding made
+  making-marked low h = done Marked out (rw (le-ltb 262144 (length text) low, ← h)) refl
+
   -- the answer of the lines
-  module _ (low : length text ≤ 262144) (line : ℕ) (check : LineCheck) (lines-say : (m : Made) → firstMade (textFaults nothing 1 (lines text)) m ≡ stopped line check m) where
-    made-is : made text ≡ stopped line check (judged text)
+  module _ (low : length text ≤ 262144) (unmarked : false ≡ hasMark text) (line : ℕ) (check : LineCheck) (lines-say : (m : Made) → firstMade (textFaults nothing 1 (lines text)) m ≡ stopped line check m) where
+    made-is : made text ≡ stopped line check (told text)
     unfolding made
-    made-is = rw (le-ltb 262144 (length text) low) (lines-say (judged text))
+    made-is = rw (le-ltb 262144 (length text) low, ← unmarked) (lines-say (told text))
 
     pub making-wrong : (f : Fault) → check ≡ Wrong f → Done (At line f) out
     making-wrong f e = done (At line f) out (made-is ∙ rw e) refl
 
-    pub made-right : check ≡ Right → made text ≡ judged text
+    pub made-right : check ≡ Right → made text ≡ told text
     made-right e = made-is ∙ rw e
 
--- what the code knows when no line is wrong
-pub record Filed (text t : List ℕ) (spans : List Float) : Type 0 where
-  pub is : made text ≡ judged text
+-- what the code knows when no line is wrong, with the answer that it is to give
+pub record Filed (text t : List ℕ) (spans : List Float) (answer : Made) : Type 0 where
+  pub is : made text ≡ answer
   pub long : length t ≡ 12312
   pub few : countFaults (countTable t) ≡ []
   pub same : content (held t spans) ≡ textContent text
 
-module _ {text t : List ℕ} {spans : List Float} (d : Filed text t spans) where
+-- whether the text says that the pattern is empty, and whether it is: as the code compares them
+differ : (b s : Bool) (m : Made) → not (Bool·beq b s) ≡ true → agreed b s m ≡ pick b Nothing NotEmpty
+differ true true m h = absurd (true≢false (sym h))
+differ true false m h = refl
+differ false true m h = refl
+differ false false m h = absurd (true≢false (sym h))
+
+same : (b s : Bool) (m : Made) → not (Bool·beq b s) ≡ false → agreed b s m ≡ m
+same true true m h = refl
+same true false m h = absurd (true≢false h)
+same false true m h = absurd (true≢false h)
+same false false m h = refl
+
+module _ {text t : List ℕ} {spans : List Float} (d : Filed text t spans (told text)) (ns : List ℕ) (counted : ns ≡ countTable t) (b : Bool) (is-bare : b ≡ bare ns) (s : Bool) (is-said : s ≡ said (lines text)) where
+  told-is : made text ≡ agreed b s (judged text)
+  told-is =
+      let counts = counts-same (held t spans) (held-full t spans (d .long)) (held-seven t spans (d .long)) (d .few) in
+      let e : b ≡ bare (countsOf (textContent text)) = is-bare ∙ ap bare (counted ∙ sym counts) ∙ ap (λ (c : Content). bare (countsOf c)) (d .same) in
+      rw (e, is-said) (d .is)
+
+  pub making-differ : (out : List ℕ) → not (Bool·beq b s) ≡ true → (m : Made) → pick b Nothing NotEmpty ≡ m → out ≡ madeIn m (textFile text) out → Done text out m out
+  making-differ out h m e w = done text out m out (told-is ∙ differ b s (judged text) h ∙ e) w
+
+  pub filed-on : not (Bool·beq b s) ≡ false → Filed text t spans (judged text)
+  filed-on h = record { is = told-is ∙ same b s (judged text) h; long = d .long; few = d .few; same = d .same }
+
+module _ {text t : List ℕ} {spans : List Float} (d : Filed text t spans (judged text)) where
   abbrev file : List ℕ
   file = fileBytes (content (held t spans))
 
@@ -99,3 +136,21 @@ module _ {text t : List ℕ} {spans : List Float} (d : Filed text t spans) where
       found : (fs : List Refusal) → CheckRefused f ≡ first fs → checked fs text (textFile text) ≡ At at (Refused f)
       found [] q = absurd (let z : _≡_ {A = ℕ} 0 1 = cc in omega arith)
       found (g ∷ fs) q = let s : f ≡ g = cc in rw (w, eb, er, s)
+
+-- ---- the first bytes of a text
+
+module _ (text : List ℕ) (a b : ℕ) (first : a ≡ getD text 0 0) (second : b ≡ getD text 1 0) where
+  pub mark-8 : (third : ℕ) → a ≡ 239 → b ≡ 187 → third ≡ getD text 2 0 → eqb third 191 ≡ hasMark text
+  mark-8 third h i e = rw (← first, ← second, ← e, h, i)
+
+  pub mark-other : a ≡ 239 → (b ≡ 187 → ⊥) → false ≡ hasMark text
+  mark-other h i = rw (← first, ← second, h, ne-eqb b 187 i)
+
+  pub mark-16-big : a ≡ 254 → eqb b 255 ≡ hasMark text
+  mark-16-big h = rw (← first, ← second, h)
+
+  pub mark-16-little : a ≡ 255 → eqb b 254 ≡ hasMark text
+  mark-16-little h = rw (← first, ← second, h)
+
+  pub mark-none : (a ≡ 239 → ⊥) → (a ≡ 254 → ⊥) → (a ≡ 255 → ⊥) → false ≡ hasMark text
+  mark-none h i j = rw (← first, ← second, ne-eqb a 239 h, ne-eqb a 254 i, ne-eqb a 255 j)

@@ -1,6 +1,6 @@
 -- The lines of a text, one after the other.
 use Prim.Native.Nat.{_+_, _-_, _<_, _≤_, suc, ℕ}
-use mathlib.Core.Bool.{Bool}
+use mathlib.Core.Bool.{Bool, false, true}
 use mathlib.Core.List.{List, [], _++_, _∷_, map}
 use mathlib.Core.Path.{_∙_, _≡_, ap, refl, sym}
 use native.Mathlib.Nat.{zero-add}
@@ -8,8 +8,8 @@ use native.Mathlib.Numerals.{add-one}
 use native.Mathlib.Omega.{arith}
 use lib.ListN.{List·getD-eq-default, drop, drop-of-length-le, getD, length, length-drop, length-take, replicate, take}
 use lib.Seq.{take-take}
-use borrow.Author.Tests.{le-ltb, lt-ltb}
-use Rattle.draft_forms.specs.LineForms.{lineValues}
+use borrow.Author.Tests.{le-ltb, lt-ltb, ne-eqb}
+use Rattle.draft_forms.specs.LineForms.{lineKind, lineValues}
 use Rattle.draft_parts.specs.Adding.{summed}
 use Rattle.draft_parts.specs.Parts.{joined, partsOf}
 use Rattle.pattern.specs.Checks.{countFaults}
@@ -18,7 +18,7 @@ use Rattle.text.proofs.Words.{fed-nil, line-at}
 use Rattle.text.specs.Text.{before, isFeed, lines, trimmed, words}
 use Rattle.draft_text.proofs.Lines.{Matching, sliced}
 use Rattle.draft_text.specs.Gathering.{firstWrong, stopped}
-use Rattle.draft_text.specs.TextPattern.{firstMade, gathered, lineFaults, lineParts, lineWith, textFaults}
+use Rattle.draft_text.specs.TextPattern.{firstMade, gathered, lineFaults, lineParts, lineWith, said, textFaults}
 use Rattle.draft_text.specs.declared.Fault.{Fault}
 use Rattle.draft_text.specs.declared.LineCheck.the-variants.{Right, Wrong}
 use Rattle.draft_text.specs.declared.Made.{Made}
@@ -139,3 +139,26 @@ module _ {text : List ℕ} {b r at line left : ℕ} (f : Finding text b r at lin
   pub finding-all : length text ≤ at → line ≡ lineWith b r 1 (lines text)
   unfolding lineWith
   finding-all h = sym (f .same ∙ rw (rest-none text at h))
+
+-- ---- a line that says that the pattern is empty
+
+pub record Asking (text : List ℕ) (at : ℕ) : Type 0 where
+  pub low : at ≤ length text + 1
+  pub same : said (lines text) ≡ said (lines (drop at text))
+
+pub asking-start : (text : List ℕ) → Asking text 0
+asking-start text = record { low = omega arith; same = refl }
+
+module _ {text : List ℕ} {at : ℕ} (a : Asking text at) where
+  module _ {end n : ℕ} (h : Here text at end n) (k : ℕ) (kind : k ≡ lineKind (words (take (at + n - at) (drop at text)))) where
+    pub asking-here : k ≡ 6 → true ≡ said (lines text)
+    unfolding said
+    asking-here e = sym (a .same ∙ rw (line-here h, ← kind, e))
+
+    pub asking-next : (k ≡ 6 → ⊥) → Asking text (end + 1)
+    unfolding said
+    asking-next e = record { low = omega (arith, h .within); same = a .same ∙ rw (line-here h, ← kind, ne-eqb k 6 e) }
+
+  pub asking-all : length text ≤ at → false ≡ said (lines text)
+  unfolding said
+  asking-all h = sym (a .same ∙ rw (rest-none text at h))

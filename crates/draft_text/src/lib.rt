@@ -10,13 +10,14 @@ ghost use Rattle.pattern.specs.Contents.{content, countsOf};
 ghost use Rattle.store.specs.Store.{countTable, held};
 ghost use Rattle.text.specs.Text.{lines, words};
 ghost use Rattle.draft_text.specs.Gathering.{Read, firstWrong, readFaults, stopped};
-ghost use Rattle.draft_text.specs.TextPattern.{firstMade, gathered, lineFaults, lineParts, lineWith, made, madeIn, textFaults, textFile};
+ghost use Rattle.draft_text.specs.TextPattern.{firstMade, gathered, hasMark, lineFaults, lineParts, lineWith, made, madeIn, said, textFaults, textFile};
 ghost use Rattle.draft_text.specs.declared.LineCheck.the-variants.{Right};
 use draft_forms::body_counted;
 use draft_forms::kind_of;
 use draft_forms::match_line;
 use draft_parts::add_values;
 use draft_parts::counts_after;
+use draft_parts::is_bare;
 use draft_parts::needed;
 use errors::Check;
 use errors::Refusal;
@@ -39,17 +40,24 @@ use text::line_end;
 use text::trimmed_length;
 
 // What is wrong with a line: a word, counted from 1, of a line of a kind (1 point, 2 edge, 3 face, 4
-// shell, 0 none of them); or a refusal of the reading checks.
+// shell, 6 empty, 0 none of them); its number, where another is expected after the lines of its kind
+// before; or a refusal of the reading checks.
 pub enum Fault {
     Word(usize, usize),
+    Number(usize, usize),
     Refused(Refusal),
 }
 
-// The length of the file; or a fault, with the number of its line; or a text of more than 262,144 bytes.
+// The length of the file; or a fault, with the number of its line; or a text of more than 262,144 bytes,
+// one that begins with a byte order mark, one that says nothing, not even that the pattern is empty, one that
+// says so beside records.
 pub enum Made {
     Length(usize),
     At(usize, Fault),
     TooLong,
+    Marked,
+    Nothing,
+    NotEmpty,
 }
 
 // The answer for a line.
@@ -92,11 +100,12 @@ fn read_line(line: &[u8], counts: Counts, values: &mut [u64]) -> Line
     let n = m.words;
     let all = m.all;
     if n > 0 {
-        if values[0] != counts[body_counted(k)] as u64 {
+        let next = counts[body_counted(k)];
+        if values[0] != next as u64 {
             return Line {
                 kind: k,
                 words: n,
-                check: LineCheck::Wrong(Fault::Word(k, 2)),
+                check: LineCheck::Wrong(Fault::Number(k, next)),
             };
         }
     }
@@ -225,12 +234,60 @@ fn line_with(text: &[u8], b: usize, r: usize, values: &mut [u64]) -> usize
     number
 }
 
+// Whether a line says that the pattern is empty.
+fn says_empty(text: &[u8]) -> bool
+    ensures { λ r. ⌜ r ≡ said (lines (now (text .entry))) ⌝ }
+{
+    let mut at: usize = 0;
+    while at < text.len() {
+        let end = line_end(text, at);
+        let last = at + trimmed_length(&text[at..end]);
+        let first = kind_of(&text[at..last]);
+        if first.kind == 6 {
+            return true;
+        }
+        at = end + 1;
+    }
+    false
+}
+
+// A byte of a text; 0 past its end.
+fn byte_at(text: &[u8], k: usize) -> u8
+    ensures { λ r. ⌜ r ≡ getD (now (text .entry)) k 0 ⌝ }
+{
+    if k < text.len() { text[k] } else { 0 }
+}
+
+// Whether a text begins with a byte order mark.
+fn is_marked(text: &[u8]) -> bool
+    ensures { λ r. ⌜ r ≡ hasMark (now (text .entry)) ⌝ }
+{
+    let a = byte_at(text, 0);
+    let b = byte_at(text, 1);
+    if a == 239 {
+        if b == 187 {
+            return byte_at(text, 2) == 191;
+        }
+        return false;
+    }
+    if a == 254 {
+        return b == 255;
+    }
+    if a == 255 {
+        return b == 254;
+    }
+    false
+}
+
 // Reads a text, and writes the file of its pattern.
 pub fn make(text: &[u8], out: &mut [u8; LONGEST]) -> Made
     ensures { λ r. ⌜ (r ≡ made (now (text .entry))) × (now (out .exit) ≡ madeIn (made (now (text .entry))) (textFile (now (text .entry))) (now (out .entry))) ⌝ }
 {
     if text.len() > 262144 {
         return Made::TooLong;
+    }
+    if is_marked(text) {
+        return Made::Marked;
     }
     let mut t = [0u16; TABLES];
     let mut spans = [0.0; SPANS];
@@ -244,6 +301,13 @@ pub fn make(text: &[u8], out: &mut [u8; LONGEST]) -> Made
         LineCheck::Right => {}
     }
     tables_known(&t);
+    let bare = is_bare(counts_in(&t));
+    if bare != says_empty(text) {
+        if bare {
+            return Made::Nothing;
+        }
+        return Made::NotEmpty;
+    }
     let judged = check_records(&t, &spans);
     match judged {
         Check::Refused(f) => {

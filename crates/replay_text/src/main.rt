@@ -1,7 +1,6 @@
 // For each file that the arguments name, prints a line with its name, and then: `back`, for a pattern file
 // whose text makes the same file; else what its making as a text gives: `length` and the length of the file, or
-// the line that says what is wrong.
-use draft_text::Made;
+// the line that says what is wrong and, after `answer`, the number of the refusal and the first two values.
 use libc::STDOUT_FILENO;
 use pattern::LONGEST;
 
@@ -31,11 +30,19 @@ fn makes(text: &[u8; 262144], n: usize, bytes: &[u8]) -> bool {
         return false;
     }
     let mut file = [0u8; LONGEST];
-    let made = draft_text::make(&whole[0..n], &mut file);
-    match made {
-        Made::Length(length) => same(bytes, &file, length),
-        other => false,
+    let mut line = [0u8; 256];
+    let answer = text_calls::draft(&whole[0..n], &mut file, &mut line);
+    if answer.outcome != 0 {
+        return false;
     }
+    same(bytes, &file, answer.first)
+}
+
+// A word, a number after it, and what ends them.
+fn print_number(word: &[u8], n: usize, end: &[u8]) {
+    io::write_all(STDOUT_FILENO, word);
+    io::print_decimal(STDOUT_FILENO, n as u64);
+    io::write_all(STDOUT_FILENO, end);
 }
 
 fn told(bytes: &[u8]) {
@@ -46,19 +53,16 @@ fn told(bytes: &[u8]) {
         return;
     }
     let mut file = [0u8; LONGEST];
-    let made = draft_text::make(bytes, &mut file);
-    match made {
-        Made::Length(length) => {
-            io::write_all(STDOUT_FILENO, b"length ");
-            io::print_decimal(STDOUT_FILENO, length as u64);
-            io::write_all(STDOUT_FILENO, b"\n");
-        }
-        other => {
-            let mut line = [0u8; 256];
-            let length = draft_faults::put_made(other, &mut line);
-            print(&line, length);
-        }
+    let mut line = [0u8; 256];
+    let answer = text_calls::draft(bytes, &mut file, &mut line);
+    if answer.outcome == 0 {
+        print_number(b"length ", answer.first, b"\n");
+        return;
     }
+    print(&line, answer.third);
+    print_number(b"answer ", answer.number, b" ");
+    print_number(b"", answer.first, b" ");
+    print_number(b"", answer.second, b"\n");
 }
 
 fn print(line: &[u8; 256], n: usize) {

@@ -2,13 +2,22 @@
 use libc::STDOUT_FILENO;
 
 fn main() {
-    if !console::is_used(0, b"usage: report < FILE\n") {
+    if !console::is_alone(
+        b"report: standard output",
+        b"usage: report < FILE\nreads a pattern file and prints its report, or why it is refused\n",
+    ) {
         return;
     }
     // One byte more than the longest file.
     let mut bytes = [0u8; 41049];
+    let got = console::read_input(b"report: standard input", &mut bytes);
+    if got < 0 {
+        return;
+    }
+    let n = io::count(got, &bytes);
     let mut text = [0u8; 1126400];
-    let n = console::read_input(&mut bytes);
     let length = report_text::report(&bytes[0..n], &mut text);
-    console::print_report(STDOUT_FILENO, &text, length);
+    if !console::print_report(STDOUT_FILENO, &text, length) {
+        os::fail(b"report: standard output");
+    }
 }

@@ -1,12 +1,13 @@
 -- The lines of the records in the store are those of the pattern that it holds.
 use Prim.Native.Nat.{_<_, _≤_, ℕ}
-use mathlib.Core.Bool.{true}
+use mathlib.Core.Bool.{Bool, false, true}
 use mathlib.Core.List.{List, [], _++_, map}
 use mathlib.Core.Path.{_∙_, _≡_, ap, sym}
 use native.Mathlib.Omega.{arith}
 use lib.Ieee.{Float}
 use lib.ListN.{getD, length, take}
 use lib.Seq.{getD-take}
+use Rattle.draft_parts.specs.Parts.{bare}
 use Rattle.edge.specs.Edges.{isSpan}
 use Rattle.face.specs.Faces.{wireCount}
 use Rattle.listing.proofs.Laws.{shells-summed}
@@ -14,15 +15,16 @@ use Rattle.lists.proofs.Flat.{getD-tabulate}
 use Rattle.lists.proofs.Laws.{map-take}
 use Rattle.lists.proofs.Split.{split-take, take-split}
 use Rattle.lists.specs.Lists.{flat, split, sum, tabulate}
+use Rattle.output.specs.Text.{ascii}
 use Rattle.pattern.proofs.Counts.{Full, Limited, edges-counted, faces-counted, limited, listings-counted, points-counted, shells-counted, uses-counted, wires-counted}
 use Rattle.pattern.proofs.Named.{faces-summed, wires-summed}
 use Rattle.pattern.proofs.Passed.{content-passed, pattern-passed}
 use Rattle.pattern.specs.Checks.{contentFaults, outlines, patternFaults, recordFaults}
-use Rattle.pattern.specs.Contents.{Content, Pattern, content, zeroEdge, zeroFace}
+use Rattle.pattern.specs.Contents.{Content, Pattern, content, countsOf, zeroEdge, zeroFace}
 use Rattle.pattern_file.proofs.WriteBack.{span}
 use Rattle.show_lines.specs.PatternLines.{faceLine, pointLine, shellLine}
 use Rattle.show_text.proofs.Laws.{lines-same}
-use Rattle.show_text.specs.PatternText.{edgeText, lineOfEdge, lineOfFace, lineOfPoint, lineOfShell, patternText}
+use Rattle.show_text.specs.PatternText.{edgeText, lineOfEdge, lineOfFace, lineOfPoint, lineOfShell, patternText, recordLines}
 use Rattle.show_text.specs.StoreText.{Faced, Shelled, edgeHeld, faceHeld, pointHeld, shellHeld}
 use Rattle.store.proofs.View.{held-full, held-seven, held-wire-counts}
 use Rattle.store.specs.Store.{edgeIn, faceIn, held, labelIn, listingTable, shellTable, useTable, wireTable}
@@ -91,9 +93,8 @@ module _ (t : List ℕ) (spans : List Float) (long : length t ≡ 12312) (ok : p
   listings-are : split (C .shells) (C .listings) ≡ split (take (n 5) (shellTable t)) (listingTable t)
   listings-are = split-take (C .shells) (n 6) (listingTable t) (omega (arith, shell-sums))
 
-  pub text-held : patternText C ≡ flat (tabulate (n 0) (pointHeld t)) ++ flat (tabulate (n 1) (edgeHeld t spans)) ++ flat (tabulate (n 4) (faceHeld t (n 4))) ++ flat (tabulate (n 5) (shellHeld t (n 5)))
-  unfolding patternText
-  text-held =
+  lines-held : recordLines C ≡ flat (tabulate (n 0) (pointHeld t)) ++ flat (tabulate (n 1) (edgeHeld t spans)) ++ flat (tabulate (n 4) (faceHeld t (n 4))) ++ flat (tabulate (n 5) (shellHeld t (n 5)))
+  lines-held =
       let p =
       lines-same (points-counted P few full) (lineOfPoint C) (pointHeld t)
       (λ k h. ap (pointLine k) (getD-first (n 0) 2048 (labelIn t) k 0 (few .points) h)) in
@@ -107,3 +108,17 @@ module _ (t : List ℕ) (spans : List Float) (long : length t ≡ 12312) (ok : p
       lines-same (shells-counted P few full) (lineOfShell C) (shellHeld t (n 5))
       (λ k h. ap (λ (r : List (List ℕ)). shellLine k (getD r k [])) listings-are) in
       λ i. p i ++ e i ++ f i ++ s i
+
+  -- ---- the text, by whether there are records
+
+  same-bare : bare (countsOf C) ≡ bare (P .counts)
+  same-bare = rw (points-counted P few full, edges-counted P few full, faces-counted P few full, shells-counted P few full)
+
+  module _ (b : Bool) (is-bare : b ≡ bare (P .counts)) where
+    pub text-empty : b ≡ true → patternText C ≡ ascii "empty\n"
+    unfolding patternText
+    text-empty h = rw (same-bare, ← is-bare, h)
+
+    pub text-held : b ≡ false → patternText C ≡ flat (tabulate (n 0) (pointHeld t)) ++ flat (tabulate (n 1) (edgeHeld t spans)) ++ flat (tabulate (n 4) (faceHeld t (n 4))) ++ flat (tabulate (n 5) (shellHeld t (n 5)))
+    unfolding patternText
+    text-held h = rw (same-bare, ← is-bare, h) lines-held

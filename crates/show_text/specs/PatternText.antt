@@ -1,14 +1,15 @@
--- A pattern as text, as the program `show` prints it: a line for each point, edge, face and shell, with its number.
+-- A pattern as text, as the program `show` prints it: a line for each point, edge, face and shell, with its number; or the line `empty`.
 use Prim.Native.Nat.{ℕ}
 use mathlib.Core.List.{List, [], _∷_, _++_}
 use lib.Ieee.{binary64, toBits}
 use lib.ListN.{getD, length}
+use Rattle.draft_parts.specs.Parts.{bare}
 use Rattle.edge.specs.declared.Edge.{Edge}
 use Rattle.errors.specs.declared.Refusal.{Refusal}
-use Rattle.lists.specs.Lists.{flat, split, tabulate}
-use Rattle.output.specs.Text.{refusalLine}
+use Rattle.lists.specs.Lists.{flat, pick, split, tabulate}
+use Rattle.output.specs.Text.{ascii, refusalLine}
 use Rattle.pattern.specs.Checks.{outlines}
-use Rattle.pattern.specs.Contents.{Content, zeroEdge, zeroFace}
+use Rattle.pattern.specs.Contents.{Content, countsOf, zeroEdge, zeroFace}
 use Rattle.pattern_file.specs.File.{fileContent, fileFaults}
 use Rattle.show_lines.specs.PatternLines.{edgeLine, faceLine, pointLine, shellLine}
 
@@ -32,12 +33,16 @@ lineOfShell c k = shellLine k (getD (split (c .shells) (c .listings)) k [])
 
 -- ---- the text
 
-unfoldable pub patternText : Content → List ℕ
-patternText c =
+abbrev pub recordLines : Content → List ℕ
+recordLines c =
     flat (tabulate (length (c .points)) (lineOfPoint c))
     ++ flat (tabulate (length (c .edges)) (lineOfEdge c))
     ++ flat (tabulate (length (c .faces)) (lineOfFace c))
     ++ flat (tabulate (length (c .shells)) (lineOfShell c))
+
+-- a pattern without records has one line that says so
+unfoldable pub patternText : Content → List ℕ
+patternText c = pick (bare (countsOf c)) (ascii "empty\n") (recordLines c)
 
 -- a refused file has the line of its refusal
 abbrev pub textOf : List Refusal → Content → List ℕ

@@ -12,8 +12,10 @@ ghost use Rattle.pattern.specs.Contents.{content};
 ghost use Rattle.show_text.specs.PatternText.{fileText, patternText};
 ghost use Rattle.show_text.specs.StoreText.{Faced, Shelled, edgeHeld, faceHeld, pointHeld, shellHeld};
 ghost use Rattle.store.specs.Store.{edgeIn, held};
+use draft_parts::is_bare;
 use errors::Check;
 use output::put_refusal;
+use output::put_text;
 use show_lines::put_edge;
 use show_lines::put_face;
 use show_lines::put_point;
@@ -118,13 +120,16 @@ fn put_shells(t: &Tables, n: usize, out: &mut [u8], at: usize) -> usize
     end
 }
 
-// Writes the lines of an accepted pattern.
+// Writes the lines of an accepted pattern, or the one that says that there are none.
 fn put_pattern(t: &Tables, spans: &Spans, out: &mut [u8]) -> usize
     requires { ⌜ (patternFaults (held (now t) (now spans)) ≡ []) × (228480 ≤ length (now out)) ⌝ }
     ensures { λ r. ⌜ (now (out .exit) ≡ sets (now (out .entry)) 0 (patternText (content (held (now (t .entry)) (now (spans .entry)))))) × (r ≡ length (patternText (content (held (now (t .entry)) (now (spans .entry)))))) ⌝ }
 {
     tables_known(t);
     let counts = counts_in(t);
+    if is_bare(counts) {
+        return put_text(out, 0, b"empty\n");
+    }
     let mut at = put_points(t, counts[0], out, 0);
     at = put_edges(t, spans, counts[1], out, at);
     at = put_faces(t, counts[4], out, at);

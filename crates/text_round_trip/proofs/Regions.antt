@@ -15,7 +15,7 @@ use Rattle.text.specs.Text.{words}
 use Rattle.draft_text.specs.TextPattern.{gathered, lineFaults, lineParts, nextNumber, textFaults, wordFaults}
 use Rattle.draft_text.specs.declared.Made.the-variants.{At}
 use Rattle.text_round_trip.proofs.Says.{Says}
-use Rattle.text_round_trip.proofs.Sentences.{Word, lined, sentence, text, text-append, words-sentence}
+use Rattle.text_round_trip.proofs.Sentences.{Plain, Word, lined, sentence, text, text-append, words-sentence}
 use Rattle.text_round_trip.proofs.Weights.{weight, weight-joined}
 
 -- a line with the next number has no fault where there is room for its record
@@ -29,6 +29,7 @@ line-right p {ws} {kind} {k} t low high next few =
 -- line j has the words f j, is right after the parts `state j`, and makes them `state (suc j)`
 pub record Step (state : ℕ → Content) (f : ℕ → List (List ℕ)) (j : ℕ) : Type 0 where
   pub are : All Word (f j)
+  pub plain : Plain (f j)
   pub right : lineFaults (state j) (f j) ≡ []
   pub next : joined (state j) (lineParts (f j)) ≡ state (suc j)
   pub long : length (lined (sentence (f j))) ≤ weight (lineParts (f j))
@@ -40,6 +41,7 @@ step-of {state} {f} {j} t low high number more few =
     let next : joined (state j) (lineParts (f j)) ≡ state (suc j) = ap (joined (state j)) (t .parts) ∙ more in
     record {
       are = t .are;
+      plain = (λ e. omega (arith, t .is), t .begins);
       right = line-right (state j) t low high number (ap (λ (q : Content). countFaults (countsOf q)) next ∙ few);
       next = next;
       long = rw (t .parts) (t .long);
@@ -48,6 +50,7 @@ step-of {state} {f} {j} t low high number more few =
 -- lines that make the parts p the parts q, and are no longer than what they add weighs
 pub record Region (p : Content) (ss : List (List (List ℕ))) (q : Content) : Type 0 where
   pub are : All (All Word) ss
+  pub plain : All Plain ss
   pub right : (n : ℕ) → textFaults p n (map sentence ss) ≡ []
   pub reach : gathered p (map sentence ss) ≡ q
   pub long : weight p + length (text ss) ≤ weight q
@@ -65,13 +68,14 @@ module _ (p : Content) (ws : List (List ℕ)) (are : All Word ws) (ls : List (Li
 -- m lines
 pub region : (m : ℕ) (state : ℕ → Content) (f : ℕ → List (List ℕ)) → ((j : ℕ) → j < m → Step state f j) → Region (state 0) (tabulate m f) (state m)
 unfolding tabulate textFaults gathered flat
-region zero state f h = record { are = tt; right = λ n. refl; reach = refl; long = omega arith }
+region zero state f h = record { are = tt; plain = tt; right = λ n. refl; reach = refl; long = omega arith }
 region (suc m) state f h =
     let s = h 0 (omega arith) in
     let r = region m (λ (j : ℕ). state (suc j)) (λ (j : ℕ). f (suc j)) (λ j l. shifted (h (suc j) (omega arith))) in
     let rest = map sentence (tabulate m (λ (j : ℕ). f (suc j))) in
     record {
       are = (s .are, r .are);
+      plain = (s .plain, r .plain);
       right = λ n. faults-next (state 0) (f 0) (s .are) rest (s .next) n (s .right) (r .right (suc n));
       reach = gathered-next (state 0) (f 0) (s .are) rest (s .next) (r .reach);
       long =
@@ -86,7 +90,7 @@ region (suc m) state f h =
     }
   where
     shifted : {j : ℕ} → Step state f (suc j) → Step (λ (i : ℕ). state (suc i)) (λ (i : ℕ). f (suc i)) j
-    shifted s = record { are = s .are; right = s .right; next = s .next; long = s .long }
+    shifted s = record { are = s .are; plain = s .plain; right = s .right; next = s .next; long = s .long }
 
 -- one run of lines after another
 gathered-append : (p : Content) (ls ms : List (List ℕ)) → gathered p (ls ++ ms) ≡ gathered (gathered p ls) ms
@@ -106,6 +110,7 @@ faults-append p n (l ∷ ls) ms h k =
 pub region-then : {p q r : Content} {ss ts : List (List (List ℕ))} → Region p ss q → Region q ts r → Region p (ss ++ ts) r
 region-then {p} {q} {r} {ss} {ts} a b = record {
   are = all-append (All Word) ss ts (a .are) (b .are);
+  plain = all-append Plain ss ts (a .plain) (b .plain);
   right = λ n. rw (map-append sentence ss ts) (faults-append p n (map sentence ss) (map sentence ts) (a .right n) (λ m. rw (a .reach) (b .right m)));
   reach = rw (map-append sentence ss ts, gathered-append p (map sentence ss) (map sentence ts), a .reach) (b .reach);
   long = omega (arith, a .long, b .long, ap length (text-append ss ts), length-append (text ss) (text ts));

@@ -3,7 +3,7 @@ use Prim.Native.Nat.{_<_, _≤_, suc, ℕ}
 use mathlib.Core.List.{List, [], _∷_}
 use mathlib.Core.Path.{_≡_, refl}
 use native.Mathlib.Omega.{arith}
-use lib.ListN.{length, length-map}
+use lib.ListN.{getD, length, length-map}
 use Rattle.draft_forms.specs.LineForms.{lineKind, lineValues}
 use Rattle.draft_parts.specs.Parts.{neededWords}
 use Rattle.lines.specs.Lines.{signed}
@@ -26,6 +26,7 @@ pub record Says (ws : List (List ℕ)) (kind k : ℕ) (part : Content) : Type 0 
   pub all : length ws ≡ suc (suc (length values))
   pub needed : neededWords kind ≤ suc (length values)
   pub parts : lineParts ws ≡ part
+  pub begins : getD (getD ws 0 []) 0 0 < 128
   pub long : length (lined (sentence ws)) ≤ weight part
 
 pub point-says : (k label : ℕ) → k < 65536 → label < 4294967296 → Says (pointWords k label) 1 k (pointPart label)
@@ -38,6 +39,7 @@ point-says k label h l = record {
   all = refl;
   needed = omega arith;
   parts = point-parts k label (omega arith) l;
+  begins = omega arith;
   long = rw (point-line k label) at (point-weight k label h l);
 }
 
@@ -52,6 +54,7 @@ edge-says k front back t0 t1 h f b p q = record {
   all = refl;
   needed = omega arith;
   parts = edge-parts k front back t0 t1 (omega arith) f b p q;
+  begins = omega arith;
   long = rw (edge-line k front back t0 t1) at (edge-weight k front back t0 t1 h f b);
 }
 
@@ -66,6 +69,7 @@ face-says k surface wires h s u f n = record {
   all = omega (arith, length-map (marks wires) faceWord);
   needed = omega arith;
   parts = face-parts k surface wires (omega arith) s u f n;
+  begins = omega arith;
   long = rw (face-line k surface wires u) at (face-weight k surface wires h s);
 }
 
@@ -79,5 +83,6 @@ shell-says k listings h u n = record {
   all = omega (arith, length-map listings signed);
   needed = omega arith;
   parts = shell-parts k listings (omega arith) u n;
+  begins = omega arith;
   long = rw (shell-line k listings) at (shell-weight k listings h);
 }

@@ -10,6 +10,8 @@ use borrow.Author.Tests.{ne-eqb}
 use Rattle.lists.proofs.Count.{All, all-append, all-at, all-map, all-weaker}
 use Rattle.lists.proofs.Laws.{flat-append}
 use Rattle.lists.specs.Lists.{flat}
+use Rattle.draft_forms.specs.LineForms.{lineKind}
+use Rattle.draft_text.specs.TextPattern.{hasMark, said}
 use Rattle.text.specs.Text.{fed, isBlank, lines, parted, trimmed, words}
 
 -- a byte of a word: no blank, line feed or carriage return
@@ -101,3 +103,20 @@ lines-text ss h = lines-are (map sentence ss) (all-map (All Word) (All Inline) s
 pub text-append : (ss ts : List (List (List ℕ))) → text (ss ++ ts) ≡ text ss ++ text ts
 text-append ss ts =
     rw (map-append sentence ss ts, map-append lined (map sentence ss) (map sentence ts), flat-append (map lined (map sentence ss)) (map lined (map sentence ts)))
+
+-- ---- plain lines: each begins with an ASCII letter, and none says that the pattern is empty
+
+abbrev pub Plain : List (List ℕ) → Type 0
+Plain ws = (lineKind ws ≡ 6 → ⊥) × (getD (getD ws 0 []) 0 0 < 128)
+
+pub plain-unsaid : (ss : List (List (List ℕ))) → All (All Word) ss → All Plain ss → said (map sentence ss) ≡ false
+unfolding said
+plain-unsaid [] are h = refl
+plain-unsaid (ws ∷ ss) are h = rw (words-sentence ws (are .0), ne-eqb (lineKind ws) 6 (h .0 .0), plain-unsaid ss (are .1) (h .1))
+
+pub plain-unmarked : (ss : List (List (List ℕ))) → All (All Word) ss → All Plain ss → hasMark (text ss) ≡ false
+unfolding flat
+plain-unmarked [] are h = refl
+plain-unmarked ([] ∷ ss) are h = refl
+plain-unmarked (([] ∷ ws) ∷ ss) are h = absurd (omega (arith, are .0 .0 .0))
+plain-unmarked (((b ∷ w) ∷ ws) ∷ ss) are h = rw (ne-eqb b 239 (λ e. omega (arith, h .0 .1)), ne-eqb b 254 (λ e. omega (arith, h .0 .1)), ne-eqb b 255 (λ e. omega (arith, h .0 .1)))

@@ -1,5 +1,6 @@
--- The text of an accepted pattern: its lines, and what they make.
+-- The record lines of an accepted pattern, and what they make.
 use Prim.Native.Nat.{_≤_, ℕ}
+use mathlib.Core.Bool.{false}
 use mathlib.Core.List.{List, [], _++_, append-assoc, map}
 use mathlib.Core.Path.{_∙_, _≡_, ap, sym}
 use native.Mathlib.Omega.{arith}
@@ -12,13 +13,13 @@ use Rattle.lists.specs.Lists.{flat, tabulate}
 use Rattle.pattern.specs.Checks.{contentFaults, countFaults, outlines}
 use Rattle.pattern.specs.Contents.{Content, countsOf, zeroEdge, zeroFace}
 use Rattle.pattern_file.proofs.Fits.{Fits}
-use Rattle.show_text.specs.PatternText.{lineOfEdge, lineOfFace, lineOfPoint, lineOfShell, patternText}
+use Rattle.show_text.specs.PatternText.{lineOfEdge, lineOfFace, lineOfPoint, lineOfShell, recordLines}
 use Rattle.text.specs.Text.{lines}
-use Rattle.draft_text.specs.TextPattern.{textContent, textFaults}
+use Rattle.draft_text.specs.TextPattern.{hasMark, said, textContent, textFaults}
 use Rattle.text_round_trip.proofs.Counts.{partly-all, partly-room, room-weight}
 use Rattle.text_round_trip.proofs.Lines.{edge-line, face-line, point-line, shell-line}
 use Rattle.text_round_trip.proofs.Regions.{Region, region, region-then}
-use Rattle.text_round_trip.proofs.Sentences.{lined, lines-text, sentence, text, text-append}
+use Rattle.text_round_trip.proofs.Sentences.{lined, lines-text, plain-unmarked, plain-unsaid, sentence, text, text-append}
 use Rattle.text_round_trip.proofs.States.{lists, partly, partly-none}
 use Rattle.text_round_trip.proofs.Steps.{edge-step, edgeLineWords, face-step, faceLineWords, point-step, pointLineWords, shell-step, shellLineWords, summed, uses-small}
 
@@ -53,8 +54,7 @@ module _ (c : Content) (few : countFaults (countsOf c) ≡ []) (ok : contentFaul
   abbrev all : List (List (List ℕ))
   all = tabulate a (pointLineWords c) ++ (tabulate b (edgeLineWords c) ++ (tabulate f (faceLineWords c) ++ tabulate s (shellLineWords c)))
 
-  text-is : patternText c ≡ text all
-  unfolding patternText
+  text-is : recordLines c ≡ text all
   text-is =
       let points = text-table a (lineOfPoint c) (pointLineWords c) (λ k. point-line k (getD (c .points) k 0)) in
       let edges =
@@ -72,14 +72,20 @@ module _ (c : Content) (few : countFaults (countsOf c) ≡ []) (ok : contentFaul
       (region-then (region f (λ (i : ℕ). partly c a b i 0) (faceLineWords c) (face-step c few ok fit a b))
       (region s (λ (i : ℕ). partly c a b f i) (shellLineWords c) (shell-step c few ok fit a b f))))
 
-  lines-are : lines (patternText c) ≡ map sentence all
+  lines-are : lines (recordLines c) ≡ map sentence all
   lines-are = ap lines text-is ∙ lines-text all (lines-read .are)
 
-  pub no-fault : textFaults nothing 1 (lines (patternText c)) ≡ []
+  pub no-fault : textFaults nothing 1 (lines (recordLines c)) ≡ []
   no-fault = rw (lines-are, ← partly-none c) (lines-read .right 1)
 
-  pub same-content : textContent (patternText c) ≡ c
+  pub same-content : textContent (recordLines c) ≡ c
   same-content = rw (lines-are, ← partly-none c, lines-read .reach) (partly-all c (summed c few ok fit))
 
-  pub not-long : length (patternText c) ≤ 262144
+  pub unsaid : said (lines (recordLines c)) ≡ false
+  unsaid = rw lines-are (plain-unsaid all (lines-read .are) (lines-read .plain))
+
+  pub unmarked : hasMark (recordLines c) ≡ false
+  unmarked = rw text-is (plain-unmarked all (lines-read .are) (lines-read .plain))
+
+  pub not-long : length (recordLines c) ≤ 262144
   not-long = omega (arith, ap length text-is, lines-read .long, room-weight (partly c a b f s) (partly-room c (summed c few ok fit) a b f s))

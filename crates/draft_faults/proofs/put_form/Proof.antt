@@ -21,8 +21,12 @@ returns-3 c = put-short _ _ 80 _ _ (ap lineForm (c .before .before .before .befo
 
 returns-4 : tie.Need-returns-4
 unfolding lineForm
-returns-4 c = put-short _ _ 80 _ _ (form-last _ (c .before .before .before .before .before .before .before .if1 .left) (c .before .before .before .before .before .before .if2 .left) (c .before .before .before .before .before .if3 .left)) (c .before .before .put-text4 .ensures) (omega arith)
+returns-4 c = put-short _ _ 80 _ _ (ap lineForm (c .before .before .before .before .before .if4 .taken)) (c .before .before .put-text4 .ensures) (omega arith)
+
+returns-5 : tie.Need-returns-5
+unfolding lineForm
+returns-5 c = put-short _ _ 80 _ _ (form-last _ (c .before .before .before .before .before .before .before .before .if1 .left) (c .before .before .before .before .before .before .before .if2 .left) (c .before .before .before .before .before .before .if3 .left) (c .before .before .before .before .before .if4 .left)) (c .before .before .put-text5 .ensures) (omega arith)
 
 pub put-form-spec : {M : Type 1} → statement M
 put-form-spec = tie.close (tie.spec (search needs) (search needs) (search needs) returns (search needs) (search needs) (search needs)
-    returns-2 (search needs) (search needs) (search needs) returns-3 (search needs) (search needs) (search needs) returns-4)
+    returns-2 (search needs) (search needs) (search needs) returns-3 (search needs) (search needs) (search needs) returns-4 (search needs) (search needs) (search needs) returns-5)

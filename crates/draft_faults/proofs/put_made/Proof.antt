@@ -1,4 +1,4 @@
--- Nothing, the line of a fault with its number, or the line of a text that is too long.
+-- Nothing, the line of a fault with its number, or the line that says what is wrong with the whole text.
 use mathlib.Core.List.{_++_}
 use mathlib.Core.Path.{ap}
 use native.Mathlib.Omega.{arith}
@@ -29,8 +29,26 @@ returns-2 c =
     (p .0, omega (arith, p .1), omega (arith, p .2))
 
 returns-3 : tie.Need-returns-3
-unfolding field
+unfolding madeText
 returns-3 c =
+    let p = put-short _ 0 256 _ _ (ap madeText (c .before .before .before .enum-told2 .given .1)) (c .put-text2 .ensures) (omega arith) in
+    (p .0, omega (arith, p .1), omega (arith, p .2))
+
+returns-4 : tie.Need-returns-4
+unfolding madeText
+returns-4 c =
+    let p = put-short _ 0 256 _ _ (ap madeText (c .before .before .before .enum-told3 .given .1)) (c .put-text3 .ensures) (omega arith) in
+    (p .0, omega (arith, p .1), omega (arith, p .2))
+
+returns-5 : tie.Need-returns-5
+unfolding madeText
+returns-5 c =
+    let p = put-short _ 0 256 _ _ (ap madeText (c .before .before .before .enum-told4 .given .1)) (c .put-text4 .ensures) (omega arith) in
+    (p .0, omega (arith, p .1), omega (arith, p .2))
+
+returns-6 : tie.Need-returns-6
+unfolding field
+returns-6 c =
     let args = c .before .before .before .before .before .before .before .before .args in
     let m2 = c .before .before .before .before .before .before .m2 in
     let x = ascii "line " ++ decimal (m2 .given .0 .0) in
@@ -39,5 +57,6 @@ returns-3 c =
     (p .0, omega (arith, p .1), omega (arith, p .2))
 
 pub put-made-spec : {M : Type 1} → statement M
-put-made-spec = tie.close (tie.spec (search needs) (search needs) (search needs) (search needs) (search needs) (search needs)
-    put-field-requires put-fault-requires returns returns-2 returns-3)
+put-made-spec = tie.close (tie.spec (search needs) (search needs) (search needs) (search needs) (search needs) (search needs) (search needs)
+    (search needs) (search needs) (search needs) (search needs) (search needs) (search needs) (search needs) (search needs)
+    put-field-requires put-fault-requires returns returns-2 returns-3 returns-4 returns-5 returns-6)
