@@ -6,10 +6,11 @@ use lib.ListN.{getD}
 use Rattle.answers.specs.declared.Answer.{Answer}
 use Rattle.calls.specs.Calls.{figureReply}
 use Rattle.calls.specs.declared.FigureAnswer.{FigureAnswer}
-use Rattle.edit_answers.specs.Answers.{cutReply, faceReply, joinReply}
+use Rattle.edit_answers.specs.Answers.{cutReply, faceReply, joinReply, vertexReply}
 use Rattle.edit_answers.specs.declared.CutAnswer.{CutAnswer}
 use Rattle.edit_answers.specs.declared.FaceAnswer.{FaceAnswer}
 use Rattle.edit_answers.specs.declared.JoinAnswer.{JoinAnswer}
+use Rattle.edit_answers.specs.declared.VertexAnswer.{VertexAnswer}
 use Rattle.errors.specs.Numbers.{Reply, checkReply, done as Reply·done, refused as Reply·refused, unread as Reply·unread}
 use Rattle.errors.specs.declared.Check.{Check}
 use Rattle.errors.specs.declared.Refusal.{Refusal}
@@ -74,6 +75,9 @@ cutValues a w = answer (withFile (cutReply a) (writtenReply w))
 
 abbrev pub joinValues : JoinAnswer → Written → Answer
 joinValues a w = answer (withFile (joinReply a) (writtenReply w))
+
+abbrev pub vertexValues : VertexAnswer → Written → Answer
+vertexValues a w = answer (withFile (vertexReply a) (writtenReply w))
 
 abbrev pub faceValues : FaceAnswer → Answer
 faceValues a = answer (faceReply a)

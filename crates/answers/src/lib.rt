@@ -1,12 +1,13 @@
 // Answers as numbers, for callers outside the library: how a call ended, the number of the
 // refusal, and the values (docs/FORMAT.md 6.2).
 ghost use mathlib.Core.Path.{_≡_};
-ghost use Rattle.answers.specs.Values.{checkValues, cutValues, done, faceValues, figureValues, joinValues, placeValues, refused as refusedAnswer, solidValues, unread as unreadAnswer, writtenValues};
+ghost use Rattle.answers.specs.Values.{checkValues, cutValues, done, faceValues, figureValues, joinValues, placeValues, refused as refusedAnswer, solidValues, unread as unreadAnswer, vertexValues, writtenValues};
 use calls::FigureAnswer;
 use calls::ShellFigure;
 use edit_answers::CutAnswer;
 use edit_answers::FaceAnswer;
 use edit_answers::JoinAnswer;
+use edit_answers::VertexAnswer;
 use edit_answers::edit_number;
 use edit_answers::face_edit_number;
 use errors::Check;
@@ -171,6 +172,21 @@ pub fn join_values(a: JoinAnswer, w: Written) -> Answer
         },
         JoinAnswer::Refused(f) => unread(f),
         JoinAnswer::Not(e) => refused(edit_number(e), 0),
+    }
+}
+
+// The new point, and the length of the edited file as it was written.
+pub fn vertex_values(a: VertexAnswer, w: Written) -> Answer
+    ensures { λ r. ⌜ r ≡ vertexValues a w ⌝ }
+{
+    match a {
+        VertexAnswer::Added(v) => match w {
+            Written::Length(n) => done_with(index(v.0), 0, n),
+            Written::Refused(f) => unread(f),
+            Written::NoSpace(n) => refused(17, n),
+        },
+        VertexAnswer::Refused(f) => unread(f),
+        VertexAnswer::Not(e) => refused(edit_number(e), 0),
     }
 }
 

@@ -13,6 +13,8 @@ use Rattle.edit_answers.specs.declared.FaceEditError.{FaceEditError}
 use Rattle.edit_answers.specs.declared.FaceEditError.the-variants.{EndsNotOnWire, FaceRule, FacesDiffer, NoSpace as Face·NoSpace, NotDisjointWires, NothingRemains, NotOneWire, OppositeEdges, Unnamed as Face·Unnamed, Wire}
 use Rattle.edit_answers.specs.declared.JoinAnswer.{JoinAnswer}
 use Rattle.edit_answers.specs.declared.JoinAnswer.the-variants.{Joined, Not as Join·Not, Refused as Join·Refused}
+use Rattle.edit_answers.specs.declared.VertexAnswer.{VertexAnswer}
+use Rattle.edit_answers.specs.declared.VertexAnswer.the-variants.{Added, Not as Vertex·Not, Refused as Vertex·Refused}
 
 -- an edit's own refusal, a number alone
 abbrev pub editNumber : EditError → ℕ
@@ -40,7 +42,7 @@ faceEditNumber OppositeEdges = 21
 faceEditNumber NothingRemains = 22
 faceEditNumber FaceRule = 28
 
--- number and values of the answers: the numbers of the new edges; how many uses and how many wires were written
+-- number and values of the answers: the numbers of the new edges; that of the new point; how many uses and how many wires were written
 abbrev pub cutReply : CutAnswer → Reply
 cutReply (Cut a b) = done (a .0 ∷ b .0 ∷ [])
 cutReply (Refused f) = unread f
@@ -50,6 +52,11 @@ abbrev pub joinReply : JoinAnswer → Reply
 joinReply (Joined a) = done (a .0 ∷ [])
 joinReply (Join·Refused f) = unread f
 joinReply (Join·Not e) = refused (editNumber e) []
+
+abbrev pub vertexReply : VertexAnswer → Reply
+vertexReply (Added v) = done (v .0 ∷ [])
+vertexReply (Vertex·Refused f) = unread f
+vertexReply (Vertex·Not e) = refused (editNumber e) []
 
 abbrev pub faceReply : FaceAnswer → Reply
 faceReply (Written m k) = done (m ∷ k ∷ [])

@@ -5,10 +5,11 @@ use edge::EdgeID;
 use errors::Refusal;
 use errors::WireError;
 use errors::wire_number;
+use vertex::VertexID;
 
 // The refusal of an edit of a shell, its own.
 pub enum EditError {
-    // 3: a number that names nothing.
+    // 3: a number that names nothing, or is no label.
     Unnamed,
     // 14: the point is in the shell already.
     VertexInShell,
@@ -16,7 +17,7 @@ pub enum EditError {
     EdgeNotInShell,
     // 16
     CurveRefuses,
-    // 17: the edge table or the use list would pass its limit.
+    // 17: the point table, the edge table or the use list would pass its limit.
     NoSpace,
     // 23: no wire, or over two, ends at the point.
     NotOneOrTwoWires,
@@ -66,6 +67,13 @@ pub enum CutAnswer {
 // The answer of a removal or a concat: the number of the new edge.
 pub enum JoinAnswer {
     Joined(EdgeID),
+    Refused(Refusal),
+    Not(EditError),
+}
+
+// The answer of an added point: its number.
+pub enum VertexAnswer {
+    Added(VertexID),
     Refused(Refusal),
     Not(EditError),
 }

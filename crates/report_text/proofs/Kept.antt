@@ -11,8 +11,8 @@ report-kept c d m s =
     λ i. shellLines m (record {
       condition = s .condition-kept i;
       connected = s .connected-kept i;
-      openings = s .openings-kept i .openings;
-      lookups = s .openings-kept i .lookups;
+      openings = s .openings-kept i;
+      lookups = s .lookups-kept i;
       components = s .components-kept i;
       singular = s .singular-kept i;
     })

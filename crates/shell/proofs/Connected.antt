@@ -1,5 +1,5 @@
 -- Connected: the labels of the points tell exactly what chains of uses and of neighbouring wires join.
-use Prim.Native.Nat.{_+_, _<_, suc, ℕ}
+use Prim.Native.Nat.{_+_, _<_, _≤_, suc, ℕ}
 use mathlib.Core.Bool.{false, true}
 use mathlib.Core.List.{List, List·Memᴰ, List·Memᴰ·append-cases, Memᴰ·append-left, Memᴰ·append-right, Memᴰ·map, Memᴰ·of-map, [], map}
 use mathlib.Core.Logic.{inl, ⊎-elim}
@@ -9,7 +9,7 @@ use lib.Dec.{leb}
 use lib.ListN.{List·getD-map, drop, getD, length, length-drop, length-map}
 use lib.Seq.{getD-drop}
 use Rattle.edge.specs.Uses.{edgeNumber, frontOf}
-use Rattle.groups.proofs.Alike.{in-flat, in-flat-map, member-at, of-flat, of-flat-map}
+use Rattle.groups.proofs.Alike.{in-flat, in-flat-map, member-at, of-flat, of-flat-map, one-group-larger}
 use Rattle.groups.proofs.Meaning.{back as turn, chain as link-up, linked-one-group, one-group-linked}
 use Rattle.groups.proofs.Members.{all-member, in-links, links-map, of-links}
 use Rattle.groups.specs.Groups.{Inside, Link, Linked, against, along, here, link, links}
@@ -21,7 +21,7 @@ use Rattle.pattern.proofs.Passed.{content-passed, records-passed}
 use Rattle.pattern.specs.Checks.{contentFaults}
 use Rattle.pattern.specs.Contents.{Content}
 use Rattle.shell.proofs.Shown.{Uses, wires-used}
-use Rattle.shell.specs.Connected.{connectedOf, faceLinks, firstPoints}
+use Rattle.shell.specs.Connected.{connected, connectedOf, faceLinks, firstPoints}
 use Rattle.shell.specs.Meaning.{Chain, ConnectedMeans, PointStep, UsePoint, _∈_, backward, by-use, by-wires, firstPoint, onward, still}
 use Rattle.shell.specs.Openings.{backIn, frontIn}
 use Rattle.shell.specs.Shells.{shellFaces, shellUses, shellWires}
@@ -128,6 +128,11 @@ module _ (c : Content) (ok : contentFaults c ≡ []) where
 
     below : (x : ℕ) → List·Memᴰ x fronts → x < length (c .points)
     below x m = let r = Memᴰ·of-map (frontIn c) (shellUses c n) m in rw (← r .2) (ends-named (r .0) (use-edge (r .0) (r .1)) .0)
+
+    -- points that no use has change nothing
+    pub connected-larger : (points : ℕ) → length (c .points) ≤ points → connectedOf (frontIn c) (backIn c) points (shellFaces c n) ≡ connected c n
+    unfolding connectedOf shellWires
+    connected-larger points h = one-group-larger (length (c .points)) points L fronts h inside below
 
     -- a point of a use is joined with the front of that use
     to-front : (p : ℕ) → UsePoint c n p → (x : ℕ) × List·Memᴰ x fronts × Linked L x p

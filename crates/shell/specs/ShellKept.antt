@@ -21,6 +21,7 @@ pub record ShellKept (c d : Content) (m : ℕ) : Type 0 where
   -- so all that is reported of the shell is what it was
   pub condition-kept : condition (shellUses d m) ≡ condition (shellUses c m)
   pub connected-kept : connected d m ≡ connected c m
-  pub openings-kept : shellWalk d m ≡ shellWalk c m
+  pub openings-kept : shellWalk d m .openings ≡ shellWalk c m .openings
+  pub lookups-kept : shellWalk d m .lookups ≡ shellWalk c m .lookups
   pub components-kept : components d m ≡ components c m
   pub singular-kept : singularPoints d m ≡ singularPoints c m

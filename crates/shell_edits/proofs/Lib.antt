@@ -21,6 +21,8 @@ pub mod KeepsSingular
 pub mod KeepsComponents
 pub mod KeepsCases
 pub mod KeepsTheorem
+pub mod Further
+pub mod VertexTheorem
 pub mod Numbers
 pub mod Locality
 pub mod Sequences

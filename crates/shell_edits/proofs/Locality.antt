@@ -31,7 +31,7 @@ use Rattle.shell.proofs.SameEnds.{Same, backs-same, connected-same, fronts-same
 use Rattle.shell.specs.Components.{components, componentsOf, hasWires, shellPairs}
 use Rattle.shell.specs.Conditions.{condition}
 use Rattle.shell.specs.Connected.{connectedOf}
-use Rattle.shell.specs.Openings.{backIn, frontIn, walkOf}
+use Rattle.shell.specs.Openings.{Walk, backIn, frontIn, shellWalk, walkOf}
 use Rattle.shell.specs.ShellKept.{ShellKept}
 use Rattle.shell.specs.Shells.{faceNumber, listingsOf, shellFaces, shellUses, shellWires, shownWire, shownWires}
 use Rattle.shell.specs.Singular.{singularOf}
@@ -42,11 +42,12 @@ use Rattle.shell_edits.proofs.CutMade.{edge-inside, own-faces}
 use Rattle.shell_edits.proofs.CutTheorem.{cut-few}
 use Rattle.shell_edits.proofs.Removal.{end-use-named, firstChanged, last-ends, lastChanged, remove-allowed, wires-changed, wires-many}
 use Rattle.shell_edits.proofs.RemoveTheorem.{remove-few}
+use Rattle.shell_edits.proofs.VertexTheorem.{vertex-few, vertex-kept}
 use Rattle.shell_edits.proofs.Wires.{all-has, each-at, each-long, face-same, unlisted}
 use Rattle.shell_edits.specs.Answers.{patternAfter}
-use Rattle.shell_edits.specs.Edits.{concatContent, concatFaults, cutContent, cutFaults, cutWires, edgeAt, edited, endUse, endingWires, firstWire, joinedEdge, lastWire, nextUse, otherListings, outline, removeContent, removeFaults, removeWires, sharesFace, wiresIn, wiresOf}
+use Rattle.shell_edits.specs.Edits.{concatContent, concatFaults, cutContent, cutFaults, cutWires, edgeAt, edited, endUse, endingWires, firstWire, joinedEdge, lastWire, nextUse, otherListings, outline, removeContent, removeFaults, removeWires, sharesFace, vertexContent, vertexFaults, wiresIn, wiresOf}
 use Rattle.shell_edits.specs.NewEdges.{halfEdges}
-use Rattle.shell_edits.specs.Sequences.{Edit, Elsewhere, concat, cut, doEdit, remove}
+use Rattle.shell_edits.specs.Sequences.{Edit, Elsewhere, concat, cut, doEdit, remove, vertex}
 use Rattle.singular.proofs.Theorem.{singular-more}
 
 -- ---- lists
@@ -179,6 +180,11 @@ module _ (c : Content) (ok : contentFaults c ≡ []) (m : ℕ) where
           ap (λ (ps : List ℕ). componentsOf ps (map (part d) ps)) pairs-same
           ∙ ap (componentsOf pairs) (map-same (part d) (part c) pairs (all-weaker FaceKept (λ (l : ℕ). part d l ≡ part c l) (λ l h. ap flat (shown-same l h)) pairs all))
 
+      walks-same : shellWalk d m ≡ shellWalk c m
+      walks-same =
+          ap (walkOf (frontIn d) (backIn d) (length (c .points))) uses-same
+          ∙ walk-same (frontIn c) (backIn c) (frontIn d) (backIn d) (length (c .points)) (shellUses c m) uses-same-ends
+
       pub shell-kept : ShellKept c d m
       shell-kept = record {
         listings-kept = refl;
@@ -189,8 +195,8 @@ module _ (c : Content) (ok : contentFaults c ≡ []) (m : ℕ) where
         condition-kept = ap condition uses-same;
         connected-kept = ap (connectedOf (frontIn d) (backIn d) (length (c .points))) faces-same
             ∙ connected-same (frontIn c) (backIn c) (frontIn d) (backIn d) (same-use 0 some) (length (c .points)) (shellFaces c m) faces-same-ends;
-        openings-kept = ap (walkOf (frontIn d) (backIn d) (length (c .points))) uses-same
-            ∙ walk-same (frontIn c) (backIn c) (frontIn d) (backIn d) (length (c .points)) (shellUses c m) uses-same-ends;
+        openings-kept = ap (λ (w : Walk). w .openings) walks-same;
+        lookups-kept = ap (λ (w : Walk). w .lookups) walks-same;
         components-kept = parts-same;
         singular-kept = ap (singularOf (frontIn d) (backIn d) (length (c .edges ++ new)) (length (c .points))) wires-same
             ∙ singular-more (frontIn c) (backIn c) (frontIn d) (backIn d) (length (c .edges)) (length (c .edges ++ new)) (length (c .points)) (shellWires c m)
@@ -274,6 +280,7 @@ same-shell c m = record {
   condition-kept = refl;
   connected-kept = refl;
   openings-kept = refl;
+  lookups-kept = refl;
   components-kept = refl;
   singular-kept = refl;
 }
@@ -300,3 +307,6 @@ module _ (p : Pattern) (full : Full p) (m : ℕ) where
   others-kept (concat u v) other =
       let c = content p in
       after-kept (concatFaults c u v) (concatContent c u v) (λ ok none. concat-few p full u v none) (λ ok none. concat-others c (pattern-passed p ok .content) m u v none)
+  others-kept (vertex label) other =
+      let c = content p in
+      after-kept (vertexFaults c label) (vertexContent c label) (λ ok none. vertex-few p full label none) (λ ok none. vertex-kept c (pattern-passed p ok .content) label m)

@@ -24,10 +24,11 @@ use Rattle.shell_edits.proofs.ConcatTheorem.{concat-few}
 use Rattle.shell_edits.proofs.CutMade.{two-more}
 use Rattle.shell_edits.proofs.CutTheorem.{cut-few}
 use Rattle.shell_edits.proofs.RemoveTheorem.{remove-few}
+use Rattle.shell_edits.proofs.VertexTheorem.{vertex-few}
 use Rattle.shell_edits.specs.Answers.{nextEdge, patternAfter}
-use Rattle.shell_edits.specs.Edits.{concatFaults, cutContent, cutFaults, edgeAt, edited, endUse, endingWires, joinedEdge, lastWire, nextUse, removeContent, removeFaults}
+use Rattle.shell_edits.specs.Edits.{concatContent, concatFaults, cutContent, cutFaults, edgeAt, endUse, endingWires, joinedEdge, lastWire, nextUse, removeContent, removeFaults, vertexContent, vertexFaults}
 use Rattle.shell_edits.specs.NewEdges.{halfEdges}
-use Rattle.shell_edits.specs.Sequences.{Edit, Numbered, concat, cut, cutGives, doEdit, doEdits, gives, joinGives, numbersFrom, numbersGiven, remove}
+use Rattle.shell_edits.specs.Sequences.{Edit, Numbered, concat, cut, cutGives, doEdit, doEdits, gives, joinGives, numbersFrom, numbersGiven, remove, vertex}
 
 -- ---- consecutive numbers
 
@@ -56,11 +57,8 @@ same : (p : Pattern) → Numbered p p []
 unfolding numbersFrom
 same p = record { new = []; edges = sym (append-nil (content p .edges)); numbers = refl }
 
--- an edit with these refusals, if any, that makes the edges `new`
-module _ (p : Pattern) (full : Full p) (new : List Edge) (uses wires : List ℕ) (ns : List ℕ) where
-  abbrev c : Content
-  c = edited (content p) new uses wires
-
+-- an edit with these refusals, if any, to content c, that makes the edges `new`
+module _ (p : Pattern) (full : Full p) (c : Content) (new : List Edge) (more : c .edges ≡ content p .edges ++ new) (ns : List ℕ) where
   abbrev Done : Pattern → List ℕ → Type 0
   Done q given = Full q × Numbered p q given
 
@@ -79,7 +77,7 @@ module _ (p : Pattern) (full : Full p) (new : List Edge) (uses wires : List ℕ)
       go [] (e ∷ es) is few given = as-before
       go [] [] is few given = (
         stored-full p full c (few refl refl),
-        record { new = new; edges = ap (λ (d : Content). d .edges) (stored-content p full c (few refl refl)); numbers = given refl refl },
+        record { new = new; edges = ap (λ (d : Content). d .edges) (stored-content p full c (few refl refl)) ∙ more; numbers = given refl refl },
       )
 
 -- what an answer gives
@@ -94,6 +92,15 @@ join-gives : (fs : List Refusal) (es : List EditError) (a : EdgeID)
 join-gives (f ∷ fs) es a = refl
 join-gives [] (e ∷ es) a = refl
 join-gives [] [] a = refl
+
+none-given : (fs : List Refusal) (es : List EditError) → judged {A = List ℕ} fs es (λ (f : Refusal). []) (λ (e : EditError). []) [] ≡ []
+none-given (f ∷ fs) es = refl
+none-given [] (e ∷ es) = refl
+none-given [] [] = refl
+
+next-none : (a : ℕ) → [] ≡ numbersFrom a 0
+unfolding numbersFrom
+next-none a = refl
 
 next-one : (a : ℕ) → (a + 0) ∷ [] ≡ numbersFrom a 1
 unfolding numbersFrom
@@ -110,7 +117,7 @@ edit-done p full (cut n e v at) =
     let new = halfEdges (edgeAt c e) v (cutCurve (edgeAt c e .curve) at) in
     let fine : patternFaults p ≡ [] → contentFaults c ≡ [] = λ ok. pattern-passed p ok .content in
     rw (cut-gives (patternFaults p) es (nextEdge p 0) (nextEdge p 1))
-    (one-edit p full new (cutContent c n e v at .uses) (cutContent c n e v at .wires) ((length (c .edges) + 0) ∷ (length (c .edges) + 1) ∷ []) es
+    (one-edit p full (cutContent c n e v at) new refl ((length (c .edges) + 0) ∷ (length (c .edges) + 1) ∷ []) es
     (λ ok none. cut-few p n e v at ok full none)
     (λ ok none. next-two (length (c .edges)) (length new) (omega (arith, two-more c (fine ok) n e v at none, length-append (c .edges) new))))
 edit-done p full (remove n v) =
@@ -119,12 +126,17 @@ edit-done p full (remove n v) =
     let w = lastWire (endingWires c n v) in
     let new = joinedEdge c (endUse c v w) (nextUse c v w) ∷ [] in
     rw (join-gives (patternFaults p) es (nextEdge p 0))
-    (one-edit p full new (removeContent c n v .uses) (removeContent c n v .wires) ((length (c .edges) + 0) ∷ []) es (remove-few p full n v) (λ ok none. next-one (length (c .edges))))
+    (one-edit p full (removeContent c n v) new refl ((length (c .edges) + 0) ∷ []) es (remove-few p full n v) (λ ok none. next-one (length (c .edges))))
 edit-done p full (concat u v) =
     let c = content p in
     let es = concatFaults c u v in
     rw (join-gives (patternFaults p) es (nextEdge p 0))
-    (one-edit p full (joinedEdge c u v ∷ []) (c .uses) (c .wires) ((length (c .edges) + 0) ∷ []) es (λ ok none. concat-few p full u v none) (λ ok none. next-one (length (c .edges))))
+    (one-edit p full (concatContent c u v) (joinedEdge c u v ∷ []) refl ((length (c .edges) + 0) ∷ []) es (λ ok none. concat-few p full u v none) (λ ok none. next-one (length (c .edges))))
+edit-done p full (vertex label) =
+    let c = content p in
+    let es = vertexFaults c label in
+    rw (none-given (patternFaults p) es) at
+    (one-edit p full (vertexContent c label) [] (sym (append-nil (c .edges))) [] es (λ ok none. vertex-few p full label none) (λ ok none. next-none (length (c .edges))))
 
 -- ---- one after the other
 

@@ -12,7 +12,8 @@ use Rattle.shell_edits.proofs.CutTheorem.{cut-pattern-accepted}
 use Rattle.shell_edits.proofs.Locality.{others-kept, same-shell}
 use Rattle.shell_edits.proofs.Numbers.{edit-done}
 use Rattle.shell_edits.proofs.RemoveTheorem.{remove-pattern-accepted}
-use Rattle.shell_edits.specs.Sequences.{Edit, Elsewhere, concat, cut, doEdit, doEdits, remove}
+use Rattle.shell_edits.proofs.VertexTheorem.{vertex-pattern-accepted}
+use Rattle.shell_edits.specs.Sequences.{Edit, Elsewhere, concat, cut, doEdit, doEdits, remove, vertex}
 
 -- ---- one edit
 
@@ -20,6 +21,7 @@ edit-accepted : (p : Pattern) → Full p → (x : Edit) → patternFaults p ≡ 
 edit-accepted p full (cut n e v at) ok = cut-pattern-accepted p n e v at ok full
 edit-accepted p full (remove n v) ok = remove-pattern-accepted p full n v ok
 edit-accepted p full (concat u v) ok = concat-pattern-accepted p full u v ok
+edit-accepted p full (vertex label) ok = vertex-pattern-accepted p full label ok
 
 -- ---- one after the other
 
@@ -38,6 +40,7 @@ kept-then c d e m s t = record {
   condition-kept = t .condition-kept ∙ s .condition-kept;
   connected-kept = t .connected-kept ∙ s .connected-kept;
   openings-kept = t .openings-kept ∙ s .openings-kept;
+  lookups-kept = t .lookups-kept ∙ s .lookups-kept;
   components-kept = t .components-kept ∙ s .components-kept;
   singular-kept = t .singular-kept ∙ s .singular-kept;
 }

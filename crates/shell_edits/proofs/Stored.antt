@@ -23,7 +23,7 @@ use Rattle.pattern.proofs.Counts.{Full}
 use Rattle.pattern.specs.Checks.{contentFaults, countFaults, patternFaults}
 use Rattle.pattern.specs.Contents.{Content, Pattern, content, countsOf}
 use Rattle.shell_edits.specs.Answers.{joinAnswer, nextEdge, patternAfter}
-use Rattle.shell_edits.specs.Edits.{edgeOf, edited, joinFaults, roomForEdges}
+use Rattle.shell_edits.specs.Edits.{edgeOf, edited, joinFaults, roomForEdges, vertexContent}
 use Rattle.shell_edits.specs.NewEdges.{isJoined, useBack, useFront}
 use Rattle.shell_edits.specs.Theorems.{Given, OnlyFull, others}
 use Rattle.pattern.proofs.Stored.{stored-accepted, stored-content}
@@ -47,13 +47,30 @@ module _ (p : Pattern) (full : Full p) where
   pub uses-few : length (content p .uses) ≤ 4096
   uses-few = part-few (getD (p .counts) 2 0) 4096 (p .uses) (full .uses)
 
+  pub points-few : length (content p .points) ≤ 2048
+  points-few = part-few (getD (p .counts) 0 0) 2048 (p .points) (full .points)
+
+  faces-few : length (content p .faces) ≤ 256
+  faces-few = part-few (getD (p .counts) 4 0) 256 (p .faces) (full .faces)
+
+  shells-few : length (content p .shells) ≤ 16
+  shells-few = part-few (getD (p .counts) 5 0) 16 (p .shells) (full .shells)
+
+  listings-few : length (content p .listings) ≤ 512
+  listings-few = part-few (getD (p .counts) 6 0) 512 (p .listings) (full .listings)
+
   -- an edit changes edges, uses and wires alone
   pub edited-few : (es : List Edge) (uses wires : List ℕ) → length (content p .edges ++ es) ≤ 1024 → length uses ≤ 4096 → length wires ≤ 1024
       → countFaults (countsOf (edited (content p) es uses wires)) ≡ []
   edited-few es uses wires e u w =
       seven (length (content p .points)) (length (content p .edges ++ es)) (length uses) (length wires) (length (content p .faces)) (length (content p .shells)) (length (content p .listings))
-      (part-few (getD (p .counts) 0 0) 2048 (p .points) (full .points)) e u w (part-few (getD (p .counts) 4 0) 256 (p .faces) (full .faces))
-      (part-few (getD (p .counts) 5 0) 16 (p .shells) (full .shells)) (part-few (getD (p .counts) 6 0) 512 (p .listings) (full .listings))
+      points-few e u w faces-few shells-few listings-few
+
+  -- a point that is added changes the points alone
+  pub vertex-counts : (label : ℕ) → length (content p .points ++ (label ∷ [])) ≤ 2048 → countFaults (countsOf (vertexContent (content p) label)) ≡ []
+  vertex-counts label h =
+      seven (length (content p .points ++ (label ∷ []))) (length (content p .edges)) (length (content p .uses)) (length (content p .wires)) (length (content p .faces)) (length (content p .shells)) (length (content p .listings))
+      h edges-few uses-few wires-few faces-few shells-few listings-few
 
   -- refused or not, an accepted pattern stays so
   module _ (ok : patternFaults p ≡ []) (c : Content) where
@@ -102,7 +119,7 @@ not-only [] [] a h = (refl, cc)
 not-only [] (e ∷ es) a h = let z : e ≡ NoSpace = cc in (refl, ap (λ (d : EditError). d ∷ []) z)
 not-only (f ∷ fs) es a h = (cc, cc)
 
-first-full : (es : List EditError) (b : Bool) → All NotFull es → take 1 (es ++ unless b NoSpace) ≡ NoSpace ∷ [] → (es ≡ []) × (b ≡ false)
+pub first-full : (es : List EditError) (b : Bool) → All NotFull es → take 1 (es ++ unless b NoSpace) ≡ NoSpace ∷ [] → (es ≡ []) × (b ≡ false)
 first-full [] true h t = (refl, cc)
 first-full [] false h t = (refl, refl)
 first-full (e ∷ es) b h t =

@@ -10,10 +10,12 @@ use Rattle.edit_answers.specs.declared.CutAnswer.the-variants.{Cut, Not, Refuse
 use Rattle.edit_answers.specs.declared.EditError.{EditError}
 use Rattle.edit_answers.specs.declared.JoinAnswer.{JoinAnswer}
 use Rattle.edit_answers.specs.declared.JoinAnswer.the-variants.{Joined, Not as Join·Not, Refused as Join·Refused}
+use Rattle.edit_answers.specs.declared.VertexAnswer.{VertexAnswer}
+use Rattle.edit_answers.specs.declared.VertexAnswer.the-variants.{Added, Not as Vertex·Not, Refused as Vertex·Refused}
 use Rattle.errors.specs.declared.Refusal.{Refusal}
 use Rattle.pattern.specs.Checks.{patternFaults}
 use Rattle.pattern.specs.Contents.{Content, Pattern, content, storedIn}
-use Rattle.shell_edits.specs.Edits.{concatContent, concatFaults, cutContent, cutFaults, removeContent, removeFaults}
+use Rattle.shell_edits.specs.Edits.{concatContent, concatFaults, cutContent, cutFaults, removeContent, removeFaults, vertexContent, vertexFaults}
 
 -- the pattern after an edit with these refusals, if any
 abbrev pub patternAfter : Pattern → List EditError → Content → Pattern
@@ -44,3 +46,9 @@ concatAnswer p u v = joinAnswer p (concatFaults (content p) u v)
 
 abbrev pub afterConcat : Pattern → ℕ → ℕ → Pattern
 afterConcat p u v = patternAfter p (concatFaults (content p) u v) (concatContent (content p) u v)
+
+abbrev pub vertexAnswer : Pattern → ℕ → VertexAnswer
+vertexAnswer p label = judged (patternFaults p) (vertexFaults (content p) label) Vertex·Refused Vertex·Not (Added (record { 0 = length (content p .points) }))
+
+abbrev pub afterVertex : Pattern → ℕ → Pattern
+afterVertex p label = patternAfter p (vertexFaults (content p) label) (vertexContent (content p) label)

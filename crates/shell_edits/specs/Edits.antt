@@ -1,4 +1,4 @@
--- The edits of a shell: cut (cut_edge), remove a point (remove_vertex_by_concat_edges), concat. A pattern is edited as its content.
+-- The edits of a shell: cut (cut_edge), remove a point (remove_vertex_by_concat_edges), concat, add a point. A pattern is edited as its content.
 use Prim.Native.Nat.{ℕ, suc, _+_, _-_}
 use mathlib.Core.Bool.{Bool, not, _&&_, _||_}
 use mathlib.Core.List.{List, [], _∷_, _++_, map}
@@ -146,6 +146,24 @@ concatFaults c u v =
 -- the edge is appended, and nothing else changes
 abbrev pub concatContent : Content → ℕ → ℕ → Content
 concatContent c u v = edited c (joinedEdge c u v ∷ []) (c .uses) (c .wires)
+
+-- ---- add a point, with a label
+
+-- 3 for a label that no pattern can have, 17
+abbrev pub vertexFaults : Content → ℕ → List EditError
+vertexFaults c label = unless (ltb label 4294967296) Unnamed ++ unless (leb (length (c .points) + 1) (limit 0)) NoSpace
+
+-- the point is appended, and nothing else changes
+abbrev pub vertexContent : Content → ℕ → Content
+vertexContent c label = record {
+  points = c .points ++ (label ∷ []);
+  edges = c .edges;
+  uses = c .uses;
+  wires = c .wires;
+  faces = c .faces;
+  shells = c .shells;
+  listings = c .listings;
+}
 
 -- ---- remove a point: shell n, point p
 

@@ -1,5 +1,5 @@
 -- What the theorems on the edits speak of, beside the edits (FORMAT 4).
-use Prim.Native.Nat.{ℕ, _+_}
+use Prim.Native.Nat.{ℕ, _+_, _<_}
 use mathlib.Core.Bool.{Bool, false, not, _&&_}
 use mathlib.Core.List.{List, [], _∷_, _++_, map}
 use mathlib.Core.Path.{_≡_}
@@ -11,6 +11,7 @@ use Rattle.edge.specs.declared.Edge.{Edge}
 use Rattle.edge.specs.declared.EdgeID.{EdgeID}
 use Rattle.edit_answers.specs.Answers.{editNumber}
 use Rattle.edit_answers.specs.declared.EditError.{EditError}
+use Rattle.vertex.specs.declared.VertexID.{VertexID}
 use Rattle.pattern.specs.Checks.{patternFaults}
 use Rattle.pattern.specs.Contents.{Content, Pattern, content, limit}
 use Rattle.shell_edits.specs.Edits.{outline, roomForEdges, roomForUses, wiresOf}
@@ -53,3 +54,13 @@ someThereAndBack c n e = ltb 0 (count (λ (w : ℕ). thereAndBack e (outline c w
 -- number a is that of edge e in q; the edges of p stand before it as they stood
 abbrev pub Given : Pattern → Pattern → EdgeID → Edge → Type 0
 Given p q a e = (a .0 ≡ length (content p .edges)) × (content q .edges ≡ content p .edges ++ (e ∷ []))
+
+-- ---- a point that is added
+
+-- nothing else is wrong, and there is no place for one more point
+abbrev pub PointsFull : Pattern → ℕ → Type 0
+PointsFull p label = (patternFaults p ≡ []) × (label < 4294967296) × (length (content p .points) ≡ limit 0)
+
+-- number v is that of the point with this label in q; the points of p stand before it as they stood
+abbrev pub GivenPoint : Pattern → Pattern → VertexID → ℕ → Type 0
+GivenPoint p q v label = (v .0 ≡ length (content p .points)) × (content q .points ≡ content p .points ++ (label ∷ []))
