@@ -1,4 +1,4 @@
--- The line that says what is wrong with a text.
+-- The line that says what is wrong with a text (docs/GUIDE.md, A first garment by hand).
 use Prim.Native.Nat.{ℕ}
 use mathlib.Core.List.{List, [], _++_}
 use lib.Dec.{eqb}
@@ -22,7 +22,7 @@ lineForm k =
 unfoldable pub lineWord : ℕ → List ℕ
 lineWord k = pick (eqb k 1) (ascii ": point ") (pick (eqb k 2) (ascii ": edge ") (pick (eqb k 3) (ascii ": face ") (ascii ": shell ")))
 
--- document 01's meaning of a refusal of the reading checks
+-- the meaning of a refusal of the reading checks (FORMAT 6.1)
 unfoldable pub meaning : ℕ → List ℕ
 meaning n =
     pick (eqb n 2) (ascii ": more records than the limit\n")

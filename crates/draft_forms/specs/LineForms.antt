@@ -1,4 +1,4 @@
--- The form of a line of text that describes a pattern: its kind, and what each of its words must be.
+-- The form of a line of text that describes a pattern: its kind, and what each of its words must be (docs/GUIDE.md, A first garment by hand).
 use Prim.Native.Nat.{ℕ}
 use mathlib.Core.List.{List, [], _∷_}
 use lib.Dec.{eqb}

@@ -1,4 +1,4 @@
--- What a line of text adds to a pattern: a point, an edge, a face with its wires, a shell with its listings. Lines have kinds: 1 point, 2 edge, 3 face, 4 shell, 6 that there is none of them.
+-- What a line of text adds to a pattern: a point, an edge, a face with its wires, a shell with its listings (docs/GUIDE.md, A first garment by hand). Lines have kinds: 1 point, 2 edge, 3 face, 4 shell, 6 that there is none of them.
 use Prim.Native.Nat.{_+_, min, ℕ}
 use mathlib.Core.Bool.{Bool}
 use mathlib.Core.List.{List, [], _++_, _∷_, map}

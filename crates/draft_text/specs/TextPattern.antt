@@ -1,4 +1,4 @@
--- A pattern file from text, as the program `draft` makes it: the lines in turn, and then the reading checks.
+-- A pattern file from text, as the program `draft` makes it: the lines in turn (docs/GUIDE.md, A first garment by hand), and then the reading checks (FORMAT 2).
 use Prim.Native.Nat.{_+_, _-_, suc, ℕ}
 use mathlib.Core.Bool.{Bool, _&&_, _||_, false}
 use mathlib.Core.List.{List, [], _++_, _∷_, map}

@@ -1,4 +1,4 @@
--- The numbers of an edit's answers, as document 01 gives them; and which answer comes first.
+-- The numbers of an edit's answers (FORMAT 6.1, 6.2); and which answer comes first (FORMAT 4.1, 5.1).
 use Prim.Native.Nat.{ℕ}
 use mathlib.Core.List.{List, [], _∷_}
 use Rattle.errors.specs.Numbers.{Reply, done, refused, unread, wireNumber}

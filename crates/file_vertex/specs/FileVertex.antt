@@ -1,4 +1,4 @@
--- The adding of a point on a pattern file: what is answered, and the lent slice afterwards, which takes the edited file.
+-- The adding of a point on a pattern file: what is answered, and the lent slice afterwards, which takes the edited file (FORMAT 4.5, 6.2).
 use Prim.Native.Nat.{ℕ}
 use mathlib.Core.List.{List}
 use Rattle.answers.specs.Read.{afterRead, whenRead}

@@ -1,4 +1,4 @@
--- What each edit answers, and what the pattern then is. The reading checks come first; refused, the pattern is as it was.
+-- What each edit answers, and what the pattern then is. The reading checks come first; refused, the pattern is as it was (FORMAT 4.1).
 use Prim.Native.Nat.{ℕ, _+_}
 use mathlib.Core.List.{List}
 use lib.ListN.{length}

@@ -1,4 +1,4 @@
--- The edits of a shell: cut (cut_edge), remove a point (remove_vertex_by_concat_edges), concat, add a point. A pattern is edited as its content.
+-- The edits of a shell: cut (cut_edge), remove a point (remove_vertex_by_concat_edges), concat, add a point. A pattern is edited as its content (FORMAT 4).
 use Prim.Native.Nat.{ℕ, suc, _+_, _-_}
 use mathlib.Core.Bool.{Bool, not, _&&_, _||_}
 use mathlib.Core.List.{List, [], _∷_, _++_, map}

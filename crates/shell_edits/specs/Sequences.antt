@@ -1,4 +1,4 @@
--- Edits one after the other, each accepted or refused, and the edge numbers they give.
+-- Edits one after the other, each accepted or refused, and the edge numbers they give (FORMAT 4.1).
 use Prim.Native.Nat.{ℕ, zero, suc}
 use mathlib.Core.List.{List, [], _∷_, _++_}
 use mathlib.Core.Path.{_≡_}

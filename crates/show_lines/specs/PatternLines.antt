@@ -1,4 +1,4 @@
--- The lines of the records of a pattern as text: each with its number.
+-- The lines of the records of a pattern as text: each with its number (docs/GUIDE.md, A first garment by hand).
 use Prim.Native.Nat.{ℕ}
 use mathlib.Core.List.{List, _++_, map}
 use Rattle.answer_lines.specs.AnswerLines.{wiresText}

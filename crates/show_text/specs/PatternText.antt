@@ -1,4 +1,4 @@
--- A pattern as text, as the program `show` prints it: a line for each point, edge, face and shell, with its number; or the line `empty`.
+-- A pattern as text, as the program `show` prints it: a line for each point, edge, face and shell, with its number; or the line `empty` (docs/GUIDE.md, A first garment by hand).
 use Prim.Native.Nat.{ℕ}
 use mathlib.Core.List.{List, [], _∷_, _++_}
 use lib.Ieee.{binary64, toBits}

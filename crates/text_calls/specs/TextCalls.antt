@@ -1,4 +1,4 @@
--- The answer of a text in numbers, and with the length of the sentence that says what is wrong.
+-- The answer of a text in numbers, and with the length of the sentence that says what is wrong (FORMAT 6.2).
 use Prim.Native.Nat.{ℕ}
 use mathlib.Core.List.{[], _∷_}
 use lib.ListN.{getD, length}
