@@ -33,7 +33,7 @@ def same(job):
     return " ".join(words)
 
 
-NO_JOB = "no job: begin with cut, remove, concat, add, cutface or glue"
+NO_JOB = "no job: begin with cut, remove, concat, point, add, cutface or glue"
 
 
 def wrong(k, form):
@@ -43,6 +43,7 @@ def wrong(k, form):
 CUT = "cut SHELL EDGE POINT PARAMETER"
 REMOVE = "remove SHELL POINT"
 CONCAT = "concat USE USE"
+POINT = "point LABEL"
 ADD = "add FACE USE .."
 CUTFACE = "cutface FACE USE .."
 GLUE = "glue FACE FACE"
@@ -113,6 +114,14 @@ ROWS = [
     # numbers that name nothing, as document 01 has them
     ("cut 0 999999999 36 1", "refused 3"),
     ("glue 0+ 999999999-", "refused 3"),
+    # a fresh point, which the Rust's parts have as they stand; it can be cut at
+    ("point 7", "done point 37"),
+    ("cut 0 0 37 11.25", "done edges 57 58"),
+    ("point 4294967295", "done point 38"),
+    ("point", wrong(2, POINT)),
+    ("point x", wrong(2, POINT)),
+    ("point 4294967296", wrong(2, POINT)),
+    ("point 1 2", wrong(3, POINT)),
     # words and lines as they may come
     ("\tremove  0\t 20 ", "refused 23"),
     ("remove 0 20\r", "refused 23"),

@@ -11,6 +11,7 @@ use Rattle.answers.specs.declared.Answer.{Answer}
 use Rattle.file_concat.specs.FileConcat.{fileConcat, fileConcatBytes}
 use Rattle.file_cut.specs.FileCut.{fileCut, fileCutBytes}
 use Rattle.file_remove.specs.FileRemove.{fileRemove, fileRemoveBytes}
+use Rattle.file_vertex.specs.FileVertex.{fileVertex, fileVertexBytes}
 use Rattle.file_face_edits.specs.FileFaceEdits.{fileAdd, fileAddOut, fileCutFace, fileCutFaceOut, fileGlue, fileGlueOut}
 use Rattle.lists.proofs.Sets.{take-sets}
 use Rattle.lists.specs.Lists.{flat, pick}
@@ -27,6 +28,13 @@ module _ {ℓ} {A : Type ℓ} (j m n : ℕ) (x y z : A) where
 
   pick-third : (j ≡ m → ⊥) → (j ≡ n → ⊥) → pick (eqb j m) x (pick (eqb j n) y z) ≡ z
   pick-third a b = rw (ne-eqb j m a, ne-eqb j n b)
+
+module _ {ℓ} {A : Type ℓ} (j m : ℕ) (x y : A) where
+  pick-yes : j ≡ m → pick (eqb j m) x y ≡ x
+  pick-yes h = rw (eq-eqb j m h)
+
+  pick-no : (j ≡ m → ⊥) → pick (eqb j m) x y ≡ y
+  pick-no a = rw (ne-eqb j m a)
 
 same-two : {B : Type 0} (f : ℕ → ℕ → B) {x x′ y y′ : ℕ} → x ≡ x′ → y ≡ y′ → f x′ y′ ≡ f x y
 same-two f p q = rw (p, q)
@@ -62,13 +70,18 @@ module _ (j : ℕ) (vs s out : List ℕ) where
     pick-second j 1 2 _ _ _ a h ∙ same-two (λ (x y : ℕ). fileRemoveBytes s x y out) refl p,
   )
 
-  pub concat-is : (u v : ℕ) → (j ≡ 1 → ⊥) → (j ≡ 2 → ⊥) → u ≡ named vs 0 → v ≡ named vs 1
-      → (shellAnswer j vs s out ≡ fileConcat s u v out) × (shellOut j vs s out ≡ fileConcatBytes s u v out)
-  unfolding shellAnswer shellOut
-  concat-is u v a b p q = (
-    pick-third j 1 2 _ _ _ a b ∙ same-two (λ (x y : ℕ). fileConcat s x y out) p q,
-    pick-third j 1 2 _ _ _ a b ∙ same-two (λ (x y : ℕ). fileConcatBytes s x y out) p q,
-  )
+  module _ (a : j ≡ 1 → ⊥) (b : j ≡ 2 → ⊥) where
+    pub concat-is : (u v : ℕ) → j ≡ 3 → u ≡ named vs 0 → v ≡ named vs 1
+        → (shellAnswer j vs s out ≡ fileConcat s u v out) × (shellOut j vs s out ≡ fileConcatBytes s u v out)
+    unfolding shellAnswer shellOut
+    concat-is u v h p q = (
+      pick-third j 1 2 _ _ _ a b ∙ pick-yes j 3 _ _ h ∙ same-two (λ (x y : ℕ). fileConcat s x y out) p q,
+      pick-third j 1 2 _ _ _ a b ∙ pick-yes j 3 _ _ h ∙ same-two (λ (x y : ℕ). fileConcatBytes s x y out) p q,
+    )
+
+    pub vertex-is : (j ≡ 3 → ⊥) → (shellAnswer j vs s out ≡ fileVertex s (getD vs 0 0) out) × (shellOut j vs s out ≡ fileVertexBytes s (getD vs 0 0) out)
+    unfolding shellAnswer shellOut
+    vertex-is c = (pick-third j 1 2 _ _ _ a b ∙ pick-no j 3 _ _ c, pick-third j 1 2 _ _ _ a b ∙ pick-no j 3 _ _ c)
 
 -- ---- edits of a face
 
@@ -82,20 +95,20 @@ wire-is vs l w n h m e is =
     rw (b, is, a, take-all n (drop 1 vs) (omega (arith, length-drop 1 vs))) (take-sets l (wireNamed vs) n d (omega arith))
 
 module _ (j : ℕ) (vs s : List ℕ) (f m k : ℕ) (face : f ≡ named vs 0) (uses : m ≡ 4096) (lens : k ≡ 4096) where
-  pub add-is : (w : List ℕ) → j ≡ 4 → w ≡ wireNamed vs → (faceAnswer j vs s ≡ fileAdd s f w m k) × (faceWires j vs s ≡ fileAddOut s f w m k)
+  pub add-is : (w : List ℕ) → j ≡ 5 → w ≡ wireNamed vs → (faceAnswer j vs s ≡ fileAdd s f w m k) × (faceWires j vs s ≡ fileAddOut s f w m k)
   unfolding faceAnswer faceWires
-  add-is w h p = (pick-first j 4 5 _ _ _ h ∙ same-four (fileAdd s) face uses lens p, pick-first j 4 5 _ _ _ h ∙ same-four (fileAddOut s) face uses lens p)
+  add-is w h p = (pick-first j 5 6 _ _ _ h ∙ same-four (fileAdd s) face uses lens p, pick-first j 5 6 _ _ _ h ∙ same-four (fileAddOut s) face uses lens p)
 
-  pub cutface-is : (w : List ℕ) → (j ≡ 4 → ⊥) → (j ≡ 6 → ⊥) → 4 ≤ j → j ≤ 6 → w ≡ wireNamed vs
+  pub cutface-is : (w : List ℕ) → (j ≡ 5 → ⊥) → (j ≡ 7 → ⊥) → 5 ≤ j → j ≤ 7 → w ≡ wireNamed vs
       → (faceAnswer j vs s ≡ fileCutFace s f w m k) × (faceWires j vs s ≡ fileCutFaceOut s f w m k)
   unfolding faceAnswer faceWires
   cutface-is w a b low high p =
-      let h : j ≡ 5 = omega arith in
-      (pick-second j 4 5 _ _ _ a h ∙ same-four (fileCutFace s) face uses lens p, pick-second j 4 5 _ _ _ a h ∙ same-four (fileCutFaceOut s) face uses lens p)
+      let h : j ≡ 6 = omega arith in
+      (pick-second j 5 6 _ _ _ a h ∙ same-four (fileCutFace s) face uses lens p, pick-second j 5 6 _ _ _ a h ∙ same-four (fileCutFaceOut s) face uses lens p)
 
-  pub glue-is : (g : ℕ) → j ≡ 6 → g ≡ named vs 1 → (faceAnswer j vs s ≡ fileGlue s f g m k) × (faceWires j vs s ≡ fileGlueOut s f g m k)
+  pub glue-is : (g : ℕ) → j ≡ 7 → g ≡ named vs 1 → (faceAnswer j vs s ≡ fileGlue s f g m k) × (faceWires j vs s ≡ fileGlueOut s f g m k)
   unfolding faceAnswer faceWires
   glue-is g h p =
-      let a : j ≡ 4 → ⊥ = λ e. omega arith in
-      let b : j ≡ 5 → ⊥ = λ e. omega arith in
-      (pick-third j 4 5 _ _ _ a b ∙ same-four (fileGlue s) face uses lens p, pick-third j 4 5 _ _ _ a b ∙ same-four (fileGlueOut s) face uses lens p)
+      let a : j ≡ 5 → ⊥ = λ e. omega arith in
+      let b : j ≡ 6 → ⊥ = λ e. omega arith in
+      (pick-third j 5 6 _ _ _ a b ∙ same-four (fileGlue s) face uses lens p, pick-third j 5 6 _ _ _ a b ∙ same-four (fileGlueOut s) face uses lens p)

@@ -78,9 +78,9 @@ told j vs s =
     let f = named vs 0 in
     let us = wireNamed vs in
     let g = named vs 1 in
-    told-pick (eqb j 4) _ _ _ _
+    told-pick (eqb j 5) _ _ _ _
     (told-read (added c f us) r (patternFaults p) (addFaults c f us 4096 4096) (λ e. fitting (added c f us) (omega (arith, rw (length-append, length-append) at (ap length e)))))
-    (told-pick (eqb j 5) _ _ _ _
+    (told-pick (eqb j 6) _ _ _ _
     (told-read (cutInTwo c f us) r (patternFaults p) (cutFaceFaults c f us 4096 4096) (λ e. fitting (cutInTwo c f us) (omega (arith, rw (length-append, length-append, length-append, length-append) at (ap length e)))))
     (told-read (glued c f g) r (patternFaults p) (glueFaults c f g 4096 4096) (λ e. fitting (glued c f g) (omega (arith, rw (length-append, length-append, length-append, length-append, length-append) at (ap length e))))))
 

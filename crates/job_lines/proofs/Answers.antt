@@ -12,10 +12,10 @@ use Rattle.lines.specs.Lines.{numberLine, signed}
 use Rattle.lines.specs.Parts.{wordNumber}
 use Rattle.lists.specs.Lists.{flat, pick}
 use Rattle.output.specs.Text.{ascii, decimal, digits, field}
-use Rattle.job_lines.specs.JobLines.{doneText, edgesText, jobForm, noJob}
+use Rattle.job_lines.specs.JobLines.{doneText, jobForm, newText, noJob}
 
 module _ (j n : ℕ) where
-  pub no-name : j ≡ 0 → noJob j n ≡ ascii "no job: begin with cut, remove, concat, add, cutface or glue\n"
+  pub no-name : j ≡ 0 → noJob j n ≡ ascii "no job: begin with cut, remove, concat, point, add, cutface or glue\n"
   unfolding noJob
   no-name e = rw e
 
@@ -32,21 +32,26 @@ unfolding jobForm
 form-short j =
     pick-short 40 (eqb j 1) _ _ (omega arith)
     (pick-short 40 (eqb j 2) _ _ (omega arith)
-    (pick-short 40 (eqb j 3) _ _ (omega arith) (pick-short 40 (eqb j 4) _ _ (omega arith) (pick-short 40 (eqb j 5) _ _ (omega arith) (omega arith)))))
+    (pick-short 40 (eqb j 3) _ _ (omega arith) (pick-short 40 (eqb j 4) _ _ (omega arith) (pick-short 40 (eqb j 5) _ _ (omega arith) (pick-short 40 (eqb j 6) _ _ (omega arith) (omega arith))))))
 
 module _ (j first second : ℕ) where
-  pub edges-two : j ≡ 1 → edgesText j first second ≡ (ascii "done edges " ++ decimal first) ++ wordNumber (ascii " ") second
-  unfolding edgesText numberLine field
+  pub edges-two : j ≡ 1 → newText j first second ≡ (ascii "done edges " ++ decimal first) ++ wordNumber (ascii " ") second
+  unfolding newText numberLine field
   edges-two h = rw h
 
-  pub edges-one : (j ≡ 1 → ⊥) → edgesText j first second ≡ wordNumber (ascii "done edge ") first
-  unfolding edgesText numberLine field
-  edges-one h = rw (ne-eqb j 1 h)
+  pub point-one : j ≡ 4 → newText j first second ≡ wordNumber (ascii "done point ") first
+  unfolding newText numberLine field
+  point-one h = rw h
+
+  pub edges-one : (j ≡ 1 → ⊥) → (j ≡ 4 → ⊥) → newText j first second ≡ wordNumber (ascii "done edge ") first
+  unfolding newText numberLine field
+  edges-one h k = rw (ne-eqb j 1 h, ne-eqb j 4 k)
 
 -- examples
-answers-of : (edgesText 1 7 8 ≡ ascii "done edges 7 8\n")
-    × (edgesText 3 7 0 ≡ ascii "done edge 7\n")
+answers-of : (newText 1 7 8 ≡ ascii "done edges 7 8\n")
+    × (newText 3 7 0 ≡ ascii "done edge 7\n")
+    × (newText 4 7 0 ≡ ascii "done point 7\n")
     × (doneText ((3 ∷ 32772 ∷ []) ∷ (0 ∷ []) ∷ []) ≡ ascii "done wire 3+ 4- wire 0+\n")
     × (noJob 1 5 ≡ ascii "no job: word 5 of cut SHELL EDGE POINT PARAMETER\n")
-unfolding edgesText doneText noJob jobForm wiresText flat numberLine signed field decimal digits
-answers-of = (refl, refl, refl, refl)
+unfolding newText doneText noJob jobForm wiresText flat numberLine signed field decimal digits
+answers-of = (refl, refl, refl, refl, refl)

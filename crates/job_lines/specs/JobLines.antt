@@ -9,45 +9,48 @@ use Rattle.lists.specs.Lists.{pick}
 use Rattle.output.specs.Text.{ascii, field}
 use Rattle.text.specs.Tokens.{name}
 
--- 1 cut, 2 remove, 3 concat, 4 add, 5 cutface, 6 glue; 0 no job
+-- 1 cut, 2 remove, 3 concat, 4 point, 5 add, 6 cutface, 7 glue; 0 no job
 unfoldable pub jobNumber : ℕ → ℕ
 jobNumber n =
     pick (eqb n (name (ascii "cut"))) 1
     (pick (eqb n (name (ascii "remove"))) 2
     (pick (eqb n (name (ascii "concat"))) 3
-    (pick (eqb n (name (ascii "add"))) 4
-    (pick (eqb n (name (ascii "cutface"))) 5
-    (pick (eqb n (name (ascii "glue"))) 6 0)))))
+    (pick (eqb n (name (ascii "point"))) 4
+    (pick (eqb n (name (ascii "add"))) 5
+    (pick (eqb n (name (ascii "cutface"))) 6
+    (pick (eqb n (name (ascii "glue"))) 7 0))))))
 
--- the kinds of its words after the first: numbers, uses or faces with their signs, a parameter; and the kind of any further word
+-- the kinds of its words after the first: numbers, uses or faces with their signs, a parameter, a label; and the kind of any further word
 unfoldable pub jobKinds : ℕ → List ℕ
-jobKinds j = pick (eqb j 1) (1 ∷ 1 ∷ 1 ∷ 4 ∷ []) (pick (eqb j 2) (1 ∷ 1 ∷ []) (pick (eqb j 3 || eqb j 6) (2 ∷ 2 ∷ []) (2 ∷ [])))
+jobKinds j = pick (eqb j 1) (1 ∷ 1 ∷ 1 ∷ 4 ∷ []) (pick (eqb j 2) (1 ∷ 1 ∷ []) (pick (eqb j 3 || eqb j 7) (2 ∷ 2 ∷ []) (pick (eqb j 4) (7 ∷ []) (2 ∷ []))))
 
 unfoldable pub jobRest : ℕ → ℕ
-jobRest j = pick (eqb j 4 || eqb j 5) 2 0
+jobRest j = pick (eqb j 5 || eqb j 6) 2 0
 
 unfoldable pub jobForm : ℕ → List ℕ
 jobForm j =
     pick (eqb j 1) (ascii "cut SHELL EDGE POINT PARAMETER")
     (pick (eqb j 2) (ascii "remove SHELL POINT")
     (pick (eqb j 3) (ascii "concat USE USE")
-    (pick (eqb j 4) (ascii "add FACE USE ..")
-    (pick (eqb j 5) (ascii "cutface FACE USE ..")
-    (ascii "glue FACE FACE")))))
+    (pick (eqb j 4) (ascii "point LABEL")
+    (pick (eqb j 5) (ascii "add FACE USE ..")
+    (pick (eqb j 6) (ascii "cutface FACE USE ..")
+    (ascii "glue FACE FACE"))))))
 
 -- a line that is no job, and the first word that is wrong or missing, counted from 1
 unfoldable pub noJob : ℕ → ℕ → List ℕ
 noJob j n =
-    pick (eqb j 0) (ascii "no job: begin with cut, remove, concat, add, cutface or glue\n")
+    pick (eqb j 0) (ascii "no job: begin with cut, remove, concat, point, add, cutface or glue\n")
     (field "no job: word " n ++ ascii " of " ++ jobForm j ++ ascii "\n")
 
 abbrev pub firstWord : List (List ℕ) → List ℕ
 firstWord [] = []
 firstWord (w ∷ ws) = w
 
--- the new edges: a cut has two
-unfoldable pub edgesText : ℕ → ℕ → ℕ → List ℕ
-edgesText j first second = pick (eqb j 1) (field "done edges " first ++ numberLine " " second) (numberLine "done edge " first)
+-- what is new: the edges, of which a cut has two, or the point
+unfoldable pub newText : ℕ → ℕ → ℕ → List ℕ
+newText j first second =
+    pick (eqb j 1) (field "done edges " first ++ numberLine " " second) (pick (eqb j 4) (numberLine "done point " first) (numberLine "done edge " first))
 
 -- a result's wires
 unfoldable pub doneText : List (List ℕ) → List ℕ

@@ -9,7 +9,7 @@ ghost use Rattle.lists.specs.Lists.{split, sum};
 ghost use Rattle.forms.specs.Forms.{values as valuesOf};
 ghost use Rattle.text.specs.Text.{words};
 ghost use Rattle.text.specs.Tokens.{name};
-ghost use Rattle.job_lines.specs.JobLines.{doneText, edgesText, firstWord, jobForm, jobKinds, jobNumber, jobRest, noJob};
+ghost use Rattle.job_lines.specs.JobLines.{doneText, firstWord, jobForm, jobKinds, jobNumber, jobRest, newText, noJob};
 use answer_lines::put_wires;
 use forms::Matched;
 use forms::put_values;
@@ -22,7 +22,7 @@ use text::word_start;
 
 // Which job a name asks for; 0 none.
 fn job_number(name: u64) -> usize
-    ensures { λ r. ⌜ (r ≡ jobNumber name) × (r ≤ 6) ⌝ }
+    ensures { λ r. ⌜ (r ≡ jobNumber name) × (r ≤ 7) ⌝ }
 {
     if name == 0x1637574 {
         return 1;
@@ -33,14 +33,17 @@ fn job_number(name: u64) -> usize
     if name == 0x1636f6e636174 {
         return 3;
     }
-    if name == 0x1616464 {
+    if name == 0x1706f696e74 {
         return 4;
     }
-    if name == 0x163757466616365 {
+    if name == 0x1616464 {
         return 5;
     }
-    if name == 0x1676c7565 {
+    if name == 0x163757466616365 {
         return 6;
+    }
+    if name == 0x1676c7565 {
+        return 7;
     }
     0
 }
@@ -58,7 +61,7 @@ pub fn needed(j: usize) -> usize
     if j == 3 {
         return 2;
     }
-    if j == 6 {
+    if j == 7 {
         return 2;
     }
     1
@@ -74,6 +77,9 @@ fn kinds_of(j: usize) -> [u64; 4]
     if j == 2 {
         return [1, 1, 0, 0];
     }
+    if j == 4 {
+        return [7, 0, 0, 0];
+    }
     [2, 2, 0, 0]
 }
 
@@ -81,10 +87,10 @@ fn kinds_of(j: usize) -> [u64; 4]
 fn rest_of(j: usize) -> u64
     ensures { λ r. ⌜ r ≡ jobRest j ⌝ }
 {
-    if j == 4 {
+    if j == 5 {
         return 2;
     }
-    if j == 5 {
+    if j == 6 {
         return 2;
     }
     0
@@ -109,7 +115,7 @@ pub struct First {
 }
 
 pub fn first_of(line: &[u8]) -> First
-    ensures { λ r. ⌜ (r .job ≡ jobNumber (name (firstWord (words (now (line .entry)))))) × (r .job ≤ 6) × (r .end ≤ length (now (line .entry))) × (words (drop (r .end) (now (line .entry))) ≡ drop 1 (words (now (line .entry)))) ⌝ }
+    ensures { λ r. ⌜ (r .job ≡ jobNumber (name (firstWord (words (now (line .entry)))))) × (r .job ≤ 7) × (r .end ≤ length (now (line .entry))) × (words (drop (r .end) (now (line .entry))) ≡ drop 1 (words (now (line .entry)))) ⌝ }
 {
     let start = word_start(line, 0);
     let end = word_end(line, start);
@@ -134,9 +140,12 @@ fn put_form(text: &mut [u8], at: usize, j: usize) -> usize
         return put_text(text, at, b"concat USE USE");
     }
     if j == 4 {
-        return put_text(text, at, b"add FACE USE ..");
+        return put_text(text, at, b"point LABEL");
     }
     if j == 5 {
+        return put_text(text, at, b"add FACE USE ..");
+    }
+    if j == 6 {
         return put_text(text, at, b"cutface FACE USE ..");
     }
     put_text(text, at, b"glue FACE FACE")
@@ -151,7 +160,7 @@ pub fn put_no_job(text: &mut [u8], j: usize, n: usize) -> usize
         return put_text(
             text,
             0,
-            b"no job: begin with cut, remove, concat, add, cutface or glue\n",
+            b"no job: begin with cut, remove, concat, point, add, cutface or glue\n",
         );
     }
     let mut at = put_field(text, 0, b"no job: word ", n);
@@ -160,14 +169,18 @@ pub fn put_no_job(text: &mut [u8], j: usize, n: usize) -> usize
     put_text(text, at, b"\n")
 }
 
-// Writes the answer of an edit of a shell: the new edges, of which a cut has two.
-pub fn put_edges(text: &mut [u8], j: usize, first: usize, second: usize) -> usize
+// Writes the answer of an edit that makes a file: the new edges, of which a cut has two, or the new
+// point.
+pub fn put_new(text: &mut [u8], j: usize, first: usize, second: usize) -> usize
     requires { ⌜ 96 ≤ length (now text) ⌝ }
-    ensures { λ r. ⌜ (now (text .exit) ≡ sets (now (text .entry)) 0 (edgesText j first second)) × (r ≡ length (edgesText j first second)) ⌝ }
+    ensures { λ r. ⌜ (now (text .exit) ≡ sets (now (text .entry)) 0 (newText j first second)) × (r ≡ length (newText j first second)) ⌝ }
 {
     if j == 1 {
         let at = put_field(text, 0, b"done edges ", first);
         return put_number(text, at, b" ", second);
+    }
+    if j == 4 {
+        return put_number(text, 0, b"done point ", first);
     }
     put_number(text, 0, b"done edge ", first)
 }

@@ -3,7 +3,7 @@ use Prim.Native.Nat.{ℕ}
 use mathlib.Core.Bool.{true}
 use mathlib.Core.List.{List, [], _∷_}
 use mathlib.Core.Path.{_≡_, refl}
-use Rattle.forms.specs.Forms.{token, values}
+use Rattle.forms.specs.Forms.{label, token, values}
 use Rattle.job_lines.specs.JobLines.{jobForm, jobKinds, jobNumber, jobRest, noJob}
 use Rattle.output.specs.Text.{ascii, decimal, digits, field}
 use Rattle.text.specs.Text.{words}
@@ -13,12 +13,14 @@ use Rattle.jobs.specs.Jobs.{isJob, lineText, lineValues}
 jobs-read : (lineValues (ascii "cut 0 3 12 nowhere") ≡ 0 ∷ 3 ∷ 12 ∷ 0x7ff8000000000000 ∷ [])
     × (lineValues (ascii "add\t2- 7+ 40000-\r") ≡ 32770 ∷ 7 ∷ 65535 ∷ [])
     × (isJob (ascii "remove 0 5\r") ≡ true)
-unfolding values token words number signed valueAfter allDigits name nameAfter jobNumber jobKinds jobRest
-jobs-read = (refl, refl, refl)
+    × (lineValues (ascii "point 4294967295") ≡ 4294967295 ∷ [])
+unfolding values token label words number signed valueAfter allDigits name nameAfter jobNumber jobKinds jobRest
+jobs-read = (refl, refl, refl, refl)
 
 no-jobs : (s out : List ℕ)
     → (lineText (ascii "remove 0 5 6") s out ≡ ascii "no job: word 4 of remove SHELL POINT\n")
     × (lineText (ascii "glue 1+ 2") s out ≡ ascii "no job: word 3 of glue FACE FACE\n")
-    × (lineText [] s out ≡ ascii "no job: begin with cut, remove, concat, add, cutface or glue\n")
-unfolding lineText noJob jobForm field decimal digits values token words number signed valueAfter allDigits name nameAfter jobNumber jobKinds jobRest
-no-jobs s out = (refl, refl, refl)
+    × (lineText (ascii "point 4294967296") s out ≡ ascii "no job: word 2 of point LABEL\n")
+    × (lineText [] s out ≡ ascii "no job: begin with cut, remove, concat, point, add, cutface or glue\n")
+unfolding lineText noJob jobForm field decimal digits values token label words number signed valueAfter allDigits name nameAfter jobNumber jobKinds jobRest
+no-jobs s out = (refl, refl, refl, refl)

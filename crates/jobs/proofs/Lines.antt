@@ -60,22 +60,22 @@ lines-few line h = omega (arith, length-drop 1 (words (trimmed line)), words-few
 -- ---- what a job does
 
 module _ (j : ℕ) (vs s out : List ℕ) where
-  pick-yes : {A : Type 0} (x y : A) → j ≤ 3 → pick (leb j 3) x y ≡ x
-  pick-yes x y h = rw (le-leb j 3 h)
+  pick-yes : {A : Type 0} (x y : A) → j ≤ 4 → pick (leb j 4) x y ≡ x
+  pick-yes x y h = rw (le-leb j 4 h)
 
-  pick-no : {A : Type 0} (x y : A) → 3 < j → pick (leb j 3) x y ≡ y
-  pick-no x y h = rw (lt-leb j 3 h)
+  pick-no : {A : Type 0} (x y : A) → 4 < j → pick (leb j 4) x y ≡ y
+  pick-no x y h = rw (lt-leb j 4 h)
 
   -- an edit of a shell, and one of a face, as a job
-  pub shell-whole : j ≤ 3 → (text text′ o : List ℕ) (r f : ℕ)
+  pub shell-whole : j ≤ 4 → (text text′ o : List ℕ) (r f : ℕ)
       → ((text′ ≡ sets text 0 (shellText j (shellAnswer j vs s out))) × (r ≡ length (shellText j (shellAnswer j vs s out)))) × ((o ≡ shellOut j vs s out) × (f ≡ shellAnswer j vs s out .third))
-      → ((text′ ≡ sets text 0 (jobText j vs s out)) × (r ≡ length (jobText j vs s out))) × ((o ≡ pick (leb j 3) (shellOut j vs s out) out) × (f ≡ pick (leb j 3) (shellAnswer j vs s out .third) 0))
+      → ((text′ ≡ sets text 0 (jobText j vs s out)) × (r ≡ length (jobText j vs s out))) × ((o ≡ pick (leb j 4) (shellOut j vs s out) out) × (f ≡ pick (leb j 4) (shellAnswer j vs s out .third) 0))
   unfolding jobText
   shell-whole h text text′ o r f p = (text-as (pick-yes _ _ h) text text′ r (p .0), (p .1 .0 ∙ sym (pick-yes _ _ h), p .1 .1 ∙ sym (pick-yes _ _ h)))
 
-  pub face-whole : 3 < j → (text text′ : List ℕ) (r : ℕ)
+  pub face-whole : 4 < j → (text text′ : List ℕ) (r : ℕ)
       → (text′ ≡ sets text 0 (faceText (faceAnswer j vs s) (faceWires j vs s))) × (r ≡ length (faceText (faceAnswer j vs s) (faceWires j vs s)))
-      → ((text′ ≡ sets text 0 (jobText j vs s out)) × (r ≡ length (jobText j vs s out))) × ((out ≡ pick (leb j 3) (shellOut j vs s out) out) × (0 ≡ pick (leb j 3) (shellAnswer j vs s out .third) 0))
+      → ((text′ ≡ sets text 0 (jobText j vs s out)) × (r ≡ length (jobText j vs s out))) × ((out ≡ pick (leb j 4) (shellOut j vs s out) out) × (0 ≡ pick (leb j 4) (shellAnswer j vs s out .third) 0))
   unfolding jobText
   face-whole h text text′ r p = (text-as (pick-no _ _ h) text text′ r p, (sym (pick-no _ _ h), sym (pick-no _ _ h)))
 
@@ -128,7 +128,7 @@ module _ (line s out : List ℕ) where
 
   no-job : (t : List ℕ) → isJob line ≡ false → pick (leb (length line) 65536) (noJob (lineJob line) (length (lineValues line) + 2)) (ascii "no job: over 65536 bytes\n") ≡ t → Answered t
   unfolding lineText lineOut lineLength
-  no-job t e p = (pick-false (isJob line) _ _ e ∙ p, sym (pick-false (isJob line && leb (lineJob line) 3) _ _ (ap (λ (b : Bool). b && leb (lineJob line) 3) e)), sym (pick-false (isJob line && leb (lineJob line) 3) _ _ (ap (λ (b : Bool). b && leb (lineJob line) 3) e)))
+  no-job t e p = (pick-false (isJob line) _ _ e ∙ p, sym (pick-false (isJob line && leb (lineJob line) 4) _ _ (ap (λ (b : Bool). b && leb (lineJob line) 4) e)), sym (pick-false (isJob line && leb (lineJob line) 4) _ _ (ap (λ (b : Bool). b && leb (lineJob line) 4) e)))
 
   pub too-long : 65536 < length line → Answered (ascii "no job: over 65536 bytes\n")
   too-long h = let e = lt-leb (length line) 65536 h in no-job _ (fails-first (short line) (begun line) (each line) (enough line) e) (pick-false _ _ _ e)
@@ -231,16 +231,16 @@ module _ {line : List ℕ} {j n : ℕ} {all : Bool} {arr : List ℕ} (r : Valued
         unfolding lineText
         job-text = pick-true (isJob line) _ _ is-job ∙ rw (part-is, r .job)
 
-        job-out : pick (leb j 3) (shellOut j (take (n - 0) arr) s out) out ≡ lineOut line s out
+        job-out : pick (leb j 4) (shellOut j (take (n - 0) arr) s out) out ≡ lineOut line s out
         unfolding lineOut
         job-out = rw (part-is, r .job, is-job)
 
-        job-length : pick (leb j 3) (shellAnswer j (take (n - 0) arr) s out .third) 0 ≡ lineLength line s out
+        job-length : pick (leb j 4) (shellAnswer j (take (n - 0) arr) s out .third) 0 ≡ lineLength line s out
         unfolding lineLength
         job-length = rw (part-is, r .job, is-job)
 
         pub job-whole : (text text′ o : List ℕ) (t f : ℕ)
             → (let vs = take (n - 0) arr in
-            ((text′ ≡ sets text 0 (jobText j vs s out)) × (t ≡ length (jobText j vs s out))) × ((o ≡ pick (leb j 3) (shellOut j vs s out) out) × (f ≡ pick (leb j 3) (shellAnswer j vs s out .third) 0)))
+            ((text′ ≡ sets text 0 (jobText j vs s out)) × (t ≡ length (jobText j vs s out))) × ((o ≡ pick (leb j 4) (shellOut j vs s out) out) × (f ≡ pick (leb j 4) (shellAnswer j vs s out .third) 0)))
             → ((text′ ≡ sets text 0 (lineText line s out)) × (t ≡ length (lineText line s out))) × ((o ≡ lineOut line s out) × (f ≡ lineLength line s out))
         job-whole text text′ o t f p = (text-as job-text text text′ t (p .0), (p .1 .0 ∙ job-out, p .1 .1 ∙ job-length))

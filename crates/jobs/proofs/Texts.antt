@@ -8,7 +8,7 @@ use borrow.Author.Tests.{ne-eqb}
 use Rattle.answer_lines.specs.AnswerLines.{refusedText}
 use Rattle.answers.specs.declared.Answer.{Answer}
 use Rattle.job_edits.specs.JobEdits.{faceAnswer, faceWires}
-use Rattle.job_lines.specs.JobLines.{doneText, edgesText}
+use Rattle.job_lines.specs.JobLines.{doneText, newText}
 use Rattle.jobs.specs.Jobs.{answerText, faceText, shellText}
 
 module _ (a : Answer) (done : List ℕ) where
@@ -22,7 +22,7 @@ pub shell-refused : (j : ℕ) (a b : Answer) → a ≡ b → (a .outcome ≡ 0 �
 unfolding shellText
 shell-refused j a b is e = ap (shellText j) (sym is) ∙ answer-refused a _ e
 
-pub shell-done : (j : ℕ) (a b : Answer) → a ≡ b → a .outcome ≡ 0 → shellText j b ≡ edgesText j (a .first) (a .second)
+pub shell-done : (j : ℕ) (a b : Answer) → a ≡ b → a .outcome ≡ 0 → shellText j b ≡ newText j (a .first) (a .second)
 unfolding shellText
 shell-done j a b is e = ap (shellText j) (sym is) ∙ answer-done a _ e
 

@@ -8,7 +8,7 @@ use Rattle.answer_lines.specs.AnswerLines.{refusedText}
 use Rattle.answers.specs.declared.Answer.{Answer}
 use Rattle.forms.specs.Forms.{values}
 use Rattle.job_edits.specs.JobEdits.{faceAnswer, faceWires, shellAnswer, shellOut}
-use Rattle.job_lines.specs.JobLines.{doneText, edgesText, firstWord, jobKinds, jobNumber, jobRest, noJob}
+use Rattle.job_lines.specs.JobLines.{doneText, firstWord, jobKinds, jobNumber, jobRest, newText, noJob}
 use Rattle.lists.specs.Lists.{pick}
 use Rattle.output.specs.Text.{ascii}
 use Rattle.text.specs.Text.{trimmed, words}
@@ -19,16 +19,16 @@ use Rattle.text.specs.Tokens.{name}
 abbrev pub answerText : Answer → List ℕ → List ℕ
 answerText a done = pick (eqb (a .outcome) 0) done (refusedText (a .outcome) (a .number) (a .first) (a .second))
 
--- the new edges
+-- the new edges, or the new point
 unfoldable pub shellText : ℕ → Answer → List ℕ
-shellText j a = answerText a (edgesText j (a .first) (a .second))
+shellText j a = answerText a (newText j (a .first) (a .second))
 
 -- the result's wires
 unfoldable pub faceText : Answer → List (List ℕ) → List ℕ
 faceText a ws = answerText a (doneText ws)
 
 unfoldable pub jobText : ℕ → List ℕ → List ℕ → List ℕ → List ℕ
-jobText j vs s out = pick (leb j 3) (shellText j (shellAnswer j vs s out)) (faceText (faceAnswer j vs s) (faceWires j vs s))
+jobText j vs s out = pick (leb j 4) (shellText j (shellAnswer j vs s out)) (faceText (faceAnswer j vs s) (faceWires j vs s))
 
 -- ---- a line
 
@@ -54,7 +54,7 @@ lineText l s out =
 
 -- the list afterwards, and the length of the edited file; 0 if the file stays as it is
 unfoldable pub lineOut : List ℕ → List ℕ → List ℕ → List ℕ
-lineOut l s out = pick (isJob l && leb (lineJob l) 3) (shellOut (lineJob l) (lineValues l) s out) out
+lineOut l s out = pick (isJob l && leb (lineJob l) 4) (shellOut (lineJob l) (lineValues l) s out) out
 
 unfoldable pub lineLength : List ℕ → List ℕ → List ℕ → ℕ
-lineLength l s out = pick (isJob l && leb (lineJob l) 3) (shellAnswer (lineJob l) (lineValues l) s out .third) 0
+lineLength l s out = pick (isJob l && leb (lineJob l) 4) (shellAnswer (lineJob l) (lineValues l) s out .third) 0

@@ -15,7 +15,7 @@ use job_lines::first_of;
 use job_lines::match_job;
 use job_lines::needed;
 use job_lines::put_done;
-use job_lines::put_edges;
+use job_lines::put_new;
 use job_lines::put_no_job;
 use output::put_text;
 use pattern::LONGEST;
@@ -23,7 +23,7 @@ use text::trimmed_length;
 
 // Applies job j, an edit of a face, and writes its answer; returns the length of the answer.
 fn do_face_job(j: usize, v: &[u64], file: &[u8], text: &mut [u8]) -> usize
-    requires { ⌜ (4 ≤ j) × (j ≤ 6) × (length (jobKinds j) ≤ length (now v)) × (length (now v) ≤ 32768) × (65536 ≤ length (now text)) ⌝ }
+    requires { ⌜ (5 ≤ j) × (j ≤ 7) × (length (jobKinds j) ≤ length (now v)) × (length (now v) ≤ 32768) × (65536 ≤ length (now text)) ⌝ }
     ensures { λ r. ⌜ (now (text .exit) ≡ sets (now (text .entry)) 0 (faceText (faceAnswer j (now (v .entry)) (now (file .entry))) (faceWires j (now (v .entry)) (now (file .entry))))) × (r ≡ length (faceText (faceAnswer j (now (v .entry)) (now (file .entry))) (faceWires j (now (v .entry)) (now (file .entry))))) ⌝ }
 {
     let mut uses = [0u16; 4096];
@@ -44,9 +44,9 @@ pub struct Job {
     pub file: usize,
 }
 
-// Applies job j, an edit of a shell, and writes its answer.
+// Applies job j, an edit that makes a file, and writes its answer.
 fn do_shell_job(j: usize, v: &[u64], file: &[u8], out: &mut [u8], text: &mut [u8]) -> Job
-    requires { ⌜ (1 ≤ j) × (j ≤ 3) × (length (jobKinds j) ≤ length (now v)) × (96 ≤ length (now text)) ⌝ }
+    requires { ⌜ (1 ≤ j) × (j ≤ 4) × (length (jobKinds j) ≤ length (now v)) × (96 ≤ length (now text)) ⌝ }
     ensures { λ r. ⌜ (now (text .exit) ≡ sets (now (text .entry)) 0 (shellText j (shellAnswer j (now (v .entry)) (now (file .entry)) (now (out .entry))))) × (r .text ≡ length (shellText j (shellAnswer j (now (v .entry)) (now (file .entry)) (now (out .entry))))) ⌝ }
     ensures { λ r. ⌜ (now (out .exit) ≡ shellOut j (now (v .entry)) (now (file .entry)) (now (out .entry))) × (r .file ≡ shellAnswer j (now (v .entry)) (now (file .entry)) (now (out .entry)) .third) ⌝ }
 {
@@ -58,18 +58,18 @@ fn do_shell_job(j: usize, v: &[u64], file: &[u8], out: &mut [u8], text: &mut [u8
         };
     }
     Job {
-        text: put_edges(text, j, made.first, made.second),
+        text: put_new(text, j, made.first, made.second),
         file: made.third,
     }
 }
 
 // Applies job j with these values, and writes its answer.
 fn do_job(j: usize, v: &[u64], file: &[u8], out: &mut [u8], text: &mut [u8]) -> Job
-    requires { ⌜ (1 ≤ j) × (j ≤ 6) × (length (jobKinds j) ≤ length (now v)) × (length (now v) ≤ 32768) × (65536 ≤ length (now text)) ⌝ }
+    requires { ⌜ (1 ≤ j) × (j ≤ 7) × (length (jobKinds j) ≤ length (now v)) × (length (now v) ≤ 32768) × (65536 ≤ length (now text)) ⌝ }
     ensures { λ r. ⌜ (now (text .exit) ≡ sets (now (text .entry)) 0 (jobText j (now (v .entry)) (now (file .entry)) (now (out .entry)))) × (r .text ≡ length (jobText j (now (v .entry)) (now (file .entry)) (now (out .entry)))) ⌝ }
-    ensures { λ r. ⌜ (now (out .exit) ≡ pick (leb j 3) (shellOut j (now (v .entry)) (now (file .entry)) (now (out .entry))) (now (out .entry))) × (r .file ≡ pick (leb j 3) (shellAnswer j (now (v .entry)) (now (file .entry)) (now (out .entry)) .third) 0) ⌝ }
+    ensures { λ r. ⌜ (now (out .exit) ≡ pick (leb j 4) (shellOut j (now (v .entry)) (now (file .entry)) (now (out .entry))) (now (out .entry))) × (r .file ≡ pick (leb j 4) (shellAnswer j (now (v .entry)) (now (file .entry)) (now (out .entry)) .third) 0) ⌝ }
 {
-    if j <= 3 {
+    if j <= 4 {
         return do_shell_job(j, v, file, out, text);
     }
     Job {

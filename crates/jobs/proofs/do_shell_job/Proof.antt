@@ -1,4 +1,4 @@
--- A refusal, or the new edges.
+-- A refusal, or what is new.
 use mathlib.Core.Path.{ap}
 use borrow.Author.Needs.{needs}
 use Rattle.answers.specs.declared.Answer.{Answer}
@@ -15,7 +15,7 @@ returns c =
 returns-2 : tie.Need-returns-2
 returns-2 c =
     let shell-job = c .before .before .before .before .before .before .before .before .shell-job in
-    (text-as (shell-done _ _ _ (shell-job .ensures .0) (c .before .before .before .before .if1 .left)) _ _ _ (c .before .before .put-edges .ensures), (shell-job .ensures .1, ap (λ (a : Answer). a .third) (shell-job .ensures .0)))
+    (text-as (shell-done _ _ _ (shell-job .ensures .0) (c .before .before .before .before .if1 .left)) _ _ _ (c .before .before .put-new .ensures), (shell-job .ensures .1, ap (λ (a : Answer). a .third) (shell-job .ensures .0)))
 
 pub do-shell-job-spec : {M : Type 1} → statement M
 do-shell-job-spec = tie.close (tie.spec (search needs) (search needs) (search needs) (search needs) returns (search needs) (search needs)
