@@ -177,6 +177,19 @@ static void edits(const uint8_t *file, size_t n)
     EXPECT(wuzsanget_concat(file, n, 0, 1, out, sizeof out), WUZSANGET_DONE, 0, 3, 0, n + 20);
     EXPECT(wuzsanget_concat(file, n, 0, 2, out, sizeof out), WUZSANGET_REFUSED, 29, 0, 0, 0);
 
+    /* A fresh point, and a cut at it. */
+    lend();
+    EXPECT(wuzsanget_add_vertex(file, n, (size_t)1 << 32, out, sizeof out), WUZSANGET_REFUSED, 3, 0, 0, 0);
+    EXPECT(wuzsanget_add_vertex(file, n, 7004, out, n + 3), WUZSANGET_REFUSED, 17, n + 4, 0, 0);
+    expect(all_kept(), "a refused point");
+    EXPECT(wuzsanget_add_vertex(file, n, UINT32_MAX, out, sizeof out), WUZSANGET_DONE, 0, 4, 0, n + 4);
+    expect(out[0] == 56 && out[4] == 5 && out[8] == 76, "five points");
+    expect(memcmp(out + 72, "\xff\xff\xff\xff", 4) == 0, "the label of the fifth");
+    expect(memcmp(out + 76, file + 72, n - 72) == 0 && kept(out, sizeof out, n + 4), "all else");
+    memcpy(edited, out, n + 4);
+    EXPECT(wuzsanget_cut_edge(edited, n + 4, 0, 0, 4, HALF, out, sizeof out), WUZSANGET_DONE, 0, 3, 4,
+           n + 46);
+
     /* The face cut along edge 0, which runs along its outline. */
     lend();
     EXPECT(wuzsanget_cut_by_wire(file, n, 0, edge, 1, uses, 5, lengths, 1), WUZSANGET_REFUSED, 17, 0,
@@ -196,6 +209,38 @@ static void edits(const uint8_t *file, size_t n)
     EXPECT(wuzsanget_glue(file, n, 0, 0, uses, 9, lengths, 9), WUZSANGET_DONE, 0, 3, 1, 0);
     EXPECT(wuzsanget_glue(file, n, 0, WUZSANGET_REVERSED, uses, 9, lengths, 9), WUZSANGET_REFUSED, 20,
            0, 0, 0);
+}
+
+/* Whether a text is refused with this number, line and word, and this sentence. */
+static int drafted(const char *given, size_t number, size_t line, size_t word, const char *sentence)
+{
+    static uint8_t said[WUZSANGET_SAID + 1];
+    size_t m = strlen(sentence);
+    memset(said, 0xa5, sizeof said);
+    return is(wuzsanget_draft((const uint8_t *)given, strlen(given), out, said), WUZSANGET_REFUSED,
+              number, line, word, m) &&
+           memcmp(said, sentence, m) == 0 && kept(said, sizeof said, m);
+}
+
+/* Texts, as `draft` takes them. */
+static void texts(void)
+{
+    static const char nothing[] =
+        "says nothing: no point, edge, face or shell (a line \"empty\" makes an empty pattern)\n";
+    static uint8_t said[WUZSANGET_SAID];
+    lend();
+    expect(drafted("", 0, 0, 0, nothing), "a text without lines");
+    expect(drafted("empty x\n", 0, 1, 2, "line 1: word 2 of empty\n"), "a word too many");
+    expect(drafted("\npoint 1 label 7\n", 0, 2, 0, "line 2: point 0 is expected\n"), "a number that skips");
+    expect(drafted("edge 0 from 0 to 1 span 0 1\n", 3, 1, 0,
+                   "line 1: refused 3: a number that names nothing\n"),
+           "an edge without points");
+    expect(is(wuzsanget_draft(NULL, 0, out, said), WUZSANGET_REFUSED, 0, 0, 0, strlen(nothing)), "no text");
+    expect(all_kept(), "texts that make no file");
+    EXPECT(wuzsanget_draft((const uint8_t *)"point 0 label 258", 17, out, said), WUZSANGET_DONE, 0, 60, 0, 0);
+    expect(out[0] == 56 && out[4] == 1 && out[8] == 60 && memcmp(out + 56, "\x02\x01\0\0", 4) == 0 &&
+               kept(out, sizeof out, 60),
+           "a file of one point");
 }
 
 /* Whether a job answers with this line, and with an edited file of so many bytes. */
@@ -218,10 +263,12 @@ static void jobs(const uint8_t *file, size_t n)
     expect(answers("cut 0 0 3 0.5", file, 55, "refused 1 body 0 record 0\n", 0), "a job on no file");
     expect(answers("cut 0 0 3 0.5", NULL, 0, "refused 1 body 0 record 0\n", 0), "a job on null");
     expect(says(wuzsanget_edit(NULL, 0, NULL, 0, out, text).text,
-                "no job: begin with cut, remove, concat, add, cutface or glue\n"),
+                "no job: begin with cut, remove, concat, point, add, cutface or glue\n"),
            "no line");
     expect(all_kept(), "jobs that give no file");
     wuzsanget_cut_edge(file, n, 0, 0, 3, HALF, edited, sizeof edited);
+    expect(answers("point 9", file, n, "done point 4\n", n + 4), "a point as a job");
+    lend();
     expect(answers("cut 0 0 3 0.5", file, n, "done edges 3 4\n", n + 42), "a cut as a job");
     expect(memcmp(out, edited, n + 42) == 0 && kept(out, sizeof out, n + 42), "its file");
 }
@@ -280,6 +327,7 @@ static void nulls(const uint8_t *file, size_t n)
     EXPECT(wuzsanget_cut_edge(file, n, 0, 0, 3, HALF, NULL, 0), WUZSANGET_REFUSED, 17, n + 42, 0, 0);
     EXPECT(wuzsanget_remove_vertex(file, n, 0, 3, NULL, 0), WUZSANGET_REFUSED, 23, 0, 0, 0);
     EXPECT(wuzsanget_concat(file, n, 0, 1, NULL, 0), WUZSANGET_REFUSED, 17, n + 20, 0, 0);
+    EXPECT(wuzsanget_add_vertex(file, n, 0, NULL, 0), WUZSANGET_REFUSED, 17, n + 4, 0, 0);
     EXPECT(wuzsanget_add_boundary(file, n, 0, NULL, 0, NULL, 0, NULL, 0), WUZSANGET_REFUSED, 6, 0, 0, 0);
     EXPECT(wuzsanget_cut_by_wire(file, n, 0, NULL, 0, NULL, 0, NULL, 0), WUZSANGET_REFUSED, 19, 0, 0, 0);
     EXPECT(wuzsanget_cut_by_edge(file, n, 0, 0, NULL, 0, NULL, 0), WUZSANGET_REFUSED, 17, 0, 0, 0);
@@ -317,6 +365,7 @@ static void every_call(const uint8_t *file, size_t n, size_t number, size_t name
            "cut_edge");
     expect(same(a, wuzsanget_remove_vertex(file, n, number, name, out, 0)), "remove_vertex");
     expect(same(a, wuzsanget_concat(file, n, name, name, out, 1)), "concat");
+    expect(same(a, wuzsanget_add_vertex(file, n, name, out, sizeof out)), "add_vertex");
     expect(same(a, wuzsanget_add_boundary(file, n, name, wire, 3, uses, 0, lengths, 0)),
            "add_boundary");
     expect(same(a, wuzsanget_cut_by_wire(file, n, name, wire, 0, uses, 1, lengths, 1)),
@@ -365,9 +414,10 @@ static void strange(void)
 
 static uint8_t file[WUZSANGET_FILE];
 
-static void *every_job(void *unused)
+static void *jobs_and_texts(void *unused)
 {
     jobs(file, triangle(file));
+    texts();
     return unused;
 }
 
@@ -395,7 +445,7 @@ static void with_stack(size_t bytes, void *(*calls)(void *))
 
 int main(void)
 {
-    with_stack(WUZSANGET_STACK, every_job);
+    with_stack(WUZSANGET_STACK, jobs_and_texts);
     with_stack(131072, all_else);
     return failures != 0;
 }

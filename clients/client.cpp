@@ -76,6 +76,15 @@ public:
         done(wuzsanget_read(file_.data(), file_.size()));
     }
 
+    // The pattern that a text describes.
+    static Pattern draft(const std::string &text)
+    {
+        Bytes out(WUZSANGET_FILE), said(WUZSANGET_SAID), bytes(text.begin(), text.end());
+        wuzsanget_answer a = done(wuzsanget_draft(bytes.data(), bytes.size(), out.data(), said.data()));
+        out.resize(a.first);
+        return Pattern(std::move(out));
+    }
+
     const Bytes &file() const { return file_; }
 
     Uses counts() const
@@ -141,6 +150,13 @@ public:
     {
         return edited([&](std::uint8_t *out, std::size_t room) {
             return wuzsanget_concat(file_.data(), file_.size(), a, b, out, room);
+        });
+    }
+
+    std::pair<Pattern, wuzsanget_answer> add_vertex(std::size_t label) const
+    {
+        return edited([&](std::uint8_t *out, std::size_t room) {
+            return wuzsanget_add_vertex(file_.data(), file_.size(), label, out, room);
         });
     }
 
@@ -304,6 +320,11 @@ int main()
                        "edge 5 from 4 to 0 span 0 1\nface 0 surface 0 wire 0+ 1+ 2+\n"
                        "face 1 surface 0 wire 3+ 4+ 5+\nshell 0 faces 0+ 1+\n",
            "the pattern as text");
+    expect(Pattern::draft(p.show()).file() == two_triangles(), "the pattern from its text");
+    expect(Pattern::draft("empty").counts() == Uses({0, 0, 0, 0, 0, 0, 0}), "an empty pattern");
+    expect(refused([] { Pattern::draft("edge 0 from 0 to 0 span 0 1\npoint 0 label 0"); }) ==
+               WUZSANGET_SAME_VERTEX,
+           "a text with an edge from a point to itself");
 
     // A cut makes two edges and one use more, a removal one edge more and one use less.
     auto cut = p.cut_edge(0, 0, 5, 0.5);
@@ -316,10 +337,14 @@ int main()
            "the point removed");
     auto joined = p.concat(0, 1);
     expect(joined.second.first == 6 && joined.first.counts() == Uses({6, 7, 6, 2, 2, 1, 2}), "a concat");
+    auto more = p.add_vertex(9);
+    expect(more.second.first == 6 && more.first.counts() == Uses({7, 6, 6, 2, 2, 1, 2}), "a fresh point");
+    expect(more.first.report() == p.report(), "the report with a fresh point");
+    expect(refused([&] { p.add_vertex(std::size_t(1) << 32); }) == WUZSANGET_UNNAMED, "a label too large");
     Pattern by_job = p;
     expect(by_job.edit("cut 0 0 5 0.5") == "done edges 6 7\n" && by_job.file() == cut.first.file(),
            "the cut as a job");
-    expect(by_job.edit("") == "no job: begin with cut, remove, concat, add, cutface or glue\n" &&
+    expect(by_job.edit("") == "no job: begin with cut, remove, concat, point, add, cutface or glue\n" &&
                by_job.file() == cut.first.file(),
            "a line without a job");
 

@@ -11,7 +11,7 @@ import sys
 size, u8s, u16s = ctypes.c_size_t, ctypes.POINTER(ctypes.c_uint8), ctypes.POINTER(ctypes.c_uint16)
 
 VERSION = 1
-FILE, REPORT, SHOW, LINE, BODIES, POINTS, WIRES, LISTINGS = 41048, 1126400, 262144, 65536, 7, 2048, 1024, 512
+FILE, REPORT, SHOW, SAID, LINE, BODIES, POINTS, WIRES, LISTINGS = 41048, 1126400, 262144, 256, 65536, 7, 2048, 1024, 512
 REVERSED = 32768
 HALF = struct.unpack("<Q", struct.pack("<d", 0.5))[0]
 
@@ -39,6 +39,7 @@ def declared(library):
         ("write", Answer, [u8s, size]),
         ("report", size, [u8s]),
         ("show", size, [u8s]),
+        ("draft", Answer, [u8s, u8s]),
         ("shell_condition", Answer, [size]),
         ("extract_boundaries", Answer, [size, u16s, u16s]),
         ("is_connected", Answer, [size]),
@@ -48,6 +49,7 @@ def declared(library):
         ("cut_edge", Answer, [size, size, size, ctypes.c_uint64, u8s, size]),
         ("remove_vertex", Answer, [size, size, u8s, size]),
         ("concat", Answer, [size, size, u8s, size]),
+        ("add_vertex", Answer, [size, u8s, size]),
         ("add_boundary", Answer, [size, u16s, size, *face]),
         ("cut_by_wire", Answer, [size, u16s, size, *face]),
         ("cut_by_edge", Answer, [size, size, *face]),
@@ -90,6 +92,13 @@ def text(name, file, room):
     return bytes(out[: call(name, *lent(file), out)]).decode("ascii")
 
 
+def draft(text):
+    """The file of a text, or the sentence that says what is wrong."""
+    out, said = (ctypes.c_uint8 * FILE)(), (ctypes.c_uint8 * SAID)()
+    a = call("draft", *lent(text), out, said)
+    return bytes(said[: a.third]).decode("ascii") if a.outcome else bytes(out[: a.first])
+
+
 def counts(file):
     out = (ctypes.c_uint16 * BODIES)()
     done("counts", *lent(file), out)
@@ -108,7 +117,7 @@ def singular(file, shell):
 
 
 def edited(name, file, *numbers):
-    """The file after an edit of a shell, and its new edges."""
+    """The file after an edit, and its new edges or its new point."""
     out = (ctypes.c_uint8 * FILE)()
     first, second, length, _ = done(name, *lent(file), *numbers, out, FILE)
     return bytes(out[:length]), first, second
@@ -198,6 +207,13 @@ def edits(file):
     same(done("solid", *lent(back)), (0, 0, 0, 0))
     same(edited("concat", file, 0, 1)[1], 6)
     refused(29, edited, "concat", file, 0, 2)
+    more, first, _ = edited("add_vertex", file, 7)
+    same((first, counts(more)), (5, [6, 6, 12, 4, 4, 1, 4]))
+    refused(3, edited, "add_vertex", file, 1 << 32)
+    # Text and back.
+    same(draft(text("show", more, SHOW).encode()), more)
+    same(draft(b"empty\n"), struct.pack("<14I", *(56, 0) * 7))
+    same(draft(b"point 1 label 0"), "line 1: point 0 is expected\n")
     # Faces 0 and 1 meet along edge 0, and are one without it.
     same(faced("glue", file, 0, 1), [[3, 4 + REVERSED, 1, 2]])
     same(faced("cut_by_edge", file, 0, 0), [[1, 2, 0], [0, REVERSED]])
@@ -244,7 +260,7 @@ def nulls(file):
     refused(17, done, "glue", *lent(file), 0, 1, None, 0, None, 0)
     same(text("report", b"", REPORT), "refused 1 body 0 record 0\n")
     same(text("show", b"", SHOW), "refused 1 body 0 record 0\n")
-    same(edit(b"", b"")[0], "no job: begin with cut, remove, concat, add, cutface or glue\n")
+    same(edit(b"", b"")[0], "no job: begin with cut, remove, concat, point, add, cutface or glue\n")
 
 
 def main():

@@ -25,6 +25,7 @@ const VERSION: usize = 1;
 const FILE: usize = 41_048;
 const REPORT: usize = 1_126_400;
 const SHOW: usize = 262_144;
+const SAID: usize = 256;
 const LINE: usize = 65_536;
 const BODIES: usize = 7;
 const POINTS: usize = 2_048;
@@ -56,6 +57,10 @@ mod c {
         pub fn wuzsanget_concat(
             file: *const u8, n: usize, a: usize, b: usize, out: *mut u8, m: usize,
         ) -> Answer;
+        pub fn wuzsanget_add_vertex(
+            file: *const u8, n: usize, label: usize, out: *mut u8, m: usize,
+        ) -> Answer;
+        pub fn wuzsanget_draft(text: *const u8, n: usize, out: *mut u8, said: *mut u8) -> Answer;
         pub fn wuzsanget_add_boundary(
             file: *const u8, n: usize, face: usize, wire: *const u16, k: usize,
             uses: *mut u16, m: usize, lengths: *mut u16, l: usize,
@@ -112,6 +117,16 @@ fn show(file: &[u8]) -> String {
     let mut text = vec![0; SHOW];
     let n = unsafe { c::wuzsanget_show(file.as_ptr(), file.len(), text.as_mut_ptr()) };
     text_of(text, n)
+}
+
+/// The file of a text, or the sentence that says what is wrong.
+fn draft(text: &[u8]) -> Result<Vec<u8>, String> {
+    let (mut out, mut said) = (vec![0; FILE], vec![0; SAID]);
+    let a = unsafe {
+        c::wuzsanget_draft(text.as_ptr(), text.len(), out.as_mut_ptr(), said.as_mut_ptr())
+    };
+    out.truncate(a.first);
+    if a.outcome == 0 { Ok(out) } else { Err(text_of(said, a.third)) }
 }
 
 /// The answer of a job, and the edited file if there is one.
@@ -186,6 +201,14 @@ fn remove_vertex(file: &[u8], shell: usize, point: usize) -> Result<(Vec<u8>, us
 fn concat(file: &[u8], a: usize, b: usize) -> Result<(Vec<u8>, usize), Answer> {
     let (out, a) = edited(|out, m| unsafe {
         c::wuzsanget_concat(file.as_ptr(), file.len(), a, b, out, m)
+    })?;
+    Ok((out, a.first))
+}
+
+/// The edited file and the new point, or the refusal.
+fn add_vertex(file: &[u8], label: usize) -> Result<(Vec<u8>, usize), Answer> {
+    let (out, a) = edited(|out, m| unsafe {
+        c::wuzsanget_add_vertex(file.as_ptr(), file.len(), label, out, m)
     })?;
     Ok((out, a.first))
 }
@@ -304,6 +327,16 @@ fn main() {
     assert_eq!((removed.len(), new), (cut.len() + 18, 6));
     let (joined, new) = concat(&file, 0, 1).expect("a concat");
     assert_eq!((joined.len(), new), (file.len() + 20, 4));
+
+    let (more, new) = add_vertex(&file, 7005).expect("a fresh point");
+    assert_eq!((counts(&more), new), (Ok([6, 4, 3, 1, 1, 1, 1]), 5));
+    assert_eq!(report(&more), report(&file));
+    assert_eq!(add_vertex(&file, 1 << 32), Err(answer(2, 3, 0, 0, 0)));
+
+    // Text and back.
+    assert_eq!(draft(show(&more).as_bytes()), Ok(more));
+    assert_eq!(draft(b"shell 0 faces 0+"), Err("line 1: refused 3: a number that names nothing\n".into()));
+    assert_eq!(draft(b"point 0"), Err("line 1: word 3 of point NUMBER label LABEL\n".into()));
 
     // The same cut as a job.
     assert_eq!(edit(b"cut 0 0 3 0.5", &file), ("done edges 4 5\n".into(), Some(cut.clone())));

@@ -39,8 +39,10 @@ extern "C" {
 #define WUZSANGET_FILE 41048
 /* The room for a report. */
 #define WUZSANGET_REPORT 1126400
-/* The room for the text of a pattern. */
+/* The room for the text of a pattern; the longest text that a pattern is made of. */
 #define WUZSANGET_SHOW 262144
+/* The room for the sentence that says what is wrong with a text. */
+#define WUZSANGET_SAID 256
 /* The longest line of a job, and the room for its answer. */
 #define WUZSANGET_LINE 65536
 /* The bodies of a file. */
@@ -88,7 +90,7 @@ enum wuzsanget_refusal {
     WUZSANGET_VERTEX_IN_SHELL = 14,     /* the point is in the shell already */
     WUZSANGET_EDGE_NOT_IN_SHELL = 15,   /* the edge is not in the shell */
     WUZSANGET_CURVE_REFUSES = 16,       /* the curve refuses the parameter */
-    WUZSANGET_NO_SPACE = 17,            /* edges or uses pass their limit, or a lent list is too short */
+    WUZSANGET_NO_SPACE = 17,            /* points, edges or uses pass their limit, or a lent list is too short */
     WUZSANGET_NOT_ONE_WIRE = 18,        /* the face has not exactly one outline */
     WUZSANGET_ENDS_NOT_ON_WIRE = 19,    /* the wire's ends are not on the outline */
     WUZSANGET_FACES_DIFFER = 20,        /* the surfaces or the signs of the faces differ */
@@ -103,7 +105,7 @@ enum wuzsanget_refusal {
     WUZSANGET_DISCONNECTED = 29         /* the two uses do not meet */
 };
 
-/* An answer. `number` is the refusal's, 0 if done; what the values mean is said at each function, and a
+/* An answer. `number` is the refusal's (docs/FORMAT.md 6.1), 0 if done; what the values mean is said at each function, and a
  * value of which nothing is said is 0. `fourth` is 0 in every answer today. */
 typedef struct wuzsanget_answer {
     size_t outcome;
@@ -142,14 +144,22 @@ wuzsanget_answer wuzsanget_outline(const uint8_t *file, size_t file_length, size
 wuzsanget_answer wuzsanget_write(const uint8_t *file, size_t file_length,
                                  uint8_t *out, size_t out_length);
 
-/* ---- Text. Both write to `text` and return the number of bytes written; a refused file gives the line
- * of its refusal. */
+/* ---- Text. */
 
-/* What the program `report` prints. `text` has WUZSANGET_REPORT bytes. */
+/* Writes what the program `report` prints, also for a refused file, to `text`, which has WUZSANGET_REPORT
+ * bytes. Returns the number of bytes written. */
 size_t wuzsanget_report(const uint8_t *file, size_t file_length, uint8_t *text);
 
-/* What the program `show` prints: the pattern as lines of text. `text` has WUZSANGET_SHOW bytes. */
+/* Writes what the program `show` prints, the pattern as lines of text or the line of a refusal, to `text`, which
+ * has WUZSANGET_SHOW bytes. Returns the number of bytes written. */
 size_t wuzsanget_show(const uint8_t *file, size_t file_length, uint8_t *text);
+
+/* Makes the pattern file of a text, as the program `draft` does, and writes it to `out`, which has
+ * WUZSANGET_FILE bytes. first: its length. Refused: the number of a refusal of the reading checks, or 0 where the
+ * text is no pattern's; first: the line, from 1, or 0 for the text as a whole; second: the word of the line that
+ * is wrong, or the number that is expected there; third: the bytes of the sentence that says what is wrong,
+ * with its line feed, which is written to `said`, of WUZSANGET_SAID bytes. */
+wuzsanget_answer wuzsanget_draft(const uint8_t *text, size_t text_length, uint8_t *out, uint8_t *said);
 
 /* ---- Reports. 3: no such shell. */
 
@@ -181,8 +191,8 @@ wuzsanget_answer wuzsanget_singular_vertices(const uint8_t *file, size_t file_le
  * refused. */
 wuzsanget_answer wuzsanget_solid(const uint8_t *file, size_t file_length);
 
-/* ---- Edits of a shell. Each writes the edited file to `out`; the file itself stays as it is. third:
- * the number of bytes written. 17: the edge table or the use list would pass its limit, with first 0;
+/* ---- Edits of a pattern. Each writes the edited file to `out`; the file itself stays as it is. third:
+ * the number of bytes written. 17: the points, the edges or the uses would pass their limit, with first 0;
  * or `out` is shorter than the edited file, with first the length that this needs. WUZSANGET_FILE bytes
  * always suffice. */
 
@@ -201,6 +211,10 @@ wuzsanget_answer wuzsanget_remove_vertex(const uint8_t *file, size_t file_length
 /* Joins the uses `a` and `b` to a new edge. first: the new edge. Refused: 3, 29, 25, 26, 17. */
 wuzsanget_answer wuzsanget_concat(const uint8_t *file, size_t file_length, size_t a, size_t b,
                                   uint8_t *out, size_t out_length);
+
+/* Appends a point with this label. first: the new point. Refused: 3 for a label of 4,294,967,296 or more, 17. */
+wuzsanget_answer wuzsanget_add_vertex(const uint8_t *file, size_t file_length, size_t label,
+                                      uint8_t *out, size_t out_length);
 
 /* ---- Edits of a face. Each writes the wires of its result: their uses one after the other to `uses`,
  * and how many each has to `lengths`. first: the uses written. second: the wires. 17: the result is

@@ -1,5 +1,5 @@
 -- Each job is its edit on the file, with its words as numbers of 16 bits.
-use Prim.Native.Nat.{_+_, _-_, _≤_, min, ℕ}
+use Prim.Native.Nat.{_+_, _-_, _≤_, ℕ}
 use mathlib.Core.List.{List, map}
 use mathlib.Core.Path.{_∙_, _≡_, refl}
 use native.Mathlib.Omega.{arith}
@@ -16,6 +16,7 @@ use Rattle.file_face_edits.specs.FileFaceEdits.{fileAdd, fileAddOut, fileCutFac
 use Rattle.lists.proofs.Sets.{take-sets}
 use Rattle.lists.specs.Lists.{flat, pick}
 use Rattle.job_edits.specs.JobEdits.{faceAnswer, faceWires, named, shellAnswer, shellOut, wireNamed}
+use Rattle.words.specs.Words.{short}
 
 -- ---- which of three, and of what
 
@@ -87,11 +88,11 @@ module _ (j : ℕ) (vs s out : List ℕ) where
 
 -- the wire of an edit, from the values that were stored
 pub wire-is : (vs l w : List ℕ) (n : ℕ) → 1 ≤ length vs → length vs ≤ length l → n ≡ length vs - 1
-    → w ≡ sets l 0 (map (λ (u : ℕ). min u 65535) (take (n + 1 - 1) (drop 1 vs))) → take (n - 0) w ≡ wireNamed vs
+    → w ≡ sets l 0 (map short (take (n + 1 - 1) (drop 1 vs))) → take (n - 0) w ≡ wireNamed vs
 wire-is vs l w n h m e is =
     let a : n + 1 - 1 ≡ n = omega arith in
     let b : n - 0 ≡ n = omega arith in
-    let d : length (wireNamed vs) ≡ n = length-map (drop 1 vs) (λ (u : ℕ). min u 65535) ∙ length-drop 1 vs ∙ omega arith in
+    let d : length (wireNamed vs) ≡ n = length-map (drop 1 vs) short ∙ length-drop 1 vs ∙ omega arith in
     rw (b, is, a, take-all n (drop 1 vs) (omega (arith, length-drop 1 vs))) (take-sets l (wireNamed vs) n d (omega arith))
 
 module _ (j : ℕ) (vs s : List ℕ) (f m k : ℕ) (face : f ≡ named vs 0) (uses : m ≡ 4096) (lens : k ≡ 4096) where

@@ -1,5 +1,5 @@
--- What a job of the program `edit` does: the edit that it asks for, on a pattern file.
-use Prim.Native.Nat.{ℕ, min}
+-- What a job of the program `edit` does: the edit that it asks for, on a pattern file (docs/GUIDE.md, Edits; FORMAT 4, 5).
+use Prim.Native.Nat.{ℕ}
 use mathlib.Core.List.{List, map}
 use lib.Dec.{eqb}
 use lib.ListN.{drop, getD}
@@ -10,13 +10,14 @@ use Rattle.file_remove.specs.FileRemove.{fileRemove, fileRemoveBytes}
 use Rattle.file_vertex.specs.FileVertex.{fileVertex, fileVertexBytes}
 use Rattle.file_face_edits.specs.FileFaceEdits.{fileAdd, fileAddOut, fileCutFace, fileCutFaceOut, fileGlue, fileGlueOut}
 use Rattle.lists.specs.Lists.{pick}
+use Rattle.words.specs.Words.{short}
 
 -- a number above 65,535 names nothing, as 65,535 does
 abbrev pub named : List ℕ → ℕ → ℕ
-named vs i = min (getD vs i 0) 65535
+named vs i = short (getD vs i 0)
 
 abbrev pub wireNamed : List ℕ → List ℕ
-wireNamed vs = map (λ (u : ℕ). min u 65535) (drop 1 vs)
+wireNamed vs = map short (drop 1 vs)
 
 -- an edit of a shell, or a point added, with these values on file s: the list `out` takes the edited file
 unfoldable pub shellAnswer : ℕ → List ℕ → List ℕ → List ℕ → Answer

@@ -1,4 +1,4 @@
--- The jobs of the program `edit` as lines: their names, the words that they take, and the lines of their answers.
+-- The jobs of the program `edit` as lines: their names, the words that they take, and the lines of their answers (docs/GUIDE.md, Edits).
 use Prim.Native.Nat.{ℕ}
 use mathlib.Core.Bool.{_||_}
 use mathlib.Core.List.{List, [], _∷_, _++_}

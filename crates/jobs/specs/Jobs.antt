@@ -1,4 +1,4 @@
--- The jobs of the program `edit`: a line of text and a pattern file give an answer, and the file afterwards.
+-- The jobs of the program `edit`: a line of text and a pattern file give an answer, and the file afterwards (docs/GUIDE.md, Edits).
 use Prim.Native.Nat.{ℕ, _+_}
 use mathlib.Core.Bool.{Bool, _&&_}
 use mathlib.Core.List.{List}

@@ -7,12 +7,16 @@ ghost use lib.Seq.{sets};
 ghost use Rattle.lists.specs.Lists.{flat};
 ghost use Rattle.file_concat.specs.FileConcat.{fileConcat, fileConcatBytes};
 ghost use Rattle.file_cut.specs.FileCut.{fileCut, fileCutBytes};
+ghost use Rattle.draft_faults.specs.FaultLines.{madeText};
+ghost use Rattle.draft_text.specs.TextPattern.{made, madeIn, textFile};
 ghost use Rattle.file_remove.specs.FileRemove.{fileRemove, fileRemoveBytes};
+ghost use Rattle.file_vertex.specs.FileVertex.{fileVertex, fileVertexBytes};
 ghost use Rattle.file_face_edits.specs.FileFaceEdits.{fileAdd, fileAddOut, fileCutFace, fileCutFaceOut, fileGlue, fileGlueOut};
 ghost use Rattle.file_reports.specs.FileReports.{fileCheck, fileComponents, fileComponentsOut, fileCondition, fileConnected, fileCountsOut, fileOpenings, fileOpeningsOut, fileOutline, FilePromised, fileSingular, fileSingularOut, fileSolid, fileWritten, fileWrittenBytes};
 ghost use Rattle.jobs.specs.Jobs.{lineLength, lineOut, lineText};
 ghost use Rattle.report_text.specs.Report.{reportOf, ReportPromised};
 ghost use Rattle.show_text.specs.PatternText.{fileText};
+ghost use Rattle.text_calls.specs.TextCalls.{draftAnswer};
 ghost use Rattle.words.specs.Words.{short};
 use answers::Answer;
 use file_concat::file_concat;
@@ -22,6 +26,7 @@ use file_face_edits::file_cut_by_edge;
 use file_face_edits::file_cut_by_wire;
 use file_face_edits::file_glue;
 use file_remove::file_remove;
+use file_vertex::file_add_vertex;
 use file_reports::check_file;
 use file_reports::file_components;
 use file_reports::file_condition;
@@ -38,6 +43,7 @@ use pattern::BODIES;
 use pattern::LONGEST;
 use report_text::report;
 use show_text::show;
+use text_calls::draft;
 use words::saturated;
 
 // A number as a client gives it, as one of 16 bits. Above 65,535 it names nothing, as 65,535 does: no pattern
@@ -100,6 +106,18 @@ pub extern "C" fn wuzsanget_show(file: &[u8], text: &mut [u8; 262144]) -> usize
     ensures { λ r. ⌜ (now (text .exit) ≡ sets (now (text .entry)) 0 (fileText (now (file .entry)))) × (r ≡ length (fileText (now (file .entry)))) ⌝ }
 {
     show(file, text)
+}
+
+#[no_mangle]
+pub extern "C" fn wuzsanget_draft(
+    text: &[u8],
+    out: &mut [u8; LONGEST],
+    said: &mut [u8; 256],
+) -> Answer
+    ensures { λ r. ⌜ r ≡ draftAnswer (made (now (text .entry))) ⌝ }
+    ensures { λ r. ⌜ (now (out .exit) ≡ madeIn (made (now (text .entry))) (textFile (now (text .entry))) (now (out .entry))) × (now (said .exit) ≡ sets (now (said .entry)) 0 (madeText (made (now (text .entry))))) ⌝ }
+{
+    draft(text, out, said)
 }
 
 #[no_mangle]
@@ -198,6 +216,14 @@ pub extern "C" fn wuzsanget_concat(file: &[u8], a: usize, b: usize, out: &mut [u
     ensures { λ _. ⌜ now (out .exit) ≡ fileConcatBytes (now (file .entry)) (short a) (short b) (now (out .entry)) ⌝ }
 {
     file_concat(file, named(a), named(b), out)
+}
+
+#[no_mangle]
+pub extern "C" fn wuzsanget_add_vertex(file: &[u8], label: usize, out: &mut [u8]) -> Answer
+    ensures { λ r. ⌜ r ≡ fileVertex (now (file .entry)) label (now (out .entry)) ⌝ }
+    ensures { λ _. ⌜ now (out .exit) ≡ fileVertexBytes (now (file .entry)) label (now (out .entry)) ⌝ }
+{
+    file_add_vertex(file, label, out)
 }
 
 #[no_mangle]
