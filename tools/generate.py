@@ -837,6 +837,21 @@ EDITS = [
 ]
 
 
+# Points that are added: the Rust's parts have them as they stand, so no oracle is asked, and the
+# answers are by hand.
+POINTS = [
+    ("point", TRIANGLE, [
+        ("point 7", "done point 3\n+ point 3 label 7\n"),
+        ("report", by_hand(shell_text("Oriented", "yes", ["0+ 1+ 2+"], 4, ["0+"]), solid="refused 12 shell 0")),
+        (cut(0, 0, 3, 0.5), "done edges 3 4\n- face 0 surface 1 wire 0+ 1+ 2+\n+ edge 3 from 0 to 3 span 0 0.5\n"
+                            "+ edge 4 from 3 to 1 span 0.5 1\n+ face 0 surface 1 wire 3+ 4+ 1+ 2+\n"),
+        ("point 4294967295", "done point 4\n+ point 4 label 4294967295\n"),
+        (cut(0, 1, 5, 0.5), 3)]),
+    ("point-17-at-2048-points", spare(TRIANGLE, 2044), [
+        ("point 1", "done point 2047\n+ point 2047 label 1\n"), ("point 2", 17)]),
+]
+
+
 def every_edit():
     """All edits of one kind on small patterns."""
     uses = [f"{k}{sign}" for k in range(6) for sign in "+-"]
@@ -958,6 +973,7 @@ def record():
     cases = [(name, p, [line if isinstance(line, tuple) else (line, None) for line in lines])
              for name, p, lines in EDITS + list(every_edit()) + list(random_edit_files(2, 30))]
     record_edits(ROOT / "crates/replay_edits", cases, SHELL_EDITS, {"report", "fresh"})
+    record_points(ROOT / "crates/replay_edits")
     record_edits(ROOT / "crates/replay_face_edits", cases, FACE_EDITS, set())
 
 
@@ -982,6 +998,18 @@ def record_edits(path, cases, kinds, besides):
         texts = [line for line, _ in lines]
         for (line, hand), answer in zip(lines, answers(texts, parts[name])):
             check(name, line, hand, answer)
+
+
+def record_points(path):
+    """The points that are added, after the edits that the oracle was asked."""
+    for name, p, lines in POINTS:
+        (path / "data" / name).write_bytes(bytes_of(p))
+        (path / "data" / f"{name}.edits").write_text("".join(f"{line}\n" for line, _ in lines))
+        with open(path / "args", "a") as args:
+            args.write(f"{name}\n{name}.edits\n")
+        with open(path / "stdout", "a") as stdout:
+            stdout.write(f"file {name}\n" + "".join(
+                f"{line}\n" + (f"refused {hand}\n" if isinstance(hand, int) else hand) for line, hand in lines))
 
 
 def at_random(seed, count, path):

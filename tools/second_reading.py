@@ -88,6 +88,7 @@ class Pattern:
             for record, (offset, count) in zip(RECORDS, table))
 
         self.points, self.edges = len(points), edges
+        self.labels = [label for label, in points]
         for k, (front, back, t0, t1) in enumerate(edges):
             if max(front, back) >= self.points:
                 raise Refused(3, 1, k)
@@ -218,8 +219,9 @@ class Pattern:
                       if len(groups(list(dict.fromkeys(sum(pairs, ()))), pairs)) > 1)
 
     def text(self):
-        """The pattern as text, but for its points, which no edit changes."""
-        return ([f"edge {k} from {front} to {back} span {real_text(t0)} {real_text(t1)}"
+        """The pattern as text."""
+        return ([f"point {k} label {label}" for k, label in enumerate(self.labels)]
+                + [f"edge {k} from {front} to {back} span {real_text(t0)} {real_text(t1)}"
                  for k, (front, back, t0, t1) in enumerate(self.edges)]
                 + [f"face {k} surface {surface}" + wires_text(wires)
                    for k, (surface, wires) in enumerate(zip(self.surfaces, self.faces))]
@@ -314,6 +316,14 @@ class Pattern:
         if self.back(a) != self.front(b):
             raise Refused(29)
         return f"done edge {self.join(a, b)}"
+
+    def point(self, label):
+        """The port's own edit: document 01 has none."""
+        if self.points + 1 > 2048:
+            raise Refused(17)
+        self.labels = self.labels + [int(label)]
+        self.points += 1
+        return f"done point {self.points - 1}"
 
     def face_and_wire(self, face, uses):
         face, wire = signed(face), list(map(signed, uses))

@@ -11,7 +11,7 @@ use lib.ListN.{drop, getD, length, length-append, length-replicate, replicate, t
 use lib.Seq.{take-append-seam}
 use borrow.Author.Tests.{leb-false, lt-leb}
 use Rattle.answers.specs.Read.{whenRead}
-use Rattle.answers.specs.Values.{answer, cutValues, joinValues, refused, unread, withFile}
+use Rattle.answers.specs.Values.{answer, cutValues, joinValues, refused, unread, vertexValues, withFile}
 use Rattle.answers.specs.declared.Answer.{Answer}
 use Rattle.edge.specs.declared.Edge.{Edge}
 use Rattle.edge.specs.declared.EdgeID.{EdgeID}
@@ -19,6 +19,7 @@ use Rattle.edit_answers.specs.Answers.{editNumber, judged}
 use Rattle.edit_answers.specs.declared.CutAnswer.the-variants.{Cut, Not, Refused}
 use Rattle.edit_answers.specs.declared.EditError.{EditError}
 use Rattle.edit_answers.specs.declared.JoinAnswer.the-variants.{Joined, Not as Join·Not, Refused as Join·Refused}
+use Rattle.edit_answers.specs.declared.VertexAnswer.the-variants.{Added, Not as Vertex·Not, Refused as Vertex·Refused}
 use Rattle.errors.proofs.Laws.{none-left, none-right}
 use Rattle.errors.specs.Faults.{first}
 use Rattle.errors.specs.Numbers.{done, number, wireNumber}
@@ -45,6 +46,7 @@ use Rattle.store_read.specs.Loading.{loaded, patternOf}
 use Rattle.store_write.specs.Writing.{writeAnswer, writeBytes, written, writtenBytes, writtenReply}
 use Rattle.store_write.specs.declared.Written.{Written}
 use Rattle.store_write.specs.declared.Written.the-variants.{Length, NoSpace, Refused as Written·Refused}
+use Rattle.vertex.specs.declared.VertexID.{VertexID}
 use Rattle.words.specs.Words.{bytes16, bytes32, bytes64}
 
 -- ---- what is written
@@ -180,7 +182,7 @@ read-content s = content-of-stored (fileContent s)
 pub content-read : (s : List ℕ) → fileFaults s ≡ [] → contentFaults (fileContent s) ≡ []
 content-read s ok = none-right (tableFaults s) (contentFaults (fileContent s)) ok
 
--- ---- what an edit of a file answers: x and y are the new edges, fs the faults of the file, gs those of its pattern, es the edit's refusals, w the answer of writing
+-- ---- what an edit of a file answers: x and y are the new numbers, fs the faults of the file, gs those of its pattern, es the edit's refusals, w the answer of writing
 
 abbrev pub ended : ℕ → ℕ → List Refusal → List Refusal → List EditError → Written → Answer
 ended x y (f ∷ fs) gs es w = unread f
@@ -200,7 +202,13 @@ join-ended [] (g ∷ gs) es a w = refl
 join-ended [] [] (e ∷ es) a w = refl
 join-ended [] [] [] a w = refl
 
--- done: nothing was wrong, the third value is the length of what was written, the others are the new edges
+pub vertex-ended : (fs gs : List Refusal) (es : List EditError) (v : VertexID) (w : Written) → whenRead (first fs) (vertexValues (judged gs es Vertex·Refused Vertex·Not (Added v)) w) ≡ ended (v .0) 0 fs gs es w
+vertex-ended (f ∷ fs) gs es v w = refl
+vertex-ended [] (g ∷ gs) es v w = refl
+vertex-ended [] [] (e ∷ es) v w = refl
+vertex-ended [] [] [] v w = refl
+
+-- done: nothing was wrong, the third value is the length of what was written, the others are the new numbers
 done-ended : (x y : ℕ) (fs gs : List Refusal) (es : List EditError) (w : Written) → ended x y fs gs es w .outcome ≡ 0
     → (fs ≡ []) × (es ≡ []) × (w ≡ Length (ended x y fs gs es w .third)) × (ended x y fs gs es w .first ≡ x) × (ended x y fs gs es w .second ≡ y)
 done-ended x y (f ∷ fs) gs es w h = absurd (omega (arith, h))

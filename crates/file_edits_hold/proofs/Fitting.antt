@@ -27,7 +27,7 @@ use Rattle.pattern.specs.Contents.{Content, countsOf, zeroEdge}
 use Rattle.pattern_file.proofs.Fits.{Fits}
 use Rattle.shell.proofs.Turned.{turned-low}
 use Rattle.shell_edits.proofs.Joining.{all-swapped}
-use Rattle.shell_edits.specs.Edits.{cutWire, cutWires, eachWire, edgeOf, edited, endPlace, endingWires, firstWire, halvesOf, joinedEdge, lastWire, removeWires, swapFound, wiresIn, wiresOf}
+use Rattle.shell_edits.specs.Edits.{cutWire, cutWires, eachWire, edgeOf, edited, endPlace, endingWires, firstWire, halvesOf, joinedEdge, lastWire, removeWires, swapFound, vertexContent, wiresIn, wiresOf}
 use Rattle.shell_edits.specs.NewEdges.{halfEdges}
 use Rattle.wire.specs.Wires.{findFrom}
 use Rattle.wire.specs.declared.Found.{Found}
@@ -74,6 +74,20 @@ module _ (c : Content) (es : List Edge) (uses wires : List ℕ) (fit : Fits c) w
         shells = fit .shells;
         listings = fit .listings;
       }
+
+-- one more point
+pub fits-vertex : (c : Content) (label : ℕ) → Fits c → label < 4294967296 → Fits (vertexContent c label)
+fits-vertex c label fit h =
+    let P : ℕ → Type 0 = λ (x : ℕ). x < 4294967296 in
+    record {
+      points = all-place P 0 (c .points ++ (label ∷ [])) (all-append P (c .points) (label ∷ []) (all-each P 0 (c .points) (fit .points)) (h, tt));
+      edges = fit .edges;
+      uses = fit .uses;
+      wires = fit .wires;
+      faces = fit .faces;
+      shells = fit .shells;
+      listings = fit .listings;
+    }
 
 -- ---- the uses of changed wires
 
