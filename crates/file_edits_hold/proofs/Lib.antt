@@ -4,3 +4,4 @@ pub mod CutTheorem
 pub mod JoinTheorem
 pub mod VertexTheorem
 pub mod ReportTheorem
+pub mod Unnamed
