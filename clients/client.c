@@ -273,6 +273,42 @@ static void jobs(const uint8_t *file, size_t n)
     expect(memcmp(out, edited, n + 42) == 0 && kept(out, sizeof out, n + 42), "its file");
 }
 
+/* ---- the rooms for edits of a face: the largest result fills them, and lists of one entry less are refused.
+ * The face has 1,023 wires, each along an edge of its own and back; the last edge, along and back, is added. */
+
+static void rooms(void)
+{
+    static uint8_t full[WUZSANGET_FILE];
+    static const uint32_t records[7] = {2048, 1024, 2046, 1023, 1, 0, 0};
+    static const uint32_t sizes[7] = {4, 20, 2, 2, 4, 2, 2};
+    static const uint16_t last[2] = {1023, 1023 | WUZSANGET_REVERSED};
+    uint8_t *at = full;
+    uint32_t offset = 56;
+    for (int body = 0; body < 7; body++) {
+        at = put(put(at, offset, 4), records[body], 4);
+        offset += records[body] * sizes[body];
+    }
+    for (int point = 0; point < 2048; point++)
+        at = put(at, 0, 4);
+    for (int edge = 0; edge < 1024; edge++)
+        at = put(put(put(put(at, 2 * edge, 2), 2 * edge + 1, 2), 0, 8), ONE, 8);
+    for (int edge = 0; edge < 1023; edge++)
+        at = put(put(at, edge, 2), edge | WUZSANGET_REVERSED, 2);
+    for (int wire = 0; wire < 1023; wire++)
+        at = put(at, 2, 2);
+    at = put(put(at, 1023, 2), 0, 2);
+    size_t n = (size_t)(at - full);
+    lend();
+    EXPECT(wuzsanget_add_boundary(full, n, 0, last, 2, uses, WUZSANGET_POINTS - 1, lengths, WUZSANGET_WIRES),
+           WUZSANGET_REFUSED, 17, 0, 0, 0);
+    EXPECT(wuzsanget_add_boundary(full, n, 0, last, 2, uses, WUZSANGET_POINTS, lengths, WUZSANGET_WIRES - 1),
+           WUZSANGET_REFUSED, 17, 0, 0, 0);
+    expect(all_kept(), "rooms of one entry less");
+    EXPECT(wuzsanget_add_boundary(full, n, 0, last, 2, uses, WUZSANGET_POINTS, lengths, WUZSANGET_WIRES),
+           WUZSANGET_DONE, 0, 2048, 1024, 0);
+    expect(uses[2046] == last[0] && uses[2047] == last[1] && lengths[1023] == 2, "the last wire");
+}
+
 /* ---- numbers that name nothing: 3, also where the number's lower 16 bits name something */
 
 static void unnamed(const uint8_t *file, size_t n)
@@ -427,6 +463,7 @@ static void *all_else(void *unused)
     expect(wuzsanget_version() == WUZSANGET_VERSION, "the version");
     reports(file, n);
     edits(file, n);
+    rooms();
     unnamed(file, n);
     nulls(file, n);
     strange();

@@ -9,7 +9,7 @@
  *
  * A list that a call writes to may not overlap any other list of that call: `out` may not be `file`, nor
  * share memory with it. Such a list keeps every entry past what is written, and all of them when the call
- * is refused.
+ * is refused; only a `text` is written then too, and says the refusal.
  *
  * Records are numbered from 0. A use is an edge's number, plus 32,768 if reversed. A listing is a face's
  * number, plus 32,768 if reversed; so is every face that is given to a call. A number that names nothing is
@@ -29,13 +29,13 @@ extern "C" {
  * otherwise, and whenever a limit, a number or what an answer means changes. */
 #define WUZSANGET_VERSION 1
 
-/* The stack that suffices for any call, in bytes. Measured, as it is compiled today: wuzsanget_edit takes less
- * than 432 KiB, every other call less than 112 KiB. */
+/* The stack that suffices for any call, in bytes. Measured on the library as it is compiled today:
+ * wuzsanget_edit takes some 410 KiB, no other call more than 104 KiB. */
 #define WUZSANGET_STACK 524288
 
-/* ---- Rooms, in entries */
+/* ---- Rooms, in entries: of bytes for files and texts, else of numbers */
 
-/* The longest pattern file, in bytes: a list of this length has room for every edited file. */
+/* The longest pattern file: a list of this length has room for every edited file. */
 #define WUZSANGET_FILE 41048
 /* The room for a report. */
 #define WUZSANGET_REPORT 1126400
