@@ -1,7 +1,7 @@
 -- A pattern with one more point: what its storage holds, and the answer, case by case.
 use Prim.Native.Nat.{_+_, _<_, _≤_, ℕ}
 use mathlib.Core.List.{List, [], _++_, _∷_}
-use mathlib.Core.Path.{_∙_, _≡_, ap, refl, sym}
+use mathlib.Core.Path.{_∙_, _≡_, ap, sym}
 use native.Mathlib.Omega.{arith}
 use lib.ListN.{getD, length, length-append, set}
 use lib.Seq.{sets}
@@ -16,7 +16,7 @@ use Rattle.errors.specs.declared.Check.the-variants.{Refused as Check·Refused}
 use Rattle.errors.specs.declared.Refusal.{Refusal}
 use Rattle.pattern.proofs.Counts.{edges-counted, faces-counted, listings-counted, points-counted, shells-counted, uses-counted, wires-counted}
 use Rattle.pattern.specs.Checks.{patternFaults}
-use Rattle.pattern.specs.Contents.{Content, Pattern, content, storedIn}
+use Rattle.pattern.specs.Contents.{Pattern, content, storedIn}
 use Rattle.shell_edits.proofs.Storage.{seven-are, sets-after, sets-own}
 use Rattle.shell_edits.proofs.VertexTheorem.{vertex-pattern-accepted}
 use Rattle.shell_edits.specs.Answers.{afterVertex, vertexAnswer}

@@ -1,6 +1,6 @@
 -- One point more, where no use begins or ends: the walk finds what it found, and the point is not singular.
-use Prim.Native.Nat.{_*_, _+_, _<_, suc, zero, ℕ}
-use mathlib.Core.List.{List, [], _++_, _∷_, append-nil, map}
+use Prim.Native.Nat.{_+_, _<_, suc, zero, ℕ}
+use mathlib.Core.List.{List, [], _++_, _∷_, append-nil}
 use mathlib.Core.Option.{Option, none, some}
 use mathlib.Core.Path.{_∙_, _≡_, ap, refl, sym}
 use native.Mathlib.Omega.{arith}
@@ -15,7 +15,7 @@ use Rattle.shell.proofs.Held.{held, held-le, held-long}
 use Rattle.shell.proofs.Pass.{pass-of-kept}
 use Rattle.shell.specs.OnePass.{beginAt, pass}
 use Rattle.shell.specs.Openings.{Found, Kept, Looked, Walk, chain, follow, freeUses, isFree, keep, lookUp, walkOf}
-use Rattle.shell.specs.Singular.{corners, endsAt, endsOf, isSingular, singularOf}
+use Rattle.shell.specs.Singular.{endsAt, isSingular, singularOf}
 
 -- ---- the kept uses, with a place more, where none is kept
 

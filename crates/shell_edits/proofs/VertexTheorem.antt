@@ -1,6 +1,6 @@
 -- What holds of every point that is added: an accepted pattern stays so, and all that is reported of it is what it was.
 use Prim.Native.Nat.{_+_, _<_, _≤_, suc, ℕ}
-use mathlib.Core.Bool.{Bool, _&&_, false, not}
+use mathlib.Core.Bool.{_&&_, not}
 use mathlib.Core.List.{List, [], _++_, _∷_, map}
 use mathlib.Core.Path.{_∙_, _≡_, ap, refl, sym}
 use native.Mathlib.Omega.{arith}
@@ -30,10 +30,9 @@ use Rattle.pattern.specs.Checks.{contentFaults, countFaults, edgeFaults, outlin
 use Rattle.pattern.specs.Contents.{Content, Pattern, content, countsOf, zeroEdge}
 use Rattle.shell.proofs.Connected.{connected-larger, ends-named}
 use Rattle.shell.proofs.Shown.{Uses, wires-used}
-use Rattle.shell.specs.Connected.{connectedOf}
 use Rattle.shell.specs.Openings.{Walk, backIn, frontIn, shellWalk, walkOf}
 use Rattle.shell.specs.ShellKept.{ShellKept}
-use Rattle.shell.specs.Shells.{shellFaces, shellUses, shellWires}
+use Rattle.shell.specs.Shells.{shellUses, shellWires}
 use Rattle.shell.specs.Singular.{singularOf}
 use Rattle.shell_edits.proofs.Further.{singular-further, walk-further}
 use Rattle.shell_edits.proofs.Stored.{after-accepted, first-full, points-few, unless-not-full, vertex-counts}
@@ -142,38 +141,35 @@ added-only [] (e ∷ es) v w h = (refl, cc, cc)
 added-only (f ∷ fs) es v w h = (cc, cc, cc)
 
 module _ (p : Pattern) (full : Full p) (label : ℕ) where
-  abbrev e : Content
-  e = content p
+  abbrev c : Content
+  c = content p
 
-  pub vertex-few : vertexFaults e label ≡ [] → countFaults (countsOf (vertexContent e label)) ≡ []
-  vertex-few h = vertex-counts p full label (omega (arith, more-points, vertex-allowed e label h .room))
-    where
-      more-points : length (e .points ++ (label ∷ [])) ≡ length (e .points) + 1
-      more-points = length-append (e .points) (label ∷ [])
+  pub vertex-few : vertexFaults c label ≡ [] → countFaults (countsOf (vertexContent c label)) ≡ []
+  vertex-few h = vertex-counts p full label (omega (arith, length-append (c .points) (label ∷ []), vertex-allowed c label h .room))
 
   -- an accepted pattern stays so, refused or not
   pub vertex-pattern-accepted : patternFaults p ≡ [] → patternFaults (afterVertex p label) ≡ []
   vertex-pattern-accepted ok =
-      after-accepted p full ok (vertexContent e label) (vertexFaults e label) (λ h. (vertex-few h, vertex-accepted e (pattern-passed p ok .content) label))
+      after-accepted p full ok (vertexContent c label) (vertexFaults c label) (λ h. (vertex-few h, vertex-accepted c (pattern-passed p ok .content) label))
 
   -- 17 is answered exactly if nothing else is wrong and the points are full
   pub vertex-no-space : (vertexAnswer p label ≡ Not NoSpace → PointsFull p label) × (PointsFull p label → vertexAnswer p label ≡ Not NoSpace)
   vertex-no-space = (
     (λ a.
         let right = ltb label 4294967296 in
-        let t = not-only (patternFaults p) (vertexFaults e label) _ a in
-        let s = first-full (unless right Edit·Unnamed) (leb (length (e .points) + 1) 2048) (unless-not-full right Edit·Unnamed refl) (t .1) in
-        let many : length (e .points) ≡ 2048 = omega (arith, leb-false (length (e .points) + 1) 2048 (s .1), points-few p full) in
+        let t = not-only (patternFaults p) (vertexFaults c label) _ a in
+        let s = first-full (unless right Edit·Unnamed) (leb (length (c .points) + 1) 2048) (unless-not-full right Edit·Unnamed refl) (t .1) in
+        let many : length (c .points) ≡ 2048 = omega (arith, leb-false (length (c .points) + 1) 2048 (s .1), points-few p full) in
         (t .0, ltb-true label 4294967296 (unless-passes right Edit·Unnamed (s .0)), many)),
     (λ t.
-        let closed = lt-leb (length (e .points) + 1) 2048 (omega (arith, t .2)) in
+        let closed = lt-leb (length (c .points) + 1) 2048 (omega (arith, t .2)) in
         rw (t .0, lt-ltb label 4294967296 (t .1), closed)),
   )
 
   -- the number given is that of the new point, and the old ones stand as they stood
   pub vertex-number : (v : VertexID) → vertexAnswer p label ≡ Added v → GivenPoint p (afterVertex p label) v label
   vertex-number v h =
-      let t = added-only (patternFaults p) (vertexFaults e label) _ v h in (
+      let t = added-only (patternFaults p) (vertexFaults c label) _ v h in (
         ap (λ (w : VertexID). w .0) (sym (t .2)),
-        rw (t .0, t .1) (ap (λ (d : Content). d .points) (stored-content p full (vertexContent e label) (vertex-few (t .1)))),
+        rw (t .0, t .1) (ap (λ (d : Content). d .points) (stored-content p full (vertexContent c label) (vertex-few (t .1)))),
       )
