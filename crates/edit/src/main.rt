@@ -1,85 +1,231 @@
-// Reads jobs on standard input, one on each line, applies them to the garment in the file that its argument
-// names, and answers each with a line as soon as it is done. The file is read before each job, and replaced
-// whole before the answer.
+// Reads jobs on standard input, one on each line, applies them to the garment in the file that its last
+// argument names, and answers each with a line as soon as it is done. The file is read before each job, and
+// replaced whole before the answer. With --stop nothing is done after the first answer that is not done; with
+// --try the file is read once, and the jobs are done in memory alone.
 ghost use mathlib.Core.Path.{_≡_};
 ghost use Prim.Native.Nat.{_<_, _≤_};
 ghost use lib.ListN.{length};
+use libc::STDERR_FILENO;
 use libc::STDIN_FILENO;
 use libc::STDOUT_FILENO;
-use pattern::LONGEST;
+use queue::Asked;
+use queue::Ending;
+use queue::Stepped;
+use replace::Reading;
 use replace::Replaced;
 
-// Replaces the file by the first n bytes of an edited one, where there are any.
-fn save(path: &[u8], out: &[u8; LONGEST], n: usize) -> Replaced {
-    let whole: &[u8] = out;
-    if n == 0 {
+// What the queue is at: whether it is to stop after an answer that is not done, whether it only tries; with
+// --try the length of the file in memory, and whether it was read; whether it is stopped; whether there is
+// more to do.
+struct Queue {
+    stop: bool,
+    trial: bool,
+    length: usize,
+    known: bool,
+    stopped: bool,
+    open: bool,
+}
+
+// How a line ended, and the lengths of its job's text and of the file in memory.
+struct Worked {
+    ending: Ending,
+    text: usize,
+    file: usize,
+}
+
+// The same of one attempt, and whether the file was changed by others meanwhile.
+struct Tried {
+    work: Worked,
+    changed: bool,
+}
+
+fn not_read() -> Worked {
+    Worked {
+        ending: Ending::Unread,
+        text: 0,
+        file: 0,
+    }
+}
+
+// Replaces the file by what a job left in memory, if that is edited.
+fn save(path: &[u8], file: &[u8; 41049], done: Stepped, read: Reading) -> Replaced {
+    let whole: &[u8] = file;
+    let n = done.file;
+    if !done.edited {
         return Replaced::Done;
     }
     if n > whole.len() {
         return Replaced::Kept;
     }
-    replace::replace(path, &whole[0..n])
+    replace::replace(path, &whole[0..n], read)
 }
 
-// Does the job that a line asks for. Whether an answer was printed.
-fn answer(path: &[u8], line: &[u8]) -> bool {
-    // One byte more than the longest file.
-    let mut file = [0u8; 41049];
-    let got = replace::read_file(path, &mut file);
-    if got < 0 {
-        return io::write_all(STDOUT_FILENO, b"failed: the file cannot be read\n");
-    }
-    let n = io::count(got, &file);
-    let mut out = [0u8; LONGEST];
-    let mut text = [0u8; 65536];
-    let done = jobs::run(line, &file[0..n], &mut out, &mut text);
-    let saved = save(path, &out, done.file);
+fn ending_of(saved: Replaced) -> Ending {
     match saved {
-        Replaced::Done => console::print_answer(STDOUT_FILENO, &text, done.text),
-        Replaced::Kept => {
-            io::write_all(STDOUT_FILENO, b"failed: the file keeps its old bytes\n")
+        Replaced::Done => Ending::Done,
+        Replaced::Kept => Ending::Kept,
+        Replaced::Unsynced => Ending::Unsynced,
+        Replaced::Changed => Ending::Kept,
+    }
+}
+
+fn is_changed(saved: Replaced) -> bool {
+    match saved {
+        Replaced::Changed => true,
+        Replaced::Done => false,
+        Replaced::Kept => false,
+        Replaced::Unsynced => false,
+    }
+}
+
+// Reads the file, does the job of a line, and replaces the file.
+fn attempt(path: &[u8], line: &[u8], file: &mut [u8; 41049], text: &mut [u8; 65536]) -> Tried {
+    let read = replace::read_file(path, file);
+    if !read.read {
+        return Tried {
+            work: not_read(),
+            changed: false,
+        };
+    }
+    let done = queue::step(line, file, read.count, text);
+    let saved = save(path, file, done, read);
+    libc::close(read.fd);
+    Tried {
+        work: Worked {
+            ending: ending_of(saved),
+            text: done.text,
+            file: 0,
+        },
+        changed: is_changed(saved),
+    }
+}
+
+// The same, anew as often as others have changed the file meanwhile, a hundred times at most.
+fn persist(path: &[u8], line: &[u8], file: &mut [u8; 41049], text: &mut [u8; 65536]) -> Worked {
+    let mut turns: u64 = 100;
+    while turns > 0 {
+        turns -= 1;
+        let tried = attempt(path, line, file, text);
+        if !tried.changed {
+            let work = tried.work;
+            return work;
         }
-        Replaced::Unsynced => io::write_all(
-            STDOUT_FILENO,
-            b"failed: the file has its new bytes, but its directory is not synced\n",
-        ),
+    }
+    replace::say(path, b"changed by others a hundred times");
+    Worked {
+        ending: Ending::Kept,
+        text: 0,
+        file: 0,
+    }
+}
+
+// Does the job of a line in memory.
+fn rehearse(line: &[u8], file: &mut [u8; 41049], text: &mut [u8; 65536], q: Queue) -> Worked {
+    if !q.known {
+        return not_read();
+    }
+    let done = queue::step(line, file, q.length, text);
+    Worked {
+        ending: Ending::Done,
+        text: done.text,
+        file: done.file,
+    }
+}
+
+fn work(
+    path: &[u8],
+    line: &[u8],
+    file: &mut [u8; 41049],
+    text: &mut [u8; 65536],
+    q: Queue,
+) -> Worked {
+    if q.stopped {
+        return Worked {
+            ending: Ending::Skipped,
+            text: 0,
+            file: q.length,
+        };
+    }
+    if q.trial {
+        return rehearse(line, file, text, q);
+    }
+    persist(path, line, file, text)
+}
+
+// Does the job that a line asks for, and prints its answer.
+fn answer(path: &[u8], line: &[u8], file: &mut [u8; 41049], q: Queue) -> Queue {
+    let mut text = [0u8; 65536];
+    let done = work(path, line, file, &mut text, q);
+    let ending = done.ending;
+    let mut said = [0u8; 65664];
+    let end = queue::finish(q.stop, ending, &text, done.text, &mut said);
+    let n = end.length;
+    let printed = io::write_all(STDOUT_FILENO, &said[0..n]);
+    if !printed {
+        os::fail(b"edit: standard output");
+    }
+    Queue {
+        stop: q.stop,
+        trial: q.trial,
+        length: done.file,
+        known: q.known,
+        stopped: end.stopped,
+        open: printed,
     }
 }
 
 // What is left of the input: how many bytes at the start of the buffer, whether they belong to a line that
-// was answered already, whether there is more to do.
+// was answered already, and the queue.
 struct Rest {
     held: usize,
     passing: bool,
-    open: bool,
+    queue: Queue,
 }
 
 // Nothing is left, or nobody reads the answers.
-fn closed() -> Rest
+fn closed(q: Queue) -> Rest
     ensures { λ r. ⌜ r .held ≡ 0 ⌝ }
 {
+    let mut end = q;
+    end.open = false;
     Rest {
         held: 0,
         passing: false,
-        open: false,
+        queue: end,
+    }
+}
+
+// Answers a line that is longer than any job, once: what is read next belongs to it.
+fn pass(path: &[u8], line: &[u8], file: &mut [u8; 41049], before: Rest) -> Rest
+    ensures { λ r. ⌜ r .held ≡ 0 ⌝ }
+{
+    let mut q = before.queue;
+    if !before.passing {
+        q = answer(path, line, file, q);
+    }
+    Rest {
+        held: 0,
+        passing: true,
+        queue: q,
     }
 }
 
 // Does the jobs of the lines that end in these bytes.
-fn lines(path: &[u8], bytes: &[u8], passing: bool) -> Rest
+fn lines(path: &[u8], bytes: &[u8], passing: bool, file: &mut [u8; 41049], q: Queue) -> Rest
     ensures { λ r. ⌜ r .held ≤ length (now (bytes .entry)) ⌝ }
 {
     let mut from: usize = 0;
     let mut over = passing;
+    let mut now = q;
     while from < bytes.len() {
         let end = text::line_end(bytes, from);
         if end == bytes.len() {
             break;
         }
         if !over {
-            if !answer(path, &bytes[from..end]) {
-                os::fail(b"edit: standard output");
-                return closed();
+            now = answer(path, &bytes[from..end], file, now);
+            if !now.open {
+                return closed(now);
             }
         }
         over = false;
@@ -88,7 +234,7 @@ fn lines(path: &[u8], bytes: &[u8], passing: bool) -> Rest
     Rest {
         held: bytes.len() - from,
         passing: over,
-        open: true,
+        queue: now,
     }
 }
 
@@ -104,74 +250,120 @@ fn keep(bytes: &mut [u8], m: usize, n: usize)
     }
 }
 
-// Reads once, and does the jobs of the lines that are then whole.
-fn turn(path: &[u8], buffer: &mut [u8], held: usize, passing: bool) -> Rest
-    requires { ⌜ held < length (now buffer) ⌝ }
+// Does the jobs of the lines that are whole in the first n bytes, and moves what is left to the start.
+fn take_in(path: &[u8], buffer: &mut [u8], n: usize, file: &mut [u8; 41049], before: Rest) -> Rest
+    requires { ⌜ (n ≤ length (now buffer)) × (0 < length (now buffer)) ⌝ }
     ensures { λ r. ⌜ r .held < length (now (buffer .exit)) ⌝ }
 {
-    let got = libc::read(STDIN_FILENO, &mut buffer[held..]);
-    if got < 0 {
-        os::fail(b"edit: standard input");
-        return closed();
-    }
-    let more = io::count(got, &buffer[held..]);
-    if more == 0 {
-        // An empty rest at the end is no line.
-        if held > 0 {
-            if !passing {
-                answer(path, &buffer[0..held]);
-            }
-        }
-        return closed();
-    }
-    let n = held + more;
-    let rest = lines(path, &buffer[0..n], passing);
+    let q = before.queue;
+    let rest = lines(path, &buffer[0..n], before.passing, file, q);
     let left = rest.held;
     keep(buffer, n, left);
     if left < buffer.len() {
         return rest;
     }
-    // A line that is longer than any job.
-    if !rest.passing {
-        answer(path, buffer);
+    pass(path, buffer, file, rest)
+}
+
+// Reads once, and does the jobs of the lines that are then whole.
+fn turn(path: &[u8], buffer: &mut [u8], file: &mut [u8; 41049], before: Rest) -> Rest
+    requires { ⌜ before .held < length (now buffer) ⌝ }
+    ensures { λ r. ⌜ r .held < length (now (buffer .exit)) ⌝ }
+{
+    let held = before.held;
+    let q = before.queue;
+    let got = libc::read(STDIN_FILENO, &mut buffer[held..]);
+    if got < 0 {
+        os::fail(b"edit: standard input");
+        return closed(q);
     }
-    Rest {
+    let more = io::count(got, &buffer[held..]);
+    if more == 0 {
+        // An empty rest at the end is no line.
+        if held > 0 {
+            if !before.passing {
+                return closed(answer(path, &buffer[0..held], file, q));
+            }
+        }
+        return closed(q);
+    }
+    take_in(path, buffer, held + more, file, before)
+}
+
+// Does all jobs of standard input.
+fn serve(path: &[u8], stop: bool, trial: bool) {
+    // One byte more than the longest file.
+    let mut file = [0u8; 41049];
+    // The longest line that can be a job, and its line feed.
+    let mut buffer = [0u8; 65537];
+    let mut rest = Rest {
         held: 0,
-        passing: true,
+        passing: false,
+        queue: begin(path, &mut file, stop, trial),
+    };
+    let mut turns: u64 = 18446744073709551615;
+    while turns > 0 {
+        turns -= 1;
+        rest = turn(path, &mut buffer, &mut file, rest);
+        let q = rest.queue;
+        if !q.open {
+            return;
+        }
+    }
+}
+
+// The queue at its start: with --try the file is read.
+fn begin(path: &[u8], file: &mut [u8; 41049], stop: bool, trial: bool) -> Queue {
+    let mut length: usize = 0;
+    let mut known = false;
+    if trial {
+        let read = replace::read_file(path, file);
+        length = read.count;
+        known = read.read;
+        if known {
+            libc::close(read.fd);
+        }
+    }
+    Queue {
+        stop: stop,
+        trial: trial,
+        length: length,
+        known: known,
+        stopped: false,
         open: true,
     }
 }
 
-// Does all jobs of standard input.
-fn serve(path: &[u8]) {
-    // The longest line that can be a job, and its line feed.
-    let mut buffer = [0u8; 65537];
-    let mut held: usize = 0;
-    let mut passing = false;
-    let mut turns: u64 = 18446744073709551615;
-    while turns > 0 {
-        turns -= 1;
-        let rest = turn(path, &mut buffer, held, passing);
-        if !rest.open {
-            return;
-        }
-        held = rest.held;
-        passing = rest.passing;
-    }
+fn say_usage(fd: i32) {
+    io::write_all(
+        fd,
+        b"usage: edit [--stop] [--try] FILE\n--stop  does nothing more after the first answer that is not done\n--try   answers, and leaves the file as it is\n",
+    );
 }
 
 fn main() {
-    if !console::is_used(1, b"usage: edit FILE\n") {
-        return;
-    }
+    let count = os::arg_count();
     let mut name = [0u8; 4096];
-    let n = os::arg(1, &mut name);
-    if os::errno() != 0 {
-        os::fail(b"edit");
-        return;
+    let mut n: usize = 0;
+    let mut asked = Asked::Options(false, false);
+    let mut k: usize = 1;
+    while k < count {
+        n = os::arg(k, &mut name);
+        if os::errno() != 0 {
+            os::fail(b"edit");
+            return;
+        }
+        asked = queue::next(asked, queue::word_of(&name[..n]));
+        k += 1;
     }
-    if !replace::is_regular(&name[..n]) {
-        return;
+    match asked {
+        Asked::File(stop, trial) => {
+            if replace::is_regular(&name[..n]) {
+                serve(&name[..n], stop, trial);
+            }
+        }
+        Asked::Usage => say_usage(STDOUT_FILENO),
+        Asked::Options(_, _) => say_usage(STDERR_FILENO),
+        Asked::Misused => say_usage(STDERR_FILENO),
     }
-    serve(&name[..n]);
 }

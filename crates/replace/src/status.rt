@@ -1,5 +1,7 @@
-// What is known of the file that a path names.
+// What is known of a file, by its path or by an open descriptor.
+ghost use mathlib.Core.Path.{_≡_};
 ghost use Rattle.libc.specs.Io.{Ended};
+ghost use Rattle.replace.specs.Same.{sameFile, sameTime};
 use crate::path::ended;
 use libc::PATH_MAX;
 use libc::S_IFLNK;
@@ -9,15 +11,7 @@ use libc::STDERR_FILENO;
 use libc::types::stat;
 use libc::types::timespec;
 
-// Whether it is a regular file, and then its mode, its owner and its group.
-pub struct File {
-    pub regular: bool,
-    pub mode: u32,
-    pub owner: u32,
-    pub group: u32,
-}
-
-// What libc::lstat answered, and what it filled.
+// What C answered, and what it filled.
 pub struct Answer {
     pub status: i32,
     pub found: stat,
@@ -34,8 +28,17 @@ fn ask(path: &[u8; PATH_MAX], mut found: stat) -> Answer
     }
 }
 
+// Asks C of the file that is open at fd.
+fn ask_fd(fd: i32, mut found: stat) -> Answer {
+    let status = libc::fstat(fd, &mut found);
+    Answer {
+        status: status,
+        found: found,
+    }
+}
+
 // Zeros, for C to fill.
-fn empty() -> stat {
+pub fn empty() -> stat {
     let never = timespec {
         tv_sec: 0,
         tv_nsec: 0,
@@ -59,46 +62,81 @@ fn empty() -> stat {
     }
 }
 
-// What is answered where there is no regular file.
-fn none() -> File {
-    File {
-        regular: false,
-        mode: 0,
-        owner: 0,
-        group: 0,
-    }
+// What the path names, at a link the link. It opens nothing, so it waits for nobody at a named pipe.
+pub fn named(path: &[u8]) -> Answer {
+    let name = ended(path);
+    ask(&name, empty())
+}
+
+// What is open at fd.
+pub fn opened(fd: i32) -> Answer {
+    ask_fd(fd, empty())
 }
 
 // Writes a line to standard error: the path, a colon and what is wrong.
-fn say(path: &[u8], what: &[u8]) {
+pub fn say(path: &[u8], what: &[u8]) {
     io::write_all(STDERR_FILENO, path);
     io::write_all(STDERR_FILENO, b": ");
     io::write_all(STDERR_FILENO, what);
     io::write_all(STDERR_FILENO, b"\n");
 }
 
-// What the path names. Where that is no regular file, says why on standard error. It opens nothing, so it waits for nobody at a named pipe.
-pub fn look(path: &[u8]) -> File {
-    let name = ended(path);
-    let answer = ask(&name, empty());
+// Whether the path names a regular file, and no link. Where it does not, says why on standard error.
+pub fn is_regular(path: &[u8]) -> bool {
+    let answer = named(path);
     if answer.status != 0 {
         os::fail(path);
-        return none();
+        return false;
     }
-    let found = answer.found;
-    let kind = found.st_mode & S_IFMT;
+    let kind = answer.found.st_mode & S_IFMT;
     if kind == S_IFLNK {
         say(path, b"Is a symbolic link");
-        return none();
+        return false;
     }
     if kind != S_IFREG {
         say(path, b"Not a regular file");
-        return none();
+        return false;
     }
-    File {
-        regular: true,
-        mode: found.st_mode,
-        owner: found.st_uid,
-        group: found.st_gid,
+    true
+}
+
+fn same_time(a: timespec, b: timespec) -> bool
+    ensures { λ r. ⌜ r ≡ sameTime a b ⌝ }
+{
+    if a.tv_sec != b.tv_sec {
+        return false;
     }
+    if a.tv_nsec != b.tv_nsec {
+        return false;
+    }
+    true
+}
+
+// Whether the two tell of one file, which was not changed in between.
+fn same_file(a: stat, b: stat) -> bool
+    ensures { λ r. ⌜ r ≡ sameFile a b ⌝ }
+{
+    if a.st_dev != b.st_dev {
+        return false;
+    }
+    if a.st_ino != b.st_ino {
+        return false;
+    }
+    if a.st_size != b.st_size {
+        return false;
+    }
+    if !same_time(a.st_mtim, b.st_mtim) {
+        return false;
+    }
+    same_time(a.st_ctim, b.st_ctim)
+}
+
+// Whether the path still names the file that C told of, unchanged.
+pub fn is_still(path: &[u8], found: stat) -> bool {
+    let answer = named(path);
+    if answer.status != 0 {
+        return false;
+    }
+    let there = answer.found;
+    same_file(there, found)
 }

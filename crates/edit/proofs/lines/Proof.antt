@@ -6,11 +6,11 @@ use Rattle.edit.proofs.lines.Statement.{statement}
 use Rattle.edit.proofs.lines.Tie as tie
 
 abbrev Inv-loop : tie.InvT-loop
-Inv-loop path bytes passing from₀ over₀ t7 from over = from ≤ length bytes
+Inv-loop path bytes passing file₀ from₀ over₀ now₀ file from over now = from ≤ length bytes
 
 abbrev μ-loop : tie.MeasureT-loop
-μ-loop path bytes passing from₀ over₀ t7 from over = length bytes - from
+μ-loop path bytes passing file₀ from₀ over₀ now₀ file from over now = length bytes - from
 
 pub lines-spec : {M : Type 1} → statement M
 lines-spec = tie.close (tie.spec Inv-loop μ-loop (search needs) (search needs) (search needs) (search needs) (search needs) (search needs)
-    (search needs) (search needs) (search needs) (search needs) (search needs) (search needs) (search needs) (search needs) (search needs))
+    (search needs) (search needs) (search needs) (search needs) (search needs) (search needs) (search needs))

@@ -7,11 +7,11 @@ use Rattle.edit.proofs.serve.Statement.{statement}
 use Rattle.edit.proofs.serve.Tie as tie
 
 abbrev Inv-loop : tie.InvT-loop
-Inv-loop path buffer₀ held₀ passing₀ turns₀ buffer held passing turns = (length buffer ≡ 65537) × (held < length buffer)
+Inv-loop path stop trial file₀ buffer₀ rest₀ turns₀ file buffer rest turns = (length buffer ≡ 65537) × (rest .held < length buffer)
 
 abbrev μ-loop : tie.MeasureT-loop
-μ-loop path buffer₀ held₀ passing₀ turns₀ buffer held passing turns = turns
+μ-loop path stop trial file₀ buffer₀ rest₀ turns₀ file buffer rest turns = turns
 
 pub serve-spec : {M : Type 1} → statement M
 serve-spec = tie.close (tie.spec Inv-loop μ-loop (search needs) (search needs) (search needs) (search needs) (search needs) (search needs)
-    (search needs) (search needs))
+    (search needs) (search needs) (search needs))

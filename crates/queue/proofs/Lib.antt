@@ -1,0 +1,4 @@
+pub mod Words
+pub mod Texts
+mod Examples
+mod Theorem
