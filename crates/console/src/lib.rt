@@ -12,19 +12,6 @@ use libc::STDIN_FILENO;
 use libc::STDOUT_FILENO;
 use text::name_of;
 
-// Whether the program was started with so many words after its name. Where it was not, its usage goes to
-// standard error.
-pub fn is_used(words: usize, usage: &[u8]) -> bool {
-    let given = os::arg_count();
-    if given > 0 {
-        if given - 1 == words {
-            return true;
-        }
-    }
-    io::write_all(STDERR_FILENO, usage);
-    false
-}
-
 // Whether a word asks for help.
 fn is_help(word: &[u8]) -> bool
     ensures { λ r. ⌜ r ≡ isHelp (now (word .entry)) ⌝ }
@@ -39,7 +26,11 @@ fn is_help(word: &[u8]) -> bool
 // Whether a program that takes no words was started with none. Where its only word asks for help, its usage
 // goes to standard output, which `output` names; where it was started with others, to standard error.
 pub fn is_alone(output: &[u8], usage: &[u8]) -> bool {
-    if os::arg_count() == 2 {
+    let given = os::arg_count();
+    if given == 1 {
+        return true;
+    }
+    if given == 2 {
         let mut word = [0u8; 8];
         let n = os::arg(1, &mut word);
         if is_help(&word[..n]) {
@@ -49,11 +40,12 @@ pub fn is_alone(output: &[u8], usage: &[u8]) -> bool {
             return false;
         }
     }
-    is_used(0, usage)
+    io::write_all(STDERR_FILENO, usage);
+    false
 }
 
 // Reads until the list is full or the input ends, and answers how many bytes, or -1 at a read that fails.
-fn read_all(fd: i32, bytes: &mut [u8]) -> isize
+pub fn read_all(fd: i32, bytes: &mut [u8]) -> isize
     ensures { λ r. ⌜ Moved (length (now (bytes .entry))) r ⌝ }
 {
     let mut done: usize = 0;

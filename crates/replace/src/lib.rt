@@ -2,11 +2,11 @@
 ghost use Prim.Native.Nat.{_≤_};
 ghost use mathlib.Core.Path.{_≡_};
 ghost use lib.ListN.{length};
-ghost use Rattle.libc.specs.Io.{Moved};
 
 mod path;
 mod status;
 
+use console::read_all;
 use libc::types::stat;
 
 // The owner that leaves the owner as it is.
@@ -91,25 +91,6 @@ fn unread() -> Reading
         fd: -1,
         found: found,
     }
-}
-
-// Reads until buf is full or the input ends, and answers how many bytes, or -1 at a read that fails.
-fn read_all(fd: i32, buf: &mut [u8]) -> isize
-    ensures { λ r. ⌜ Moved (length (now (buf .entry))) r ⌝ }
-{
-    let mut done: usize = 0;
-    while done < buf.len() {
-        let got = libc::read(fd, &mut buf[done..]);
-        if got < 0 {
-            return -1;
-        }
-        let more = io::count(got, &buf[done..]);
-        if more == 0 {
-            return done as isize;
-        }
-        done += more;
-    }
-    done as isize
 }
 
 // Replaces the file at path, which was read, by bytes. What fails is said on standard error. Another name of the same file, a hard link, keeps the old bytes.
