@@ -30,8 +30,8 @@ extern "C" {
 #define WUZSANGET_VERSION 1
 
 /* The stack that suffices for any call, in bytes. Measured on the library as it is compiled today:
- * wuzsanget_edit takes some 410 KiB, no other call more than 104 KiB. */
-#define WUZSANGET_STACK 524288
+ * wuzsanget_draft takes some 1,075 KiB, wuzsanget_edit some 415 KiB, no other call more than 110 KiB. */
+#define WUZSANGET_STACK 1310720
 
 /* ---- Rooms, in entries: of bytes for files and texts, else of numbers */
 
