@@ -208,7 +208,7 @@ VECTORS = [
 def patterns():
     """Pattern files that go to text and back."""
     for name in ("triangle", "tetrahedron", "coat"):
-        yield f"{name}.pattern", (ROOT / "samples" / f"{name}.pattern").read_bytes()
+        yield f"sample-{name}.pattern", (ROOT / "samples" / f"{name}.pattern").read_bytes()
     # Those with a recorded report, which the Rust accepts.
     reports = (ROOT / "crates/replay_reports/stdout").read_text()
     for path in sorted((ROOT / "crates/replay_reports/data").iterdir()):
