@@ -1,4 +1,4 @@
-/* A client in C, and the test of the library from C: each call on document 01's triangle, with numbers that
+/* A client in C, and the test of the library from C: each call on the triangle of docs/FORMAT.md, with numbers that
  * no pattern has, with null for lists of no entries, then on inputs that no file has. The calls run in
  * threads with small stacks. Prints nothing but what fails; exit status 0 if nothing does. Compiled with
  * another number for LOOKUPS it must fail; tests/run sees to that. */

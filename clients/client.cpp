@@ -1,5 +1,5 @@
 // A client in C++, and the test of the library from C++: a pattern as a value that owns its file, edits that
-// give a new one, refusals as exceptions. It asks about document 01's two triangles that share a point alone.
+// give a new one, refusals as exceptions. It asks about docs/FORMAT.md's two triangles that share a point alone.
 // Prints nothing but what fails; exit status 0 if nothing does.
 #include "wuzsanget.h"
 

@@ -1,6 +1,6 @@
 #!/usr/bin/env python3
 """A client in Python, and the test of the library from Python: the functions of include/wuzsanget.h by ctypes, on
-document 01's tetrahedron. Prints nothing; exit status 0 if nothing fails.
+the tetrahedron of docs/FORMAT.md. Prints nothing; exit status 0 if nothing fails.
 
     clients/client.py LIBRARY      the library as a shared object, which clients/run makes
 """
@@ -143,7 +143,7 @@ OUTLINES = ((0, 1, 2), (REVERSED, 3, 4 + REVERSED), (1 + REVERSED, 4, 5 + REVERS
 
 
 def tetrahedron():
-    """Document 01's tetrahedron, and a fifth point that is free."""
+    """The tetrahedron of docs/FORMAT.md, and a fifth point that is free."""
     bodies = (
         [struct.pack("<I", label) for label in range(5)],
         [struct.pack("<HHdd", *ends, 0, 1) for ends in EDGES],

@@ -1,5 +1,5 @@
 //! A client in Rust, and the test of the library from Rust: the functions of include/wuzsanget.h with
-//! slices, called on document 01's triangle. Prints nothing; exit status 0 if nothing fails.
+//! slices, called on the triangle of docs/FORMAT.md. Prints nothing; exit status 0 if nothing fails.
 
 /// An answer, as in include/wuzsanget.h.
 #[repr(C)]
