@@ -1,0 +1,4 @@
+pub mod Words
+pub mod Phases
+pub mod Bytes
+pub mod Theorem
