@@ -1,11 +1,11 @@
 -- The reading checks of an imported mesh: after the limits it can only be refused with 5, an edge with the same point at both ends, and of the face rule with 8, a wire that meets a point twice.
-use Prim.Native.Nat.{_%_, _+_, _<_, _≤_, suc, ℕ}
+use Prim.Native.Nat.{_%_, _+_, _<_, suc, ℕ}
 use mathlib.Core.Bool.{Bool, false, true}
 use mathlib.Core.List.{List, [], _++_, _∷_, append-nil, map}
 use mathlib.Core.Path.{_∙_, _≡_, refl, sym}
 use native.Mathlib.Numerals.{add-one}
 use native.Mathlib.Omega.{arith}
-use lib.Dec.{eqb, ltb}
+use lib.Dec.{ltb}
 use lib.Ieee.{le, neg, ofBits}
 use lib.ListN.{getD, length, length-append, length-map}
 use borrow.Author.Tests.{eq-eqb, lt-ltb}
@@ -15,7 +15,6 @@ use Rattle.errors.proofs.Laws.{each-none, unless-none}
 use Rattle.errors.specs.Faults.{each}
 use Rattle.errors.specs.declared.Refusal.{Refusal}
 use Rattle.errors.specs.declared.Refusal.the-variants.{Unnamed, Wire}
-use Rattle.errors.specs.declared.WireError.{WireError}
 use Rattle.errors.specs.declared.WireError.the-variants.{NotSimpleWire}
 use Rattle.face.proofs.Laws.{one-alone}
 use Rattle.face.specs.Faces.{faceRule, outlineFaults, wireCount}
@@ -24,13 +23,13 @@ use Rattle.lists.proofs.Count.{All, all-weaker}
 use Rattle.lists.proofs.Flat.{getD-tabulate}
 use Rattle.lists.proofs.Laws.{length-tabulate}
 use Rattle.lists.proofs.Parts.{all-flat, all-place, split-flat}
-use Rattle.lists.specs.Lists.{flat, noDup, numbers, split, sum, unless}
+use Rattle.lists.specs.Lists.{flat, noDup, split, sum, unless}
 use Rattle.mesh.specs.Mesh.{Mesh, between, importContent, linesFaults, linesMesh, meshContent, noMesh}
 use Rattle.mesh_hold.proofs.Kept.{Fine, mesh-fine}
 use Rattle.mesh_hold.proofs.Sides.{Closed, Sided, backs, fronts}
 use Rattle.mesh_hold.specs.MeshTheorems.{importWires, notSimple, sameEnds}
 use Rattle.pattern.proofs.Counts.{limited}
-use Rattle.pattern.specs.Checks.{contentFaults, countFaults, edgeFaults, nameFaults, outlines, recordFaults, sumFaults}
+use Rattle.pattern.specs.Checks.{contentFaults, countFaults, edgeFaults, nameFaults, sumFaults}
 use Rattle.pattern.specs.Contents.{Content, countsOf}
 use Rattle.shell.proofs.Level.{IsUse}
 use Rattle.text.specs.Text.{lines}
@@ -128,10 +127,10 @@ module _ (m : Mesh) (h : Fine m m) where
   mesh-checks =
       rw (edges-checked, uses-checked, wires-checked, faces-checked, shells-checked, listings-checked, split-flat (m .wires), rule-checks (m .edges) 0 (m .wires) (h .wires))
       (simp append-nil)
-  
-module _ (s : List ℕ) (ok : linesFaults 1 noMesh (lines s) ≡ []) (few : countFaults (countsOf (importContent s)) ≡ []) where
-  pub import-fine : Fine (linesMesh 1 noMesh (lines s)) (linesMesh 1 noMesh (lines s))
-  import-fine = mesh-fine (lines s) ok (omega (arith, limited (countsOf (importContent s)) refl few .edges))
+
+pub import-fine : (s : List ℕ) → linesFaults 1 noMesh (lines s) ≡ [] → countFaults (countsOf (importContent s)) ≡ []
+    → Fine (linesMesh 1 noMesh (lines s)) (linesMesh 1 noMesh (lines s))
+import-fine s ok few = mesh-fine (lines s) ok (omega (arith, limited (countsOf (importContent s)) refl few .edges))
 
 -- after the limits, in sequence: edges with the same point at both ends (5), then wires that meet a point twice (8)
 pub import-checks : (s : List ℕ) → linesFaults 1 noMesh (lines s) ≡ [] → countFaults (countsOf (importContent s)) ≡ []

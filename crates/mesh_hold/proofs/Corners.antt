@@ -1,7 +1,7 @@
 -- The points of a face line without fault are given.
 use Prim.Native.Nat.{_-_, _<_, _≤_, ℕ}
 use mathlib.Core.Bool.{Bool, _&&_, false, true}
-use mathlib.Core.List.{List, [], _++_, _∷_, map}
+use mathlib.Core.List.{List, [], _∷_, map}
 use mathlib.Core.Path.{_≡_, refl}
 use native.Mathlib.Omega.{arith}
 use lib.Dec.{eqb, leb}
@@ -14,7 +14,6 @@ use Rattle.lists.specs.Lists.{flat, pick, unless}
 use Rattle.mesh.specs.Mesh.{backward, corner, cornerFaults, cornersFaults, forward, isSlash, numbered, pointOf}
 use Rattle.mesh.specs.declared.Corner.{Corner}
 use Rattle.mesh.specs.declared.Corner.the-variants.{At, Not}
-use Rattle.mesh.specs.declared.LineFault.{LineFault}
 use Rattle.mesh.specs.declared.LineFault.the-variants.{NotGiven, TooFew}
 use Rattle.text.specs.Text.{before}
 use Rattle.text.specs.Tokens.{number}

@@ -1,15 +1,12 @@
 -- What holds of a mesh after each of its lines, where none has a fault: its labels, its edges, its wires.
 use Prim.Native.Nat.{_%_, _<_, _≤_, suc, ℕ}
 use mathlib.Core.Bool.{Bool, false, true}
-use mathlib.Core.List.{List, [], _++_, _∷_, map}
-use mathlib.Core.Logic.{⊎-elim}
+use mathlib.Core.List.{List, [], _∷_, map}
 use mathlib.Core.Path.{_≡_, refl}
 use native.Mathlib.Omega.{arith}
 use lib.ListN.{length, length-append, length-map}
-use Rattle.edge.specs.declared.Edge.{Edge}
 use Rattle.errors.proofs.Laws.{none-left, none-right}
 use Rattle.lists.proofs.Count.{All, all-append, all-weaker}
-use Rattle.lists.proofs.Laws.{cases}
 use Rattle.lists.specs.Lists.{pick}
 use Rattle.mesh.specs.Mesh.{Mesh, corner, cornersFaults, letter, lineFaults, lineMesh, linesFaults, linesMesh, noMesh, outline, pointOf, withFace, withPoint}
 use Rattle.mesh.specs.declared.Imported.{Imported}
@@ -62,14 +59,14 @@ module _ (whole : Mesh) where
     pub edges : All (Sided (length (whole .points))) (m .edges)
     pub wires : All (Closed (whole .edges)) (m .wires)
 
-  module _ (few : length (whole .edges) ≤ 32768) where
-    point-fine : (n : ℕ) (m : Mesh) → Fine m → Fine (withPoint m n)
-    point-fine n m h = record {
-      labels = all-append (λ (x : ℕ). x < 4294967296) (m .points) (n % 4294967296 ∷ []) (h .labels) (omega arith, tt);
-      edges = h .edges;
-      wires = h .wires;
-    }
+  point-fine : (n : ℕ) (m : Mesh) → Fine m → Fine (withPoint m n)
+  point-fine n m h = record {
+    labels = all-append (λ (x : ℕ). x < 4294967296) (m .points) (n % 4294967296 ∷ []) (h .labels) (omega arith, tt);
+    edges = h .edges;
+    wires = h .wires;
+  }
 
+  module _ (few : length (whole .edges) ≤ 32768) where
     face-fine : (m : Mesh) (ps : List ℕ) → Within (withFace m ps) whole → All (λ (p : ℕ). p < length (m .points)) ps → 0 < length ps → Fine m → Fine (withFace m ps)
     face-fine m ps part low some h = record {
       labels = h .labels;
@@ -98,9 +95,10 @@ module _ (whole : Mesh) where
         let next = lineMesh n m (words l) in
         let here = lineFaults (length (m .points)) (words l) in
         let later = linesFaults (suc n) next ls in
-        let mine = map (λ (f : LineFault). Line f (n % 18446744073709551616)) here in
-        lines-fine (suc n) next ls (none-right mine later ok) part
-        (line-fine n m (words l) (map-none (λ (f : LineFault). Line f (n % 18446744073709551616)) here (none-left mine later ok)) (within-on next (linesMesh (suc n) next ls) whole (lines-within (suc n) next ls) part) h)
+        let name : LineFault → Imported = λ (f : LineFault). Line f (n % 18446744073709551616) in
+        let part-next = within-on next (linesMesh (suc n) next ls) whole (lines-within (suc n) next ls) part in
+        lines-fine (suc n) next ls (none-right (map name here) later ok) part
+        (line-fine n m (words l) (map-none name here (none-left (map name here) later ok)) part-next h)
 
 -- of all lines
 pub mesh-fine : (ls : List (List ℕ)) → linesFaults 1 noMesh ls ≡ [] → length (linesMesh 1 noMesh ls .edges) ≤ 32768 → Fine (linesMesh 1 noMesh ls) (linesMesh 1 noMesh ls)

@@ -5,14 +5,13 @@ use mathlib.Core.List.{List, [], _++_, _∷_, append-assoc, append-nil, map}
 use mathlib.Core.Logic.{_⊎_, inl, inr, ⊎-elim}
 use mathlib.Core.Path.{_∙_, _≡_, ap, refl, sym}
 use native.Mathlib.Omega.{arith}
-use lib.Dec.{eqb, leb, ltb}
+use lib.Dec.{eqb, ltb}
 use lib.ListN.{List·getD-append, List·getD-eq-default, List·getD-map, getD, length, length-append}
 use lib.Seq.{getD-append-seam}
 use borrow.Author.Tests.{eq-eqb, eqb-false, eqb-true, le-leb, lt-leb, ltb-false, ltb-true}
 use Rattle.edge.proofs.Laws.{noEdge}
-use Rattle.edge.specs.Edges.{backNumber, frontNumber, isSpan}
+use Rattle.edge.specs.Edges.{backNumber, frontNumber}
 use Rattle.edge.specs.Uses.{backOf, frontOf}
-use Rattle.edge.specs.declared.Curve.{Curve}
 use Rattle.edge.specs.declared.Edge.{Edge}
 use Rattle.lists.proofs.Count.{All, all-append}
 use Rattle.lists.proofs.Flat.{getD-any}

@@ -1,5 +1,5 @@
 -- An accepted mesh: its file is read back as it is, its openings hold, its one shell shows each face once.
-use Prim.Native.Nat.{_%_, _+_, _<_, _≤_, suc, zero, ℕ}
+use Prim.Native.Nat.{_%_, _<_, _≤_, suc, zero, ℕ}
 use mathlib.Core.List.{List, [], _++_, _∷_, map}
 use mathlib.Core.Path.{_∙_, _≡_, ap, refl, sym}
 use native.Mathlib.Omega.{arith}
@@ -10,8 +10,8 @@ use lib.Seq.{take-all}
 use borrow.Author.Tests.{lt-leb}
 use Rattle.edge.specs.declared.Edge.{Edge}
 use Rattle.errors.proofs.Laws.{none-left, none-right}
-use Rattle.errors.specs.declared.Refusal.{Refusal}
-use Rattle.lists.proofs.Count.{All, all-map}
+use Rattle.face.specs.Faces.{wireCount}
+use Rattle.lists.proofs.Count.{all-map}
 use Rattle.lists.proofs.Flat.{getD-tabulate, tabulate-of}
 use Rattle.lists.proofs.Laws.{length-tabulate, map-tabulate}
 use Rattle.lists.proofs.Marks.{AllBelow}
@@ -24,14 +24,15 @@ use Rattle.mesh_hold.proofs.Kept.{Fine, map-none}
 use Rattle.mesh_hold.proofs.Sides.{Closed, Sided}
 use Rattle.mesh_hold.specs.MeshTheorems.{importWires}
 use Rattle.pattern.proofs.Counts.{Limited, limited}
-use Rattle.pattern.specs.Checks.{contentFaults, countFaults, outlines}
-use Rattle.pattern.specs.Contents.{Content, countsOf, zeroEdge, zeroFace}
+use Rattle.pattern.specs.Checks.{contentFaults, countFaults}
+use Rattle.pattern.specs.Contents.{countsOf, zeroEdge, zeroFace}
 use Rattle.pattern_file.proofs.Fits.{EdgeFits, FaceFits, Fits}
 use Rattle.pattern_file.proofs.RoundTrip.{read-of-written}
 use Rattle.pattern_file.specs.File.{fileBytes, fileContent, fileFaults}
 use Rattle.shell.proofs.Level.{IsUse}
 use Rattle.shell.proofs.Theorem.{promised}
 use Rattle.shell.specs.OpeningsHold.{OpeningsPromised}
+use Rattle.shell.specs.Shells.{shellWires, shownWire, shownWires}
 use Rattle.text.specs.Text.{lines}
 
 -- ---- every number of an accepted mesh is one of its record's width
@@ -42,6 +43,9 @@ at-most-sum [] k = omega arith
 at-most-sum (n ∷ ns) zero = omega arith
 at-most-sum (n ∷ ns) (suc k) = omega (arith, at-most-sum ns k)
 
+uses-low : (m : Mesh) → Fine m m → AllBelow 65536 (meshContent m .uses)
+uses-low m h k l = all-place (IsUse (length (m .edges))) 0 (meshContent m .uses) (uses-named m h) k l .0
+
 module _ (m : Mesh) (h : Fine m m) (few : Limited (countsOf (meshContent m))) where
   edge-fits : (e : Edge) → Sided (length (m .points)) e → EdgeFits e
   edge-fits e t = record {
@@ -51,9 +55,6 @@ module _ (m : Mesh) (h : Fine m m) (few : Limited (countsOf (meshContent m))) wh
     t1 = rw (t .curve) (ofBits-fits binary64 0x3ff0_0000_0000_0000);
   }
 
-  uses-low : AllBelow 65536 (meshContent m .uses)
-  uses-low k l = all-place (IsUse (length (m .edges))) 0 (meshContent m .uses) (uses-named m h) k l .0
-
   mesh-fits : Fits (meshContent m)
   mesh-fits =
       let n = length (m .wires) in
@@ -61,7 +62,7 @@ module _ (m : Mesh) (h : Fine m m) (few : Limited (countsOf (meshContent m))) wh
       record {
         points = all-place (λ (x : ℕ). x < 4294967296) 0 (m .points) (h .labels);
         edges = λ k l. edge-fits (getD (m .edges) k zeroEdge) (all-place (Sided (length (m .points))) zeroEdge (m .edges) (h .edges) k l);
-        uses = uses-low;
+        uses = uses-low m h;
         wires = λ k l. omega (arith, at-most-sum (map length (m .wires)) k, sum-lengths (m .wires), few .uses);
         faces = all-place FaceFits zeroFace (map faceOf (m .wires))
             (all-map (Closed (m .edges)) FaceFits faceOf (λ us t. record { wires = omega arith; surface = omega arith }) (m .wires) (h .wires));
@@ -70,6 +71,36 @@ module _ (m : Mesh) (h : Fine m m) (few : Limited (countsOf (meshContent m))) wh
             let small : k < n = omega (arith, length-tabulate n (λ (j : ℕ). j)) in
             omega (arith, getD-tabulate n (λ (j : ℕ). j) k 0 small);
       }
+
+-- ---- its shell
+
+one-wire : (wires : List (List ℕ)) → split (map wireCount (map faceOf wires)) wires ≡ map (λ (us : List ℕ). us ∷ []) wires
+unfolding split
+one-wire [] = refl
+one-wire (us ∷ wires) = rw (one-wire wires)
+
+flat-ones : (wires : List (List ℕ)) → flat (map (λ (us : List ℕ). us ∷ []) wires) ≡ wires
+unfolding flat
+flat-ones [] = refl
+flat-ones (us ∷ wires) = rw (flat-ones wires)
+
+shown-plain : (l : ℕ) → l < 32768 → (wires : List (List ℕ)) → map (shownWire l) wires ≡ wires
+shown-plain l h [] = refl
+shown-plain l h (us ∷ wires) = rw (lt-leb 32768 l h, shown-plain l h wires)
+
+-- faces listed one after the other, with +
+listed-all : (faces : List (List (List ℕ))) → length faces ≤ 32768 → map (shownWires faces) (numbers (length faces)) ≡ faces
+listed-all faces few =
+    map-tabulate (shownWires faces) (length faces) (λ (k : ℕ). k)
+    ∙ tabulate-of faces [] (shownWires faces) (λ k h. let e : k % 32768 ≡ k = omega arith in rw e (shown-plain k (omega arith) (getD faces k [])))
+
+mesh-shown : (m : Mesh) → length (m .wires) ≤ 32768 → shellWires (meshContent m) 0 ≡ m .wires
+unfolding shellWires split
+mesh-shown m few =
+    let n = length (m .wires) in
+    let faces = map (λ (us : List ℕ). us ∷ []) (m .wires) in
+    let e : length faces ≡ n = length-map (m .wires) (λ (us : List ℕ). us ∷ []) in
+    rw (take-all n (numbers n) (omega (arith, length-tabulate n (λ (k : ℕ). k))), split-flat (m .wires), one-wire (m .wires), ← e, listed-all faces (omega arith)) (flat-ones (m .wires))
 
 -- ---- an accepted mesh
 
@@ -101,10 +132,14 @@ module _ (s : List ℕ) (ok : importFaults s ≡ []) where
   import-file = read-of-written (importContent s) (accepted s ok .counts) (accepted s ok .content) (mesh-fits mesh fine few)
 
   pub import-openings : (n : ℕ) → OpeningsPromised (importContent s) n
-  import-openings n = promised (importContent s) (accepted s ok .content) (uses-low mesh fine few) n
+  import-openings n = promised (importContent s) (accepted s ok .content) (uses-low mesh fine) n
 
   pub file-openings : (n : ℕ) → OpeningsPromised (fileContent (fileBytes (importContent s))) n
   file-openings n = rw (import-file .1) (import-openings n)
+
+  -- shell 0 shows the wire of each face once, as it was drawn
+  pub import-shown : shellWires (importContent s) 0 ≡ importWires s
+  import-shown = mesh-shown mesh (omega (arith, few .wires, length-map (importWires s) length))
 
 -- one shell, that lists each face once
 pub import-shell : (s : List ℕ) → (importContent s .shells ≡ length (importContent s .faces) ∷ []) × (importContent s .listings ≡ numbers (length (importContent s .faces)))
