@@ -1,0 +1,1 @@
+// What holds of an imported mesh: theorems, no code.
