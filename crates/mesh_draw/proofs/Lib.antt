@@ -1,0 +1,5 @@
+pub mod Tables
+pub mod Points
+pub mod Uses
+pub mod Sides
+pub mod Faces
