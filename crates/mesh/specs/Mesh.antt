@@ -1,4 +1,4 @@
--- A Wavefront OBJ mesh as a pattern: its lines in turn, and then the reading checks (FORMAT 7).
+-- A Wavefront OBJ mesh as a pattern: its lines in turn, and then the reading checks (FORMAT 8).
 use Prim.Native.Nat.{_%_, _+_, _-_, suc, ℕ}
 use mathlib.Core.Bool.{Bool, _&&_, _||_}
 use mathlib.Core.List.{List, [], _++_, _∷_, map}

@@ -1,10 +1,21 @@
-// The points that the words of an `f` name.
+// The points that the words of an `f` name, and the numbers of what is wrong with a line.
 ghost use mathlib.Core.Path.{_≡_};
-ghost use Rattle.mesh.specs.Mesh.{backward, forward, numbered};
+ghost use Rattle.mesh.specs.Mesh.{backward, faultNumber, forward, numbered};
 use mesh::Corner;
 use mesh::LineFault;
 use text::Token;
 use text::number_of;
+
+// The number of a line's fault.
+pub fn fault_number(f: LineFault) -> usize
+    ensures { λ r. ⌜ r ≡ faultNumber f ⌝ }
+{
+    match f {
+        LineFault::NotNumber => 30,
+        LineFault::NotGiven => 31,
+        LineFault::TooFew => 32,
+    }
+}
 
 // Where so many points are given: counted from 1.
 fn forward_of(number: Token, given: usize) -> Corner

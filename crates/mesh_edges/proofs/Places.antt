@@ -1,6 +1,6 @@
 -- The last number, and the first element, that passes a test.
 use Prim.Native.Nat.{_<_, _≤_, suc, zero, ℕ}
-use mathlib.Core.Bool.{Bool, false, true, true≢false}
+use mathlib.Core.Bool.{Bool, false, true}
 use mathlib.Core.List.{List, [], _∷_}
 use mathlib.Core.Logic.{⊎-elim}
 use mathlib.Core.Path.{_∙_, _≡_, ap, refl, sym}
@@ -9,7 +9,6 @@ use lib.Dec.{eqb}
 use lib.ListN.{getD, length}
 use borrow.Author.Tests.{eqb-false, eqb-true}
 use Rattle.lists.proofs.Laws.{cases}
-use Rattle.lists.specs.Lists.{pick}
 use Rattle.mesh.specs.Mesh.{place}
 use Rattle.mesh_edges.specs.Index.{latest}
 

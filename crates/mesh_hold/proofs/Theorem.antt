@@ -22,7 +22,7 @@ use Rattle.mesh.specs.declared.Imported.the-variants.{Refused}
 use Rattle.mesh_hold.proofs.Checks.{faceOf, import-fine, sum-lengths, uses-named}
 use Rattle.mesh_hold.proofs.Kept.{Fine, map-none}
 use Rattle.mesh_hold.proofs.Sides.{Closed, Sided}
-use Rattle.mesh_hold.specs.MeshTheorems.{importWires}
+use Rattle.mesh_hold.specs.MeshTheorems.{ImportPromised, importWires}
 use Rattle.pattern.proofs.Counts.{Limited, limited}
 use Rattle.pattern.specs.Checks.{contentFaults, countFaults}
 use Rattle.pattern.specs.Contents.{countsOf, zeroEdge, zeroFace}
@@ -144,3 +144,6 @@ module _ (s : List ℕ) (ok : importFaults s ≡ []) where
 -- one shell, that lists each face once
 pub import-shell : (s : List ℕ) → (importContent s .shells ≡ length (importContent s .faces) ∷ []) × (importContent s .listings ≡ numbers (length (importContent s .faces)))
 import-shell s = let e = length-map (importWires s) faceOf in (ap (λ (n : ℕ). n ∷ []) (sym e), ap numbers (sym e))
+
+pub import-promised : (s : List ℕ) → ImportPromised s
+import-promised s = record { accepted = λ ok. import-file s ok .0; same = λ ok. import-file s ok .1; openings = λ ok. file-openings s ok }

@@ -1,0 +1,122 @@
+// The bytes of a mesh, piece by piece.
+ghost use mathlib.Core.List.{List, []};
+ghost use mathlib.Core.Path.{_≡_};
+ghost use Prim.Native.Nat.{_%_, _<_, suc, ℕ};
+ghost use Rattle.mesh.specs.Mesh.{Mesh};
+ghost use Rattle.mesh.specs.Reading.{State, byte, closeFace, endLine, readBytes, start};
+ghost use Rattle.mesh_draw.specs.Kept.{Kept};
+ghost use Rattle.mesh_words.specs.Following.{Follows};
+ghost use Rattle.pattern.specs.Contents.{Pattern};
+ghost use Rattle.store.specs.Store.{held};
+use mesh_draw::add_face;
+use mesh_draw::add_side;
+use mesh_edges::Index;
+use mesh_words::BETWEEN;
+use mesh_words::REST;
+use mesh_words::Reader;
+use mesh_words::START;
+use std::num::wrapping_add_u64;
+use store::Spans;
+use store::Tables;
+use text::line_end;
+
+// The least place of a refused mesh, and that of one with under three points.
+const REFUSED: usize = 30;
+
+const FEW: usize = 32;
+
+// At the start of the next line.
+fn fresh(from: Reader) -> Reader
+    ensures { λ r. ⌜ ((n : ℕ) (m : Mesh) (p : Pattern) (index : List ℕ) → from .line ≡ n % 18446744073709551616 → Kept m [] (from .filled) p index → Follows (start (suc n) m) r p index) ⌝ }
+{
+    let mut r = from;
+    r.line = wrapping_add_u64(from.line, 1);
+    r.place = START;
+    r.held = false;
+    r.length = 0;
+    r.slashed = false;
+    r.corners = 0;
+    r
+}
+
+// The face that was read is closed and added.
+fn close_face(from: Reader, t: &mut Tables, spans: &mut Spans, index: &mut Index) -> Reader
+    ensures { λ r. ⌜ ((st : State) → Follows st from (held (now (t .entry)) (now (spans .entry))) (now (index .entry)) → st .place < 30 → 0 < st .face .corners → Follows (start (suc (st .line)) (closeFace st)) r (held (now (t .exit)) (now (spans .exit))) (now (index .exit))) ⌝ }
+{
+    let mut r = from;
+    let f = from.filled;
+    let g = add_side(f, from.last, from.first, t, spans, index);
+    let h = add_face(g, t);
+    r.filled = h;
+    fresh(r)
+}
+
+// A line has ended.
+pub fn end_line(from: Reader, t: &mut Tables, spans: &mut Spans, index: &mut Index) -> Reader
+    ensures { λ r. ⌜ ((st : State) → Follows st from (held (now (t .entry)) (now (spans .entry))) (now (index .entry)) → Follows (endLine st) r (held (now (t .exit)) (now (spans .exit))) (now (index .exit))) ⌝ }
+{
+    let mut r = from.end_word(t, spans, index);
+    if r.place >= REFUSED {
+        return r;
+    }
+    if r.place != BETWEEN {
+        return fresh(r);
+    }
+    if r.corners < 3 {
+        r.place = FEW;
+        return r;
+    }
+    close_face(r, t, spans, index)
+}
+
+// A byte of the mesh.
+fn byte(from: Reader, b: u8, t: &mut Tables, spans: &mut Spans, index: &mut Index) -> Reader
+    ensures { λ r. ⌜ ((st : State) → Follows st from (held (now (t .entry)) (now (spans .entry))) (now (index .entry)) → Follows (byte b st) r (held (now (t .exit)) (now (spans .exit))) (now (index .exit))) ⌝ }
+{
+    if from.place >= REFUSED {
+        return from;
+    }
+    if b == b'\n' {
+        return end_line(from, t, spans, index);
+    }
+    if from.place == REST {
+        return from;
+    }
+    let mut r = from.release();
+    if b == b'\r' {
+        r.held = true;
+        return r;
+    }
+    if b == b' ' {
+        return r.end_word(t, spans, index);
+    }
+    if b == b'\t' {
+        return r.end_word(t, spans, index);
+    }
+    r.ink(b)
+}
+
+// A piece of the mesh.
+pub fn step(
+    from: Reader,
+    piece: &[u8],
+    t: &mut Tables,
+    spans: &mut Spans,
+    index: &mut Index,
+) -> Reader
+    ensures { λ r. ⌜ ((st : State) → Follows st from (held (now (t .entry)) (now (spans .entry))) (now (index .entry)) → Follows (readBytes (now (piece .entry)) st) r (held (now (t .exit)) (now (spans .exit))) (now (index .exit))) ⌝ }
+{
+    let mut r = from;
+    let mut i: usize = 0;
+    while i < piece.len() {
+        if r.place == REST {
+            i = line_end(piece, i);
+            if i >= piece.len() {
+                return r;
+            }
+        }
+        r = byte(r, piece[i], t, spans, index);
+        i += 1;
+    }
+    r
+}
