@@ -27,7 +27,7 @@ extern "C" {
 
 /* The number of this interface. It is raised by one whenever a function here is added, removed or declared
  * otherwise, and whenever a limit, a number or what an answer means changes. */
-#define WUZSANGET_VERSION 1
+#define WUZSANGET_VERSION 2
 
 /* The stack that suffices for any call, in bytes. Measured on the library as it is compiled today:
  * wuzsanget_draft takes some 1,075 KiB, wuzsanget_edit some 415 KiB, no other call more than 110 KiB. */
@@ -68,8 +68,8 @@ extern "C" {
 #define WUZSANGET_DONE 0
 /* The reading checks refuse the file: `number` with body `first` and record `second`. */
 #define WUZSANGET_UNREAD 1
-/* The call itself is refused: `number` alone; for a solid with the shell's number `first`, for an `out`
- * that is too short (17) with the length `first` that the file needs. */
+/* The call itself is refused: `number` alone; for a solid with the shell's number `first`, for a mesh (30, 31, 32)
+ * with the line `first`, for an `out` that is too short (17) with the length `first` that the file needs. */
 #define WUZSANGET_REFUSED 2
 
 /* The numbers of the refusals. 1 to 8 are the reading checks'; docs/GUIDE.md says what to do about each. */
@@ -102,7 +102,10 @@ enum wuzsanget_refusal {
     WUZSANGET_SPAN_REFUSED = 26,        /* the joined span is out of range or not above its start */
     WUZSANGET_SHARED_FACE = 27,         /* a face of the shell is also listed in another shell */
     WUZSANGET_FACE_RULE = 28,           /* the result breaks the face rule */
-    WUZSANGET_DISCONNECTED = 29         /* the two uses do not meet */
+    WUZSANGET_DISCONNECTED = 29,        /* the two uses do not meet */
+    WUZSANGET_NOT_NUMBER = 30,          /* a word of a mesh's face that is no number */
+    WUZSANGET_NOT_GIVEN = 31,           /* a point of a mesh that is not yet given, or zero */
+    WUZSANGET_TOO_FEW = 32              /* a face of a mesh with under three points */
 };
 
 /* An answer. `number` is the refusal's (docs/FORMAT.md 6.1), 0 if done; what the values mean is said at each function, and a
@@ -160,6 +163,41 @@ size_t wuzsanget_show(const uint8_t *file, size_t file_length, uint8_t *text);
  * is wrong, or the number that is expected there; third: the bytes of the sentence that says what is wrong,
  * with its line feed, which is written to `said`, of WUZSANGET_SAID bytes. */
 wuzsanget_answer wuzsanget_draft(const uint8_t *text, size_t text_length, uint8_t *out, uint8_t *said);
+
+/* ---- Meshes. Wavefront OBJ: docs/FORMAT.md 8. */
+
+/* Writes the pattern file of a mesh to `out`. first: its length; WUZSANGET_FILE bytes always suffice. Refused by
+ * the mesh's own checks: 30, 31, 32; first: the line. By the reading checks: 2, 5, 8. 17: `out` is shorter
+ * than the file; first: the file's length. */
+wuzsanget_answer wuzsanget_import(const uint8_t *mesh, size_t mesh_length, uint8_t *out, size_t out_length);
+
+/* A mesh that comes in pieces. What is in it is the library's alone; any content is taken to an answer, but only
+ * that of start, and of steps after it, means anything. It may be moved and copied. */
+typedef struct wuzsanget_mesh {
+    uint64_t numbers[24];
+    double spans[2048];
+    uint16_t tables[12312];
+    uint16_t index[17408];
+} wuzsanget_mesh;
+
+/* Before the first piece. */
+void wuzsanget_import_start(uint64_t *numbers, uint16_t *index);
+
+/* Reads a piece, of any length, cut anywhere. */
+void wuzsanget_import_step(uint64_t *numbers, uint16_t *tables, double *spans, uint16_t *index,
+                           const uint8_t *piece, size_t piece_length);
+
+/* The mesh ends: writes its pattern file to `out`, with the answer that wuzsanget_import gives for all pieces as
+ * one. Refused with 17, it may be asked again with a longer list. */
+wuzsanget_answer wuzsanget_import_finish(uint64_t *numbers, uint16_t *tables, double *spans, uint16_t *index,
+                                         uint8_t *out, size_t out_length);
+
+/* The same three on a wuzsanget_mesh. */
+#define WUZSANGET_MESH_START(mesh) wuzsanget_import_start((mesh)->numbers, (mesh)->index)
+#define WUZSANGET_MESH_STEP(mesh, piece, length) \
+    wuzsanget_import_step((mesh)->numbers, (mesh)->tables, (mesh)->spans, (mesh)->index, piece, length)
+#define WUZSANGET_MESH_FINISH(mesh, out, length) \
+    wuzsanget_import_finish((mesh)->numbers, (mesh)->tables, (mesh)->spans, (mesh)->index, out, length)
 
 /* ---- Reports. 3: no such shell. */
 

@@ -1,11 +1,11 @@
 #!/usr/bin/env python3
-"""The mesh of a coat, as a digitiser writes it: samples/coat.obj, always the same bytes.
+"""The mesh of a coat, as a digitiser writes it: samples/coat-mesh.obj, always the same bytes.
 
-    python3 tools/coat_mesh.py > samples/coat.obj
+    python3 tools/coat_mesh.py > samples/coat-mesh.obj
 
 Its pattern and its report stand beside it; the report is the Rust's (tools/oracle/build makes the oracle):
 
-    python3 tools/mesh_reading.py < samples/coat.obj > samples/coat-mesh.pattern
+    python3 tools/mesh_reading.py < samples/coat-mesh.obj > samples/coat-mesh.pattern
     target/oracle/release/oracle report samples/coat-mesh.pattern | tail -n +2 > samples/coat-mesh.report
 
 Six pieces: two fronts, a back, two sleeves, a collar. Pieces that are sewn together name the same points along the seam, in

@@ -1,7 +1,8 @@
 // The static library for clients: every callable part on a pattern file in memory, with C's calling
 // convention. include/wuzsanget.h says what each takes, returns and leaves behind.
 ghost use mathlib.Core.Path.{_≡_};
-ghost use mathlib.Core.List.{[], _∷_, map};
+ghost use mathlib.Core.List.{List, [], _∷_, map};
+ghost use Prim.Native.Nat.{ℕ};
 ghost use lib.ListN.{length};
 ghost use lib.Seq.{sets};
 ghost use Rattle.lists.specs.Lists.{flat};
@@ -14,8 +15,16 @@ ghost use Rattle.file_vertex.specs.FileVertex.{fileVertex, fileVertexBytes};
 ghost use Rattle.file_face_edits.specs.FileFaceEdits.{fileAdd, fileAddOut, fileCutFace, fileCutFaceOut, fileGlue, fileGlueOut};
 ghost use Rattle.file_reports.specs.FileReports.{fileCheck, fileComponents, fileComponentsOut, fileCondition, fileConnected, fileCountsOut, fileOpenings, fileOpeningsOut, fileOutline, FilePromised, fileSingular, fileSingularOut, fileSolid, fileWritten, fileWrittenBytes};
 ghost use Rattle.jobs.specs.Jobs.{lineLength, lineOut, lineText};
+ghost use Rattle.mesh.specs.Mesh.{imported, importedIn};
+ghost use Rattle.mesh.specs.Reading.{State, endLine, readBytes, reading};
+ghost use Rattle.mesh_answers.specs.ImportLines.{importValues};
+ghost use Rattle.mesh_hold.specs.MeshTheorems.{ImportPromised};
+ghost use Rattle.mesh_state.specs.State.{readerIn};
+ghost use Rattle.mesh_words.specs.Following.{Follows};
+ghost use Rattle.pattern.specs.Contents.{Pattern};
 ghost use Rattle.report_text.specs.Report.{reportOf, ReportPromised};
 ghost use Rattle.show_text.specs.PatternText.{fileText};
+ghost use Rattle.store.specs.Store.{held};
 ghost use Rattle.text_calls.specs.TextCalls.{draftAnswer};
 ghost use Rattle.words.specs.Words.{short};
 use answers::Answer;
@@ -39,10 +48,18 @@ use file_reports::rewrite_file;
 use file_vertex::file_add_vertex;
 use jobs::Job;
 use jobs::run;
+use mesh_calls::finish_import;
+use mesh_calls::import_file;
+use mesh_calls::start_import;
+use mesh_calls::step_import;
+use mesh_edges::Index;
+use mesh_state::Numbers;
 use pattern::BODIES;
 use pattern::LONGEST;
 use report_text::report;
 use show_text::show;
+use store::Spans;
+use store::Tables;
 use text_calls::draft;
 use words::saturated;
 
@@ -57,9 +74,9 @@ fn named(n: usize) -> u16
 // WUZSANGET_VERSION of include/wuzsanget.h.
 #[no_mangle]
 pub extern "C" fn wuzsanget_version() -> usize
-    ensures { λ r. ⌜ r ≡ 1 ⌝ }
+    ensures { λ r. ⌜ r ≡ 2 ⌝ }
 {
-    1
+    2
 }
 
 #[no_mangle]
@@ -118,6 +135,47 @@ pub extern "C" fn wuzsanget_draft(
     ensures { λ r. ⌜ (now (out .exit) ≡ madeIn (made (now (text .entry))) (textFile (now (text .entry))) (now (out .entry))) × (now (said .exit) ≡ sets (now (said .entry)) 0 (madeText (made (now (text .entry))))) ⌝ }
 {
     draft(text, out, said)
+}
+
+#[no_mangle]
+pub extern "C" fn wuzsanget_import(mesh: &[u8], out: &mut [u8]) -> Answer
+    ensures { λ r. ⌜ (r ≡ importValues (imported (now (mesh .entry)) (now (out .entry)))) × (now (out .exit) ≡ importedIn (now (mesh .entry)) (now (out .entry))) ⌝ }
+    ensures { λ _. ⌜ ImportPromised (now (mesh .entry)) ⌝ }
+{
+    import_file(mesh, out)
+}
+
+#[no_mangle]
+pub extern "C" fn wuzsanget_import_start(numbers: &mut Numbers, index: &mut Index)
+    ensures { λ _. ⌜ ((p : Pattern) → Follows (reading []) (readerIn (now (numbers .exit))) p (now (index .exit))) ⌝ }
+{
+    start_import(numbers, index)
+}
+
+#[no_mangle]
+pub extern "C" fn wuzsanget_import_step(
+    numbers: &mut Numbers,
+    tables: &mut Tables,
+    spans: &mut Spans,
+    index: &mut Index,
+    piece: &[u8],
+)
+    ensures { λ _. ⌜ ((st : State) → Follows st (readerIn (now (numbers .entry))) (held (now (tables .entry)) (now (spans .entry))) (now (index .entry)) → Follows (readBytes (now (piece .entry)) st) (readerIn (now (numbers .exit))) (held (now (tables .exit)) (now (spans .exit))) (now (index .exit))) ⌝ }
+{
+    step_import(numbers, tables, spans, index, piece)
+}
+
+#[no_mangle]
+pub extern "C" fn wuzsanget_import_finish(
+    numbers: &mut Numbers,
+    tables: &mut Tables,
+    spans: &mut Spans,
+    index: &mut Index,
+    out: &mut [u8],
+) -> Answer
+    ensures { λ r. ⌜ ((s : List ℕ) → Follows (reading s) (readerIn (now (numbers .entry))) (held (now (tables .entry)) (now (spans .entry))) (now (index .entry)) → (r ≡ importValues (imported s (now (out .entry)))) × (now (out .exit) ≡ importedIn s (now (out .entry))) × Follows (endLine (reading s)) (readerIn (now (numbers .exit))) (held (now (tables .exit)) (now (spans .exit))) (now (index .exit))) ⌝ }
+{
+    finish_import(numbers, tables, spans, index, out)
 }
 
 #[no_mangle]
