@@ -1,13 +1,12 @@
 // The import of a mesh as calls, whole or piece by piece, with its answer in numbers.
-ghost use mathlib.Core.List.{List, []};
+ghost use mathlib.Core.List.{List, [], _++_, _∷_};
 ghost use mathlib.Core.Path.{_≡_};
 ghost use Prim.Native.Nat.{ℕ};
 ghost use Rattle.mesh.specs.Mesh.{imported, importedIn};
-ghost use Rattle.mesh.specs.Reading.{State, endLine, readBytes, reading};
 ghost use Rattle.mesh_answers.specs.ImportLines.{importValues};
 ghost use Rattle.mesh_hold.specs.MeshTheorems.{ImportPromised};
+ghost use Rattle.mesh_read.specs.Pieces.{HasRead};
 ghost use Rattle.mesh_state.specs.State.{readerIn};
-ghost use Rattle.mesh_words.specs.Following.{Follows};
 ghost use Rattle.pattern.specs.Contents.{Pattern};
 ghost use Rattle.store.specs.Store.{held};
 use answers::Answer;
@@ -34,7 +33,7 @@ pub fn import_file(mesh: &[u8], out: &mut [u8]) -> Answer
 
 // Before the first piece of a mesh. Any content of the lists is taken.
 pub fn start_import(numbers: &mut Numbers, index: &mut Index)
-    ensures { λ _. ⌜ ((p : Pattern) → Follows (reading []) (readerIn (now (numbers .exit))) p (now (index .exit))) ⌝ }
+    ensures { λ _. ⌜ ((p : Pattern) → HasRead [] (readerIn (now (numbers .exit))) p (now (index .exit))) ⌝ }
 {
     clear_index(index);
     put_reader(Reader::new(), numbers);
@@ -48,7 +47,7 @@ pub fn step_import(
     index: &mut Index,
     piece: &[u8],
 )
-    ensures { λ _. ⌜ ((st : State) → Follows st (readerIn (now (numbers .entry))) (held (now (t .entry)) (now (spans .entry))) (now (index .entry)) → Follows (readBytes (now (piece .entry)) st) (readerIn (now (numbers .exit))) (held (now (t .exit)) (now (spans .exit))) (now (index .exit))) ⌝ }
+    ensures { λ _. ⌜ ((s : List ℕ) → HasRead s (readerIn (now (numbers .entry))) (held (now (t .entry)) (now (spans .entry))) (now (index .entry)) → HasRead (s ++ now (piece .entry)) (readerIn (now (numbers .exit))) (held (now (t .exit)) (now (spans .exit))) (now (index .exit))) ⌝ }
 {
     let r = step(reader_in(numbers), piece, t, spans, index);
     put_reader(r, numbers);
@@ -62,7 +61,7 @@ pub fn finish_import(
     index: &mut Index,
     out: &mut [u8],
 ) -> Answer
-    ensures { λ r. ⌜ ((s : List ℕ) → Follows (reading s) (readerIn (now (numbers .entry))) (held (now (t .entry)) (now (spans .entry))) (now (index .entry)) → (r ≡ importValues (imported s (now (out .entry)))) × (now (out .exit) ≡ importedIn s (now (out .entry))) × Follows (endLine (reading s)) (readerIn (now (numbers .exit))) (held (now (t .exit)) (now (spans .exit))) (now (index .exit))) ⌝ }
+    ensures { λ r. ⌜ ((s : List ℕ) → HasRead s (readerIn (now (numbers .entry))) (held (now (t .entry)) (now (spans .entry))) (now (index .entry)) → (r ≡ importValues (imported s (now (out .entry)))) × (now (out .exit) ≡ importedIn s (now (out .entry))) × HasRead (s ++ (10 ∷ [])) (readerIn (now (numbers .exit))) (held (now (t .exit)) (now (spans .exit))) (now (index .exit))) ⌝ }
 {
     let end = finish(reader_in(numbers), t, spans, index, out);
     let r = end.reader;

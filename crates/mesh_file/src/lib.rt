@@ -1,13 +1,13 @@
 // The pattern file of a mesh.
-ghost use mathlib.Core.List.{List, []};
+ghost use mathlib.Core.List.{List, [], _++_, _∷_};
 ghost use mathlib.Core.Path.{_≡_};
 ghost use Prim.Native.Nat.{_≤_, ℕ};
 ghost use lib.Ieee.{Float};
 ghost use Rattle.mesh.specs.Mesh.{Mesh, imported, importedIn};
-ghost use Rattle.mesh.specs.Reading.{endLine, faultAt, reading};
+ghost use Rattle.mesh.specs.Reading.{faultAt};
 ghost use Rattle.mesh_draw.specs.Kept.{Kept};
 ghost use Rattle.mesh_file.specs.Judging.{Judged, answerOf, filledCounts, withListed, withRest};
-ghost use Rattle.mesh_words.specs.Following.{Follows};
+ghost use Rattle.mesh_read.specs.Pieces.{HasRead};
 ghost use Rattle.pattern.specs.Checks.{countFaults};
 ghost use Rattle.store.specs.Columns.{withCounts};
 ghost use Rattle.store.specs.Store.{held};
@@ -152,7 +152,7 @@ pub fn finish(
     index: &mut Index,
     out: &mut [u8],
 ) -> Finished
-    ensures { λ r. ⌜ ((s : List ℕ) → Follows (reading s) from (held (now (t .entry)) (now (spans .entry))) (now (index .entry)) → (r .answer ≡ imported s (now (out .entry))) × (now (out .exit) ≡ importedIn s (now (out .entry))) × Follows (endLine (reading s)) (r .reader) (held (now (t .exit)) (now (spans .exit))) (now (index .exit))) ⌝ }
+    ensures { λ r. ⌜ ((s : List ℕ) → HasRead s from (held (now (t .entry)) (now (spans .entry))) (now (index .entry)) → (r .answer ≡ imported s (now (out .entry))) × (now (out .exit) ≡ importedIn s (now (out .entry))) × HasRead (s ++ (10 ∷ [])) (r .reader) (held (now (t .exit)) (now (spans .exit))) (now (index .exit))) ⌝ }
 {
     let r = end_line(from, t, spans, index);
     if r.place >= 30 {

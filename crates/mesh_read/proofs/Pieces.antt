@@ -6,14 +6,16 @@ use mathlib.Core.Logic.{⊎-elim}
 use mathlib.Core.Path.{_∙_, _≡_, ap, refl, sym}
 use native.Mathlib.Numerals.{add-one}
 use native.Mathlib.Omega.{arith}
-use lib.Dec.{eqb}
+use lib.Dec.{eqb, leb}
 use lib.ListN.{drop, getD, length, take}
 use lib.Seq.{take-add, take-all, take-suc}
-use borrow.Author.Tests.{eq-eqb, le-leb, lt-leb, ne-eqb}
+use borrow.Author.Tests.{eq-eqb, le-leb, leb-false, leb-true, lt-leb, ne-eqb}
 use Rattle.lists.proofs.Laws.{cases}
 use Rattle.lists.specs.Lists.{pick}
 use Rattle.mesh.proofs.Theorem.{pieces}
-use Rattle.mesh.specs.Reading.{State, byte, endLine, endWord, holding, ink, readBytes, release}
+use Rattle.mesh.specs.Mesh.{noMesh}
+use Rattle.mesh.specs.Reading.{State, byte, endLine, endWord, holding, ink, nextLine, readBytes, reading, release, start}
+use Rattle.mesh_read.specs.Pieces.{HasRead}
 use Rattle.mesh_words.specs.Following.{Follows}
 use Rattle.mesh_words.specs.declared.Reader.{Reader}
 use Rattle.pattern.specs.Contents.{Pattern}
@@ -126,3 +128,24 @@ module _ {piece : List ℕ} {from : Reader} {p₀ : Pattern} {index₀ : List �
 
   pub stepping-all : length piece ≤ i → (st : State) → Follows st from p₀ index₀ → Follows (readBytes piece st) r p index
   stepping-all h st f = rw (take-all i piece h) at (s .follows st f)
+
+-- ---- all bytes so far
+
+module _ {from r : Reader} {p₀ p : Pattern} {index₀ index : List ℕ} (piece : List ℕ) where
+  pub read-more : ((st : State) → Follows st from p₀ index₀ → Follows (readBytes piece st) r p index) → (s : List ℕ) → HasRead s from p₀ index₀ → HasRead (s ++ piece) r p index
+  read-more step s w = rw (pieces s piece (start 1 noMesh)) (step (reading s) w)
+
+refused-ends : (st : State) → 30 ≤ st .place → endLine st ≡ st
+unfolding endLine nextLine endWord
+refused-ends st h = rw (ne-eqb (st .place) 1 (λ e. omega arith), ne-eqb (st .place) 4 (λ e. omega arith), le-leb 30 (st .place) h)
+
+-- the end of a mesh is that of its last line
+pub line-read : (s : List ℕ) → reading (s ++ (10 ∷ [])) ≡ endLine (reading s)
+unfolding readBytes
+line-read s =
+    let st = reading s in
+    pieces s (10 ∷ []) (start 1 noMesh)
+    ∙ ⊎-elim
+    (λ (h : leb 30 (st .place) ≡ true). let l = leb-true 30 (st .place) h in byte-refused 10 st l ∙ sym (refused-ends st l))
+    (λ (h : leb 30 (st .place) ≡ false). byte-feed 10 st (leb-false 30 (st .place) h) refl)
+    (cases (leb 30 (st .place)))

@@ -1,10 +1,11 @@
 // The bytes of a mesh, piece by piece.
-ghost use mathlib.Core.List.{List, []};
+ghost use mathlib.Core.List.{List, [], _++_};
 ghost use mathlib.Core.Path.{_≡_};
 ghost use Prim.Native.Nat.{_%_, _<_, suc, ℕ};
 ghost use Rattle.mesh.specs.Mesh.{Mesh};
-ghost use Rattle.mesh.specs.Reading.{State, byte, closeFace, endLine, readBytes, start};
+ghost use Rattle.mesh.specs.Reading.{State, byte, closeFace, endLine, start};
 ghost use Rattle.mesh_draw.specs.Kept.{Kept};
+ghost use Rattle.mesh_read.specs.Pieces.{HasRead};
 ghost use Rattle.mesh_words.specs.Following.{Follows};
 ghost use Rattle.pattern.specs.Contents.{Pattern};
 ghost use Rattle.store.specs.Store.{held};
@@ -104,7 +105,7 @@ pub fn step(
     spans: &mut Spans,
     index: &mut Index,
 ) -> Reader
-    ensures { λ r. ⌜ ((st : State) → Follows st from (held (now (t .entry)) (now (spans .entry))) (now (index .entry)) → Follows (readBytes (now (piece .entry)) st) r (held (now (t .exit)) (now (spans .exit))) (now (index .exit))) ⌝ }
+    ensures { λ r. ⌜ ((s : List ℕ) → HasRead s from (held (now (t .entry)) (now (spans .entry))) (now (index .entry)) → HasRead (s ++ now (piece .entry)) r (held (now (t .exit)) (now (spans .exit))) (now (index .exit))) ⌝ }
 {
     let mut r = from;
     let mut i: usize = 0;

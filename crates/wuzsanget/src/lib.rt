@@ -1,7 +1,7 @@
 // The static library for clients: every callable part on a pattern file in memory, with C's calling
 // convention. include/wuzsanget.h says what each takes, returns and leaves behind.
 ghost use mathlib.Core.Path.{_≡_};
-ghost use mathlib.Core.List.{List, [], _∷_, map};
+ghost use mathlib.Core.List.{List, [], _++_, _∷_, map};
 ghost use Prim.Native.Nat.{ℕ};
 ghost use lib.ListN.{length};
 ghost use lib.Seq.{sets};
@@ -16,11 +16,10 @@ ghost use Rattle.file_face_edits.specs.FileFaceEdits.{fileAdd, fileAddOut, file
 ghost use Rattle.file_reports.specs.FileReports.{fileCheck, fileComponents, fileComponentsOut, fileCondition, fileConnected, fileCountsOut, fileOpenings, fileOpeningsOut, fileOutline, FilePromised, fileSingular, fileSingularOut, fileSolid, fileWritten, fileWrittenBytes};
 ghost use Rattle.jobs.specs.Jobs.{lineLength, lineOut, lineText};
 ghost use Rattle.mesh.specs.Mesh.{imported, importedIn};
-ghost use Rattle.mesh.specs.Reading.{State, endLine, readBytes, reading};
 ghost use Rattle.mesh_answers.specs.ImportLines.{importValues};
 ghost use Rattle.mesh_hold.specs.MeshTheorems.{ImportPromised};
+ghost use Rattle.mesh_read.specs.Pieces.{HasRead};
 ghost use Rattle.mesh_state.specs.State.{readerIn};
-ghost use Rattle.mesh_words.specs.Following.{Follows};
 ghost use Rattle.pattern.specs.Contents.{Pattern};
 ghost use Rattle.report_text.specs.Report.{reportOf, ReportPromised};
 ghost use Rattle.show_text.specs.PatternText.{fileText};
@@ -147,7 +146,7 @@ pub extern "C" fn wuzsanget_import(mesh: &[u8], out: &mut [u8]) -> Answer
 
 #[no_mangle]
 pub extern "C" fn wuzsanget_import_start(numbers: &mut Numbers, index: &mut Index)
-    ensures { λ _. ⌜ ((p : Pattern) → Follows (reading []) (readerIn (now (numbers .exit))) p (now (index .exit))) ⌝ }
+    ensures { λ _. ⌜ ((p : Pattern) → HasRead [] (readerIn (now (numbers .exit))) p (now (index .exit))) ⌝ }
 {
     start_import(numbers, index)
 }
@@ -160,7 +159,7 @@ pub extern "C" fn wuzsanget_import_step(
     index: &mut Index,
     piece: &[u8],
 )
-    ensures { λ _. ⌜ ((st : State) → Follows st (readerIn (now (numbers .entry))) (held (now (tables .entry)) (now (spans .entry))) (now (index .entry)) → Follows (readBytes (now (piece .entry)) st) (readerIn (now (numbers .exit))) (held (now (tables .exit)) (now (spans .exit))) (now (index .exit))) ⌝ }
+    ensures { λ _. ⌜ ((s : List ℕ) → HasRead s (readerIn (now (numbers .entry))) (held (now (tables .entry)) (now (spans .entry))) (now (index .entry)) → HasRead (s ++ now (piece .entry)) (readerIn (now (numbers .exit))) (held (now (tables .exit)) (now (spans .exit))) (now (index .exit))) ⌝ }
 {
     step_import(numbers, tables, spans, index, piece)
 }
@@ -173,7 +172,7 @@ pub extern "C" fn wuzsanget_import_finish(
     index: &mut Index,
     out: &mut [u8],
 ) -> Answer
-    ensures { λ r. ⌜ ((s : List ℕ) → Follows (reading s) (readerIn (now (numbers .entry))) (held (now (tables .entry)) (now (spans .entry))) (now (index .entry)) → (r ≡ importValues (imported s (now (out .entry)))) × (now (out .exit) ≡ importedIn s (now (out .entry))) × Follows (endLine (reading s)) (readerIn (now (numbers .exit))) (held (now (tables .exit)) (now (spans .exit))) (now (index .exit))) ⌝ }
+    ensures { λ r. ⌜ ((s : List ℕ) → HasRead s (readerIn (now (numbers .entry))) (held (now (tables .entry)) (now (spans .entry))) (now (index .entry)) → (r ≡ importValues (imported s (now (out .entry)))) × (now (out .exit) ≡ importedIn s (now (out .entry))) × HasRead (s ++ (10 ∷ [])) (readerIn (now (numbers .exit))) (held (now (tables .exit)) (now (spans .exit))) (now (index .exit))) ⌝ }
 {
     finish_import(numbers, tables, spans, index, out)
 }

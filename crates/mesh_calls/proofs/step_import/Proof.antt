@@ -4,7 +4,7 @@ use Rattle.mesh_calls.proofs.step_import.Statement.{statement}
 use Rattle.mesh_calls.proofs.step_import.Tie as tie
 
 returns : tie.Need-returns
-returns c = λ st h. follows-same (c .put-reader .ensures) (c .before .before .step .ensures st (follows-same (c .before .before .before .before .before .before .reader-in .ensures) h))
+returns c = λ s h. follows-same (c .put-reader .ensures) (c .before .before .step .ensures s (follows-same (c .before .before .before .before .before .before .reader-in .ensures) h))
 
 pub step-import-spec : {M : Type 1} → statement M
 step-import-spec = tie.close (tie.spec (search needs) (search needs) (search needs) returns)

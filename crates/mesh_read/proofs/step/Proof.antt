@@ -5,7 +5,7 @@ use native.Mathlib.Omega.{arith}
 use lib.ListN.{length}
 use borrow.Author.Needs.{needs}
 use Rattle.store.specs.Store.{held}
-use Rattle.mesh_read.proofs.Pieces.{Stepping, stepping-all, stepping-next, stepping-past, stepping-start}
+use Rattle.mesh_read.proofs.Pieces.{Stepping, read-more, stepping-all, stepping-next, stepping-past, stepping-start}
 use Rattle.mesh_read.proofs.step.Statement.{statement}
 use Rattle.mesh_read.proofs.step.Tie as tie
 
@@ -34,7 +34,7 @@ loop-holds c = stepping-start _ _ _ _
 returns : tie.Need-returns Inv-loop μ-loop
 returns c =
     let line-end = c .before .line-end in
-    stepping-all (stepping-past (c .before .before .before .before .before .loop .inv) _ (c .before .before .if1 .taken) (line-end .ensures .0) (line-end .ensures .1)) (c .if2 .taken)
+    read-more _ (stepping-all (stepping-past (c .before .before .before .before .before .loop .inv) _ (c .before .before .if1 .taken) (line-end .ensures .0) (line-end .ensures .1)) (c .if2 .taken))
 
 shared-slice-read-byte : tie.Need-shared-slice-read-byte Inv-loop μ-loop
 shared-slice-read-byte c = let h = here (c .before) in omega arith
@@ -49,7 +49,7 @@ loop-again : tie.Need-loop-again Inv-loop μ-loop
 loop-again c = let h = here (c .before .before .before .before .before .before) in stepping-next (h .2) _ _ _ (h .0) (c .before .byte .ensures)
 
 returns-2 : tie.Need-returns-2 Inv-loop μ-loop
-returns-2 c = stepping-all (c .before .loop .inv) (c .loop-test .left)
+returns-2 c = read-more _ (stepping-all (c .before .loop .inv) (c .loop-test .left))
 
 pub step-spec : {M : Type 1} → statement M
 step-spec =
