@@ -346,11 +346,12 @@ fn begin(path: &[u8], file: &mut [u8; 41049], stop: bool, trial: bool) -> Queue 
     }
 }
 
-fn say_usage(fd: i32) {
+// Whether the usage was written.
+fn say_usage(fd: i32) -> bool {
     io::write_all(
         fd,
         b"usage: edit [--stop] [--try] FILE\n--stop  does nothing more after the first answer that is not done\n--try   answers, and leaves the file as it is\n",
-    );
+    )
 }
 
 fn main() {
@@ -374,8 +375,16 @@ fn main() {
                 serve(&name[..n], stop, trial);
             }
         }
-        Asked::Usage => say_usage(STDOUT_FILENO),
-        Asked::Options(_, _) => say_usage(STDERR_FILENO),
-        Asked::Misused => say_usage(STDERR_FILENO),
+        Asked::Usage => {
+            if !say_usage(STDOUT_FILENO) {
+                os::fail(b"edit: standard output");
+            }
+        }
+        Asked::Options(_, _) => {
+            say_usage(STDERR_FILENO);
+        }
+        Asked::Misused => {
+            say_usage(STDERR_FILENO);
+        }
     }
 }
