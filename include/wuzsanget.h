@@ -9,7 +9,7 @@
  *
  * A list that a call writes to may not overlap any other list of that call: `out` may not be `file`, nor
  * share memory with it. Such a list keeps every entry past what is written, and all of them when the call
- * is refused; only a `text` is written then too, and says the refusal.
+ * is refused; only a `text` or a `said` is written then too, and says the refusal.
  *
  * Records are numbered from 0. A use is an edge's number, plus 32,768 if reversed. A listing is a face's
  * number, plus 32,768 if reversed; so is every face that is given to a call. A number that names nothing is

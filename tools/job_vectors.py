@@ -34,6 +34,7 @@ def same(job):
 
 
 NO_JOB = "no job: begin with cut, remove, concat, point, add, cutface or glue"
+MARKED = "no job: begins with a byte order mark: save the jobs as UTF-8 without one"
 
 
 def wrong(k, form):
@@ -93,6 +94,9 @@ ROWS = [
     ("cuts 0 6 35 35.5", NO_JOB),
     ("CUT 0 6 35 35.5", NO_JOB),
     ("# cut 0 6 35 35.5", NO_JOB),
+    ("\ufeffremove 0 20", MARKED),
+    ("\ufeff", MARKED),
+    (" \ufeffremove 0 20", NO_JOB),
     ("cut", wrong(2, CUT)),
     ("cut 0 6 35", wrong(5, CUT)),
     ("cut 0 6 35 35.5 again", wrong(6, CUT)),

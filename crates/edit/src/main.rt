@@ -5,10 +5,14 @@
 ghost use mathlib.Core.Path.{_≡_};
 ghost use Prim.Native.Nat.{_<_, _≤_};
 ghost use lib.ListN.{length};
+ghost use Rattle.queue.specs.Queue.{chosen, endingBy};
+ghost use Rattle.queue.specs.declared.Ending.the-variants.{Done, Unread};
+ghost use Rattle.edit.specs.Saved.{endingAfter, isChanged};
 use libc::STDERR_FILENO;
 use libc::STDIN_FILENO;
 use libc::STDOUT_FILENO;
 use queue::Asked;
+use queue::Choice;
 use queue::Ending;
 use queue::Stepped;
 use replace::Reading;
@@ -39,7 +43,9 @@ struct Tried {
     changed: bool,
 }
 
-fn not_read() -> Worked {
+fn not_read() -> Worked
+    ensures { λ r. ⌜ r .ending ≡ Unread ⌝ }
+{
     Worked {
         ending: Ending::Unread,
         text: 0,
@@ -60,7 +66,9 @@ fn save(path: &[u8], file: &[u8; 41049], done: Stepped, read: Reading) -> Replac
     replace::replace(path, &whole[0..n], read)
 }
 
-fn ending_of(saved: Replaced) -> Ending {
+fn ending_of(saved: Replaced) -> Ending
+    ensures { λ r. ⌜ r ≡ endingAfter saved ⌝ }
+{
     match saved {
         Replaced::Done => Ending::Done,
         Replaced::Kept => Ending::Kept,
@@ -69,7 +77,9 @@ fn ending_of(saved: Replaced) -> Ending {
     }
 }
 
-fn is_changed(saved: Replaced) -> bool {
+fn is_changed(saved: Replaced) -> bool
+    ensures { λ r. ⌜ r ≡ isChanged saved ⌝ }
+{
     match saved {
         Replaced::Changed => true,
         Replaced::Done => false,
@@ -119,12 +129,11 @@ fn persist(path: &[u8], line: &[u8], file: &mut [u8; 41049], text: &mut [u8; 655
     }
 }
 
-// Does the job of a line in memory.
-fn rehearse(line: &[u8], file: &mut [u8; 41049], text: &mut [u8; 65536], q: Queue) -> Worked {
-    if !q.known {
-        return not_read();
-    }
-    let done = queue::step(line, file, q.length, text);
+// Does the job of a line in memory, on the file that the first n bytes hold.
+fn rehearse(line: &[u8], file: &mut [u8; 41049], n: usize, text: &mut [u8; 65536]) -> Worked
+    ensures { λ r. ⌜ r .ending ≡ Done ⌝ }
+{
+    let done = queue::step(line, file, n, text);
     Worked {
         ending: Ending::Done,
         text: done.text,
@@ -132,24 +141,27 @@ fn rehearse(line: &[u8], file: &mut [u8; 41049], text: &mut [u8; 65536], q: Queu
     }
 }
 
+// Does with a line what is chosen, and ends it as that says.
 fn work(
     path: &[u8],
     line: &[u8],
     file: &mut [u8; 41049],
     text: &mut [u8; 65536],
     q: Queue,
-) -> Worked {
-    if q.stopped {
-        return Worked {
+) -> Worked
+    ensures { λ r. ⌜ r .ending ≡ endingBy (chosen (q .stopped) (q .trial) (q .known)) (r .ending) ⌝ }
+{
+    let choice = queue::choose(q.stopped, q.trial, q.known);
+    match choice {
+        Choice::Skip => Worked {
             ending: Ending::Skipped,
             text: 0,
             file: q.length,
-        };
+        },
+        Choice::Miss => not_read(),
+        Choice::Rehearse => rehearse(line, file, q.length, text),
+        Choice::Perform => persist(path, line, file, text),
     }
-    if q.trial {
-        return rehearse(line, file, text, q);
-    }
-    persist(path, line, file, text)
 }
 
 // Does the job that a line asks for, and prints its answer.
@@ -334,11 +346,12 @@ fn begin(path: &[u8], file: &mut [u8; 41049], stop: bool, trial: bool) -> Queue 
     }
 }
 
-fn say_usage(fd: i32) {
+// Whether the usage was written.
+fn say_usage(fd: i32) -> bool {
     io::write_all(
         fd,
         b"usage: edit [--stop] [--try] FILE\n--stop  does nothing more after the first answer that is not done\n--try   answers, and leaves the file as it is\n",
-    );
+    )
 }
 
 fn main() {
@@ -362,8 +375,16 @@ fn main() {
                 serve(&name[..n], stop, trial);
             }
         }
-        Asked::Usage => say_usage(STDOUT_FILENO),
-        Asked::Options(_, _) => say_usage(STDERR_FILENO),
-        Asked::Misused => say_usage(STDERR_FILENO),
+        Asked::Usage => {
+            if !say_usage(STDOUT_FILENO) {
+                os::fail(b"edit: standard output");
+            }
+        }
+        Asked::Options(_, _) => {
+            say_usage(STDERR_FILENO);
+        }
+        Asked::Misused => {
+            say_usage(STDERR_FILENO);
+        }
     }
 }

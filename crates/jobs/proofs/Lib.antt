@@ -1,3 +1,4 @@
+pub mod Marks
 pub mod Texts
 pub mod Lines
 mod Examples

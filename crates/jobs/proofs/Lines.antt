@@ -22,7 +22,7 @@ use Rattle.text.specs.Tokens.{name}
 use Rattle.text.specs.declared.Token.{Token}
 use Rattle.text.specs.declared.Token.the-variants.{Not, Value}
 use Rattle.jobs.proofs.Texts.{text-as}
-use Rattle.jobs.specs.Jobs.{faceText, isJob, jobText, lineJob, lineLength, lineOut, lineText, lineValues, lineWords, shellText}
+use Rattle.jobs.specs.Jobs.{faceText, isJob, jobText, lineJob, lineLength, lineOut, lineText, lineValues, lineWords, shellText, unnamedText}
 
 -- ---- the words after the first
 
@@ -41,10 +41,6 @@ values-at j k ws us p q = rw (p, q)
 
 same-test : {vs us : List ℕ} {ws zs : List (List ℕ)} → vs ≡ us → ws ≡ zs → eqb (length vs) (length ws) ≡ eqb (length us) (length zs)
 same-test p q = rw (p, q)
-
-no-name-any : (j n : ℕ) → j ≡ 0 → noJob j n ≡ noJob 0 2
-unfolding noJob
-no-name-any j n e = rw e
 
 -- at most 32,768 words
 trimmed-short : (line : List ℕ) → length (trimmed line) ≤ length line
@@ -126,15 +122,15 @@ module _ (line s out : List ℕ) where
       → ((text′ ≡ sets text 0 (lineText line s out)) × (r ≡ length (lineText line s out))) × ((out ≡ lineOut line s out) × (0 ≡ lineLength line s out))
   answered a text text′ r p = (text-as (a .0) text text′ r p, (a .1, a .2))
 
-  no-job : (t : List ℕ) → isJob line ≡ false → pick (leb (length line) 65536) (noJob (lineJob line) (length (lineValues line) + 2)) (ascii "no job: over 65536 bytes\n") ≡ t → Answered t
+  no-job : (t : List ℕ) → isJob line ≡ false → pick (leb (length line) 65536) (pick (begun line) (noJob (lineJob line) (length (lineValues line) + 2)) (unnamedText line)) (ascii "no job: over 65536 bytes\n") ≡ t → Answered t
   unfolding lineText lineOut lineLength
   no-job t e p = (pick-false (isJob line) _ _ e ∙ p, sym (pick-false (isJob line && leb (lineJob line) 4) _ _ (ap (λ (b : Bool). b && leb (lineJob line) 4) e)), sym (pick-false (isJob line && leb (lineJob line) 4) _ _ (ap (λ (b : Bool). b && leb (lineJob line) 4) e)))
 
   pub too-long : 65536 < length line → Answered (ascii "no job: over 65536 bytes\n")
   too-long h = let e = lt-leb (length line) 65536 h in no-job _ (fails-first (short line) (begun line) (each line) (enough line) e) (pick-false _ _ _ e)
 
-  no-words : isJob line ≡ false → length line ≤ 65536 → Answered (noJob (lineJob line) (length (lineValues line) + 2))
-  no-words e h = no-job _ e (pick-true _ _ _ (le-leb (length line) 65536 h))
+  no-words : isJob line ≡ false → length line ≤ 65536 → 1 ≤ lineJob line → Answered (noJob (lineJob line) (length (lineValues line) + 2))
+  no-words e h b = no-job _ e (pick-true _ _ _ (le-leb (length line) 65536 h) ∙ pick-true _ _ _ (le-leb 1 (lineJob line) b))
 
 pub trim-is : (line : List ℕ) (r : ℕ) → take r line ≡ trimmed line → take (r - 0) line ≡ trimmed line
 trim-is line r e = let z : r - 0 ≡ r = omega arith in rw z e
@@ -162,12 +158,11 @@ module _ {line l : List ℕ} {j end : ℕ} (r : Named line l j end) where
   words-are : words (drop end l) ≡ lineWords line
   words-are = r .rest ∙ ap (λ (t : List ℕ). drop 1 (words t)) (r .trim)
 
-  pub no-name-line : (s out : List ℕ) → j ≡ 0 → Answered line s out (noJob 0 2)
+  pub no-name-line : (s out : List ℕ) → j ≡ 0 → Answered line s out (unnamedText line)
   no-name-line s out h =
       let z : lineJob line ≡ 0 = sym job-is ∙ h in
-      let e : isJob line ≡ false = fails-second (short line) (begun line) (each line) (enough line) (lt-leb 1 (lineJob line) (omega arith)) in
-      let w = no-words line s out e (r .few) in
-      (w .0 ∙ no-name-any (lineJob line) (length (lineValues line) + 2) z, w .1, w .2)
+      let b : begun line ≡ false = lt-leb 1 (lineJob line) (omega arith) in
+      no-job line s out _ (fails-second (short line) (begun line) (each line) (enough line) b) (pick-true _ _ _ (le-leb (length line) 65536 (r .few)) ∙ pick-false _ _ _ b)
 
   pub valued : (j ≡ 0 → ⊥) → (n : ℕ) (all : Bool) (arr : List ℕ)
       → arr ≡ sets (replicate 32768 0) 0 (values (jobKinds j) (jobRest j) 0 (words (drop end l)))
@@ -186,6 +181,9 @@ module _ {line l : List ℕ} {j end : ℕ} (r : Named line l j end) where
       }
 
 module _ {line : List ℕ} {j n : ℕ} {all : Bool} {arr : List ℕ} (r : Valued line j n all arr) where
+  named : 1 ≤ lineJob line
+  named = omega (arith, r .job, r .some)
+
   pub valued-few : n ≤ 32768
   valued-few = omega (arith, r .count, values-few (jobKinds (lineJob line)) (jobRest (lineJob line)) 0 (lineWords line), lines-few line (r .few))
 
@@ -194,7 +192,7 @@ module _ {line : List ℕ} {j n : ℕ} {all : Bool} {arr : List ℕ} (r : Valued
 
   pub no-word-line : (s out : List ℕ) → not all ≡ true → Answered line s out (noJob j (n + 2))
   no-word-line s out h =
-      let w = no-words line s out (fails-third (short line) (begun line) (each line) (enough line) (sym (r .tells) ∙ not-true all h)) (r .few) in
+      let w = no-words line s out (fails-third (short line) (begun line) (each line) (enough line) (sym (r .tells) ∙ not-true all h)) (r .few) named in
       rw (r .job, r .count) w
 
   module _ (whole : not all ≡ false) where
@@ -208,7 +206,7 @@ module _ {line : List ℕ} {j n : ℕ} {all : Bool} {arr : List ℕ} (r : Valued
     missing-line s out k e h =
         let i : length (jobKinds (lineJob line)) ≡ k = sym (e ∙ ap (λ (m : ℕ). length (jobKinds m)) (r .job)) in
         let f : enough line ≡ false = lt-leb (length (jobKinds (lineJob line))) (length (lineWords line)) (omega (arith, as-many, r .count)) in
-        let w = no-words line s out (fails-fourth (short line) (begun line) (each line) (enough line) f) (r .few) in
+        let w = no-words line s out (fails-fourth (short line) (begun line) (each line) (enough line) f) (r .few) named in
         rw (r .job, r .count) w
 
     part-is : take (n - 0) arr ≡ lineValues line
@@ -220,7 +218,7 @@ module _ {line : List ℕ} {j n : ℕ} {all : Bool} {arr : List ℕ} (r : Valued
       is-job : isJob line ≡ true
       is-job =
           let i : length (jobKinds (lineJob line)) ≡ k = sym (e ∙ ap (λ (m : ℕ). length (jobKinds m)) (r .job)) in
-          passes (short line) (begun line) (each line) (enough line) (le-leb (length line) 65536 (r .few)) (le-leb 1 (lineJob line) (omega (arith, r .job, r .some))) all-are
+          passes (short line) (begun line) (each line) (enough line) (le-leb (length line) 65536 (r .few)) (le-leb 1 (lineJob line) named) all-are
           (le-leb (length (jobKinds (lineJob line))) (length (lineWords line)) (omega (arith, as-many, r .count)))
 
       pub job-fits : (length (jobKinds j) ≤ length (take (n - 0) arr)) × (length (take (n - 0) arr) ≤ 32768)

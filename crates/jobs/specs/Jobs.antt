@@ -1,9 +1,9 @@
 -- The jobs of the program `edit`: a line of text and a pattern file give an answer, and the file afterwards (docs/GUIDE.md, Edits).
 use Prim.Native.Nat.{ℕ, _+_}
 use mathlib.Core.Bool.{Bool, _&&_}
-use mathlib.Core.List.{List}
+use mathlib.Core.List.{List, [], _∷_}
 use lib.Dec.{eqb, leb}
-use lib.ListN.{drop, length}
+use lib.ListN.{drop, length, take}
 use Rattle.answer_lines.specs.AnswerLines.{refusedText}
 use Rattle.answers.specs.declared.Answer.{Answer}
 use Rattle.forms.specs.Forms.{values}
@@ -45,12 +45,20 @@ lineValues l = values (jobKinds (lineJob l)) (jobRest (lineJob l)) 0 (lineWords 
 abbrev pub isJob : List ℕ → Bool
 isJob l = leb (length l) 65536 && leb 1 (lineJob l) && eqb (length (lineValues l)) (length (lineWords l)) && leb (length (jobKinds (lineJob l))) (length (lineWords l))
 
+-- the byte order mark of UTF-8
+unfoldable pub hasMark : List ℕ → Bool
+hasMark l = leb 3 (length l) && eqb (name (take 3 l)) (name (239 ∷ 187 ∷ 191 ∷ []))
+
+-- a line that begins with no job's name
+unfoldable pub unnamedText : List ℕ → List ℕ
+unnamedText l = pick (hasMark l) (ascii "no job: begins with a byte order mark: save the jobs as UTF-8 without one\n") (noJob 0 2)
+
 unfoldable pub lineText : List ℕ → List ℕ → List ℕ → List ℕ
 lineText l s out =
     let j = lineJob l in
     let vs = lineValues l in
     pick (isJob l) (jobText j vs s out)
-    (pick (leb (length l) 65536) (noJob j (length vs + 2)) (ascii "no job: over 65536 bytes\n"))
+    (pick (leb (length l) 65536) (pick (leb 1 j) (noJob j (length vs + 2)) (unnamedText l)) (ascii "no job: over 65536 bytes\n"))
 
 -- the list afterwards, and the length of the edited file; 0 if the file stays as it is
 unfoldable pub lineOut : List ℕ → List ℕ → List ℕ → List ℕ

@@ -7,7 +7,7 @@ ghost use lib.Seq.{sets};
 ghost use Rattle.lists.specs.Lists.{pick};
 ghost use Rattle.job_lines.specs.JobLines.{jobKinds};
 ghost use Rattle.job_edits.specs.JobEdits.{faceAnswer, faceWires, shellAnswer, shellOut};
-ghost use Rattle.jobs.specs.Jobs.{faceText, jobText, lineLength, lineOut, lineText, shellText};
+ghost use Rattle.jobs.specs.Jobs.{faceText, hasMark, jobText, lineLength, lineOut, lineText, shellText, unnamedText};
 use answer_lines::put_refused;
 use job_edits::face_job;
 use job_edits::shell_job;
@@ -19,6 +19,7 @@ use job_lines::put_new;
 use job_lines::put_no_job;
 use output::put_text;
 use pattern::LONGEST;
+use text::name_of;
 use text::trimmed_length;
 
 // Applies job j, an edit of a face, and writes its answer; returns the length of the answer.
@@ -78,6 +79,31 @@ fn do_job(j: usize, v: &[u64], file: &[u8], out: &mut [u8], text: &mut [u8]) -> 
     }
 }
 
+// Whether a line begins with the byte order mark of UTF-8.
+fn is_marked(line: &[u8]) -> bool
+    ensures { λ r. ⌜ r ≡ hasMark (now (line .entry)) ⌝ }
+{
+    if line.len() < 3 {
+        return false;
+    }
+    name_of(&line[0..3]) == 0x1efbbbf
+}
+
+// Writes the answer to a line that begins with no job's name.
+fn put_unnamed(line: &[u8], text: &mut [u8]) -> usize
+    requires { ⌜ 128 ≤ length (now text) ⌝ }
+    ensures { λ r. ⌜ (now (text .exit) ≡ sets (now (text .entry)) 0 (unnamedText (now (line .entry)))) × (r ≡ length (unnamedText (now (line .entry)))) ⌝ }
+{
+    if is_marked(line) {
+        return put_text(
+            text,
+            0,
+            b"no job: begins with a byte order mark: save the jobs as UTF-8 without one\n",
+        );
+    }
+    put_no_job(text, 0, 2)
+}
+
 // Applies the job that a line of text asks for to a file: `out` takes the edited file, `text` the line of
 // the answer.
 fn apply(line: &[u8], file: &[u8], out: &mut [u8], text: &mut [u8; 65536]) -> Job
@@ -97,7 +123,7 @@ fn apply(line: &[u8], file: &[u8], out: &mut [u8], text: &mut [u8; 65536]) -> Jo
     let end = first.end;
     if j == 0 {
         return Job {
-            text: put_no_job(text, 0, 2),
+            text: put_unnamed(line, text),
             file: 0,
         };
     }

@@ -9,6 +9,8 @@ use Rattle.jobs.specs.Jobs.{lineLength, lineOut, lineText}
 use Rattle.lists.specs.Lists.{pick}
 use Rattle.output.specs.Text.{ascii}
 use Rattle.text.specs.Tokens.{name}
+use Rattle.queue.specs.declared.Choice.{Choice}
+use Rattle.queue.specs.declared.Choice.the-variants.{Miss, Perform, Rehearse, Skip}
 use Rattle.queue.specs.declared.Ending.{Ending}
 use Rattle.queue.specs.declared.Ending.the-variants.{Done, Kept, Skipped, Unread, Unsynced}
 
@@ -26,6 +28,17 @@ edited s out k = pick (leb 1 k && leb k (length out)) (take k out) s
 unfoldable pub fileAfter : List ℕ → List ℕ → List ℕ
 fileAfter l s = edited s (lineOut l s room) (lineLength l s room)
 
+-- what is done with a line: nothing where the queue is stopped; where it only tries, its job in memory if the file was read; else its job on the file
+abbrev pub chosen : Bool → Bool → Bool → Choice
+chosen stopped trial known = pick stopped Skip (pick trial (pick known Rehearse Miss) Perform)
+
+-- how the line ends by that, where its job on the file would end as e
+abbrev pub endingBy : Choice → Ending → Ending
+endingBy Skip e = Skipped
+endingBy Miss e = Unread
+endingBy Rehearse e = Done
+endingBy Perform e = e
+
 -- the answer that is printed, from the job's text
 unfoldable pub answerText : Ending → List ℕ → List ℕ
 answerText Done t = t
@@ -40,7 +53,7 @@ isDone t = eqb (name (take 4 t)) (name (ascii "done")) && (eqb (getD t 4 0) 32 |
 
 -- ---- all lines
 
--- a line, and how its job ends if it is begun
+-- a line, and how its job ends where it is done on the file
 pub record Line : Type 0 where
   pub bytes : List ℕ
   pub ending : Ending
@@ -52,24 +65,25 @@ isReplaced Unsynced = true
 isReplaced Unread = false
 isReplaced Skipped = false
 
--- where the queue is stopped no job is begun
-abbrev pub endingOf : Bool → Line → Ending
-endingOf stopped l = pick stopped Skipped (l .ending)
+-- a queue that only tries or not, on a file that was read or not
+module _ (trial known : Bool) where
+  abbrev pub endingOf : Bool → Line → Ending
+  endingOf stopped l = endingBy (chosen stopped trial known) (l .ending)
 
-abbrev pub lineAnswer : Bool → List ℕ → Line → List ℕ
-lineAnswer stopped s l = answerText (endingOf stopped l) (lineText (l .bytes) s room)
+  abbrev pub lineAnswer : Bool → List ℕ → Line → List ℕ
+  lineAnswer stopped s l = answerText (endingOf stopped l) (lineText (l .bytes) s room)
 
-abbrev pub lineFile : Bool → List ℕ → Line → List ℕ
-lineFile stopped s l = pick (isReplaced (endingOf stopped l)) (fileAfter (l .bytes) s) s
+  abbrev pub lineFile : Bool → List ℕ → Line → List ℕ
+  lineFile stopped s l = pick (isReplaced (endingOf stopped l)) (fileAfter (l .bytes) s) s
 
--- the answers to lines on file s, and the file after them: where it is to stop, the queue is stopped after an answer that is not done
-unfoldable pub answers : Bool → Bool → List ℕ → List Line → List (List ℕ)
-answers stop stopped s [] = []
-answers stop stopped s (l ∷ ls) = let t = lineAnswer stopped s l in t ∷ answers stop (stop && not (isDone t)) (lineFile stopped s l) ls
+  -- the answers to lines on file s, and the file after them: where it is to stop, the queue is stopped after an answer that is not done
+  unfoldable pub answers : Bool → Bool → List ℕ → List Line → List (List ℕ)
+  answers stop stopped s [] = []
+  answers stop stopped s (l ∷ ls) = let t = lineAnswer stopped s l in t ∷ answers stop (stop && not (isDone t)) (lineFile stopped s l) ls
 
-unfoldable pub fileAtEnd : Bool → Bool → List ℕ → List Line → List ℕ
-fileAtEnd stop stopped s [] = s
-fileAtEnd stop stopped s (l ∷ ls) = fileAtEnd stop (stop && not (isDone (lineAnswer stopped s l))) (lineFile stopped s l) ls
+  unfoldable pub fileAtEnd : Bool → Bool → List ℕ → List Line → List ℕ
+  fileAtEnd stop stopped s [] = s
+  fileAtEnd stop stopped s (l ∷ ls) = fileAtEnd stop (stop && not (isDone (lineAnswer stopped s l))) (lineFile stopped s l) ls
 
 -- each is `skipped`
 unfoldable pub AllSkipped : List (List ℕ) → Type 0
@@ -80,3 +94,8 @@ AllSkipped (t ∷ ts) = (t ≡ ascii "skipped\n") × AllSkipped ts
 unfoldable pub Stops : List (List ℕ) → Type 0
 Stops [] = Unit
 Stops (t ∷ ts) = pick (isDone t) (Stops ts) (AllSkipped ts)
+
+-- the file fails none of the jobs: each ends as its text says
+unfoldable pub AllDone : List Line → Type 0
+AllDone [] = Unit
+AllDone (l ∷ ls) = (l .ending ≡ Done) × AllDone ls

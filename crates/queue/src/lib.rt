@@ -7,7 +7,7 @@ ghost use lib.Dec.{ltb};
 ghost use lib.ListN.{length, take};
 ghost use lib.Seq.{sets};
 ghost use Rattle.jobs.specs.Jobs.{lineLength, lineText};
-ghost use Rattle.queue.specs.Queue.{answerText, edited, fileAfter, isDone, room};
+ghost use Rattle.queue.specs.Queue.{answerText, chosen, edited, fileAfter, isDone, room};
 ghost use Rattle.queue.specs.Command.{nextAsked, wordOf};
 use output::put_text;
 use pattern::LONGEST;
@@ -127,6 +127,32 @@ pub fn step(line: &[u8], file: &mut [u8; 41049], n: usize, text: &mut [u8; 65536
         file: put_edited(file, m, &out, k),
         edited: k > 0,
     }
+}
+
+// What is done with a line: it is skipped; it is answered that the file cannot be read; its job is done in
+// memory alone; its job is done on the file.
+pub enum Choice {
+    Skip,
+    Miss,
+    Rehearse,
+    Perform,
+}
+
+// The choice, by whether the queue is stopped, whether it only tries, and whether the file that it tries on
+// was read.
+pub fn choose(stopped: bool, trial: bool, known: bool) -> Choice
+    ensures { λ r. ⌜ r ≡ chosen stopped trial known ⌝ }
+{
+    if stopped {
+        return Choice::Skip;
+    }
+    if trial {
+        if known {
+            return Choice::Rehearse;
+        }
+        return Choice::Miss;
+    }
+    Choice::Perform
 }
 
 // How a line of the queue ended: its job is done or refused as its text says; the file could not be replaced;

@@ -8,13 +8,14 @@ use Rattle.edit.proofs.main.Statement.{statement}
 use Rattle.edit.proofs.main.Tie as tie
 
 abbrev Inv-loop : tie.InvT-loop
-Inv-loop count name₀ n₀ asked₀ k₀ t8 name n asked k = (length name ≡ 4096) × Counts n name
+Inv-loop count name₀ n₀ asked₀ k₀ t8 t9 name n asked k = (length name ≡ 4096) × Counts n name
 
 abbrev μ-loop : tie.MeasureT-loop
-μ-loop count name₀ n₀ asked₀ k₀ t8 name n asked k = count - k
+μ-loop count name₀ n₀ asked₀ k₀ t8 t9 name n asked k = count - k
 
 pub main-spec : {M : Type 1} → statement M
 main-spec = tie.close (tie.spec Inv-loop μ-loop (search needs) (search needs) (search needs) (search needs) (search needs) (search needs)
     (search needs) (search needs) (search needs) (search needs) (search needs) (search needs) (search needs) (search needs) (search needs)
     (search needs) (search needs) (search needs) (search needs) (search needs) (search needs) (search needs) (search needs) (search needs)
-    (search needs) (search needs) (search needs) (search needs) (search needs) (search needs) (search needs) (search needs) (search needs))
+    (search needs) (search needs) (search needs) (search needs) (search needs) (search needs) (search needs) (search needs) (search needs)
+    (search needs) (search needs) (search needs))

@@ -20,18 +20,18 @@ returns c =
 
 returns-2 : tie.Need-returns-2
 returns-2 c =
-    answered _ _ _ (no-name-line (begun (c .before .before .before)) _ _ (c .before .before .if2 .taken)) _ _ _ (c .put-no-job .ensures)
+    answered _ _ _ (no-name-line (begun (c .before .before .before)) _ _ (c .before .before .if2 .taken)) _ _ _ (c .put-unnamed .ensures)
 
 add-put-no-job : tie.Need-add-put-no-job
 add-put-no-job c = omega (arith, valued-few (read (c .before .before .before .before)))
 
 returns-3 : tie.Need-returns-3
 returns-3 c =
-    answered _ _ _ (no-word-line (read (c .before .before .before .before .before)) _ _ (c .before .before .if3 .taken)) _ _ _ (c .put-no-job2 .ensures)
+    answered _ _ _ (no-word-line (read (c .before .before .before .before .before)) _ _ (c .before .before .if3 .taken)) _ _ _ (c .put-no-job .ensures)
 
 returns-4 : tie.Need-returns-4
 returns-4 c =
-    answered _ _ _ (missing-line (read (c .before .before .before .before .before .before .before)) (c .before .before .before .before .if3 .left) _ _ _ (c .before .before .before .needed .ensures .0) (c .before .before .if4 .taken)) _ _ _ (c .put-no-job3 .ensures)
+    answered _ _ _ (missing-line (read (c .before .before .before .before .before .before .before)) (c .before .before .before .before .if3 .left) _ _ _ (c .before .before .before .needed .ensures .0) (c .before .before .if4 .taken)) _ _ _ (c .put-no-job2 .ensures)
 
 part-do-job-end : tie.Need-part-do-job-end
 part-do-job-end c = valued-room (read (c .before .before .before .before .before .before))
