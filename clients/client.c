@@ -1,7 +1,8 @@
 /* A client in C, and the test of the library from C: each call on the triangle of docs/FORMAT.md, with numbers that
- * no pattern has, with null for lists of no entries, then on inputs that no file has. The calls run in
- * threads with small stacks. Prints nothing but what fails; exit status 0 if nothing does. Compiled with
- * another number for LOOKUPS it must fail; tests/run sees to that. */
+ * no pattern has, with null for lists of no entries, then on inputs that no file has; meshes, whole and in
+ * pieces. It is run in the repository, since it reads samples. The calls run in threads with small stacks.
+ * Prints nothing but what fails; exit status 0 if nothing does. Compiled with another number for LOOKUPS it
+ * must fail; tests/run sees to that. */
 #include "wuzsanget.h"
 
 #include <pthread.h>
@@ -446,6 +447,128 @@ static void strange(void)
         }
 }
 
+/* ---- meshes: the coat's, whole and in pieces */
+
+static uint8_t coat[32768], pattern[WUZSANGET_FILE];
+static wuzsanget_mesh mesh;
+
+/* The bytes of a file. Returns their number. */
+static size_t load(const char *name, uint8_t *bytes, size_t room)
+{
+    FILE *f = fopen(name, "rb");
+    size_t n = f ? fread(bytes, 1, room, f) : 0;
+    expect(n > 0 && n < room, name);
+    if (f)
+        fclose(f);
+    return n;
+}
+
+/* Whether `out` has this file, and past it what was lent. */
+static int wrote(const uint8_t *given, size_t n)
+{
+    return memcmp(out, given, n) == 0 && kept(out, sizeof out, n);
+}
+
+static void steps(const uint8_t *bytes, size_t n, size_t size)
+{
+    for (size_t k = 0; k < n; k += size)
+        WUZSANGET_MESH_STEP(&mesh, bytes + k, n - k < size ? n - k : size);
+}
+
+static void meshes(void)
+{
+    static const size_t sizes[5] = {1, 2, 3, 7, 4096};
+    static const uint8_t wrong[] = "v\nv\nv\nf 1 2 4\n";
+    static const uint16_t shell[WUZSANGET_BODIES] = {0, 0, 0, 0, 0, 1, 0};
+    size_t n = load("samples/coat-mesh.obj", coat, sizeof coat);
+    size_t m = load("samples/coat-mesh.pattern", pattern, sizeof pattern);
+    if (n == 0 || m == 0)
+        return;
+    lend();
+    EXPECT(wuzsanget_import(coat, n, out, m - 1), WUZSANGET_REFUSED, 17, m, 0, 0);
+    EXPECT(wuzsanget_import(coat, n, NULL, 0), WUZSANGET_REFUSED, 17, m, 0, 0);
+    EXPECT(wuzsanget_import(wrong, sizeof wrong - 1, out, sizeof out), WUZSANGET_REFUSED, 31, 4, 0, 0);
+    expect(all_kept(), "a refused mesh");
+    EXPECT(wuzsanget_import(coat, n, out, m), WUZSANGET_DONE, 0, m, 0, 0);
+    expect(wrote(pattern, m), "the pattern of the mesh");
+
+    for (int k = 0; k < 5; k++) {
+        lend();
+        memset(&mesh, 0xa5, sizeof mesh);
+        WUZSANGET_MESH_START(&mesh);
+        steps(wrong, sizeof wrong - 1, sizes[k]);
+        EXPECT(WUZSANGET_MESH_FINISH(&mesh, out, sizeof out), WUZSANGET_REFUSED, 31, 4, 0, 0);
+        WUZSANGET_MESH_START(&mesh);
+        steps(coat, n, sizes[k]);
+        EXPECT(WUZSANGET_MESH_FINISH(&mesh, out, m - 1), WUZSANGET_REFUSED, 17, m, 0, 0);
+        EXPECT(WUZSANGET_MESH_FINISH(&mesh, NULL, 0), WUZSANGET_REFUSED, 17, m, 0, 0);
+        expect(all_kept(), "a refused mesh in pieces");
+        EXPECT(WUZSANGET_MESH_FINISH(&mesh, out, sizeof out), WUZSANGET_DONE, 0, m, 0, 0);
+        expect(wrote(pattern, m), "the pattern of the mesh in pieces");
+    }
+
+    /* No bytes: one shell without listings. */
+    EXPECT(wuzsanget_import(NULL, 0, out, sizeof out), WUZSANGET_DONE, 0, 58, 0, 0);
+    EXPECT(wuzsanget_counts(out, 58, counts), WUZSANGET_DONE, 0, 0, 0, 0);
+    expect(memcmp(counts, shell, sizeof shell) == 0, "the counts of an empty mesh");
+    memcpy(pattern, out, 58);
+    lend();
+    WUZSANGET_MESH_START(&mesh);
+    WUZSANGET_MESH_STEP(&mesh, NULL, 0);
+    EXPECT(WUZSANGET_MESH_FINISH(&mesh, out, sizeof out), WUZSANGET_DONE, 0, 58, 0, 0);
+    expect(wrote(pattern, 58), "an empty mesh in pieces");
+}
+
+/* The mesh as it is goes on with the second half of the coat's. Returns whether it is done; then what it wrote is a
+ * pattern. */
+static int goes_on(size_t n)
+{
+    wuzsanget_answer a;
+    lend();
+    WUZSANGET_MESH_STEP(&mesh, coat + n / 2, n - n / 2);
+    a = WUZSANGET_MESH_FINISH(&mesh, out, sizeof out);
+    if (a.outcome != WUZSANGET_DONE) {
+        expect(all_kept(), "a mesh that is refused");
+        return 0;
+    }
+    EXPECT(wuzsanget_read(out, a.first), WUZSANGET_DONE, 0, 0, 0, 0);
+    expect(kept(out, sizeof out, a.first), "entries past the pattern");
+    return 1;
+}
+
+/* A mesh of any content, not started: every call returns. Then one of which a number, an entry of a list, or both were
+ * changed after half of it was read: some are done. */
+static void any_mesh(void)
+{
+    static const uint8_t ends[] = "\nf 1 2 3\n";
+    size_t n = load("samples/coat-mesh.obj", coat, sizeof coat);
+    uint8_t *bytes = (uint8_t *)&mesh;
+    int done = 0;
+    memset(&mesh, 0xff, sizeof mesh);
+    goes_on(n);
+    for (int k = 0; k < 200; k++) {
+        for (size_t i = 0; i < sizeof mesh; i++)
+            bytes[i] = (uint8_t)random_bits();
+        if (k % 2)
+            for (int i = 0; i < 24; i++)
+                mesh.numbers[i] >>= random_bits() % 64;
+        if (k % 4 == 3)
+            mesh.numbers[1] %= 5;
+        steps(ends, sizeof ends - 1, 1 + random_bits() % 9);
+        goes_on(n);
+    }
+    for (int k = 0; k < 1000; k++) {
+        WUZSANGET_MESH_START(&mesh);
+        steps(coat, n / 2, 4096);
+        if (k % 2)
+            mesh.numbers[random_bits() % 24] = random_bits() >> random_bits() % 48;
+        if (k % 3)
+            bytes[random_bits() % sizeof mesh] = (uint8_t)random_bits();
+        done += goes_on(n);
+    }
+    expect(done > 0 && done < 1000, "meshes with a changed number");
+}
+
 /* ---- the threads */
 
 static uint8_t file[WUZSANGET_FILE];
@@ -466,6 +589,8 @@ static void *all_else(void *unused)
     rooms();
     unnamed(file, n);
     nulls(file, n);
+    meshes();
+    any_mesh();
     strange();
     return unused;
 }

@@ -1,10 +1,14 @@
 // A client in C++, and the test of the library from C++: a pattern as a value that owns its file, edits that
-// give a new one, refusals as exceptions. It asks about docs/FORMAT.md's two triangles that share a point alone.
+// give a new one, refusals as exceptions. It asks about docs/FORMAT.md's two triangles that share a point alone, and
+// about the mesh of a coat, which it reads from samples in the repository, where it is run.
 // Prints nothing but what fails; exit status 0 if nothing does.
 #include "wuzsanget.h"
 
 #include <cstdio>
 #include <cstring>
+#include <fstream>
+#include <iterator>
+#include <memory>
 #include <stdexcept>
 #include <string>
 #include <utility>
@@ -82,6 +86,14 @@ public:
         Bytes out(WUZSANGET_FILE), said(WUZSANGET_SAID), bytes(text.begin(), text.end());
         wuzsanget_answer a = done(wuzsanget_draft(bytes.data(), bytes.size(), out.data(), said.data()));
         out.resize(a.first);
+        return Pattern(std::move(out));
+    }
+
+    // The pattern of a mesh.
+    static Pattern of_mesh(const Bytes &mesh)
+    {
+        Bytes out(WUZSANGET_FILE);
+        out.resize(done(wuzsanget_import(mesh.data(), mesh.size(), out.data(), out.size())).first);
         return Pattern(std::move(out));
     }
 
@@ -205,9 +217,31 @@ public:
     }
 };
 
+// A mesh that comes in pieces. A copy goes its own way.
+class Mesh {
+    wuzsanget_mesh mesh_;
+
+public:
+    Mesh() : mesh_() { WUZSANGET_MESH_START(&mesh_); }
+    // With these bytes as its content.
+    explicit Mesh(const Bytes &content) : mesh_() { std::memcpy(&mesh_, content.data(), sizeof mesh_); }
+
+    void step(const Bytes &piece) { WUZSANGET_MESH_STEP(&mesh_, piece.data(), piece.size()); }
+
+    wuzsanget_answer finish(Bytes &out) { return WUZSANGET_MESH_FINISH(&mesh_, out.data(), out.size()); }
+
+    Pattern pattern()
+    {
+        Bytes out(WUZSANGET_FILE);
+        out.resize(done(finish(out)).first);
+        return Pattern(std::move(out));
+    }
+};
+
 } // namespace wuzsanget
 
 using wuzsanget::Bytes;
+using wuzsanget::Mesh;
 using wuzsanget::Pattern;
 using wuzsanget::Refused;
 using wuzsanget::Uses;
@@ -297,6 +331,83 @@ static void unnamed(const Pattern &p)
     expect(refused([&] { p.cut_edge(0, 65542, 5, 0.5); }) == 3, "edge 65542");
 }
 
+static Bytes loaded(const char *name)
+{
+    std::ifstream file(name, std::ios::binary);
+    expect(file.good(), name);
+    return Bytes(std::istreambuf_iterator<char>(file), std::istreambuf_iterator<char>());
+}
+
+static std::vector<Bytes> pieces(const Bytes &all, std::size_t size)
+{
+    std::vector<Bytes> parts;
+    for (auto at = all.begin(); at != all.end();) {
+        auto left = static_cast<std::size_t>(all.end() - at);
+        auto end = at + static_cast<std::ptrdiff_t>(left < size ? left : size);
+        parts.emplace_back(at, end);
+        at = end;
+    }
+    return parts;
+}
+
+static bool refused_with(const wuzsanget_answer &a, std::size_t number, std::size_t first)
+{
+    return a.outcome == WUZSANGET_REFUSED && a.number == number && a.first == first;
+}
+
+static void meshes()
+{
+    const Bytes coat = loaded("samples/coat-mesh.obj"), file = loaded("samples/coat-mesh.pattern");
+    const std::string text = "v\nv\nv\nf 1 2 4\n";
+    const Bytes wrong(text.begin(), text.end());
+    if (coat.empty() || file.empty())
+        return;
+    Bytes out(file.size() - 1, 7);
+    const Bytes lent = out;
+
+    expect(Pattern::of_mesh(coat).file() == file, "the pattern of a mesh");
+    expect(Pattern::of_mesh(Bytes()).counts() == Uses({0, 0, 0, 0, 0, 1, 0}), "no mesh");
+    expect(Mesh().pattern().file() == Pattern::of_mesh(Bytes()).file(), "no pieces");
+    expect(refused_with(wuzsanget_import(wrong.data(), wrong.size(), out.data(), out.size()), 31, 4) && out == lent,
+           "a mesh that names a point too many");
+    expect(refused_with(wuzsanget_import(coat.data(), coat.size(), out.data(), out.size()), 17, file.size()) &&
+               out == lent,
+           "a list that is too short");
+
+    for (std::size_t size : {1, 2, 3, 7, 4096}) {
+        std::unique_ptr<Mesh> mesh(new Mesh), refused(new Mesh);
+        for (const Bytes &piece : pieces(wrong, size))
+            refused->step(piece);
+        expect(refused_with(refused->finish(out), 31, 4) && out == lent, "a refused mesh in pieces");
+        for (const Bytes &piece : pieces(coat, size)) {
+            mesh->step(piece);
+            mesh.reset(new Mesh(*mesh));
+        }
+        expect(refused_with(mesh->finish(out), 17, file.size()) && out == lent, "pieces and a short list");
+        expect(mesh->pattern().file() == file, "the pattern of a mesh in pieces");
+    }
+
+    // Any content, not started: an answer, and what is written is a pattern.
+    Bytes content(sizeof(wuzsanget_mesh), 0xff);
+    std::uint32_t state = 1;
+    for (int k = 0; k < 100; k++) {
+        std::unique_ptr<Mesh> mesh(new Mesh(content));
+        mesh->step(coat);
+        try {
+            mesh->pattern();
+        } catch (const Refused &r) {
+            expect(r.answer.number > 0, "a refusal without a number");
+        }
+        for (std::uint8_t &byte : content) {
+            state = state * 1664525 + 1013904223;
+            byte = static_cast<std::uint8_t>(state >> 24);
+        }
+        // Else a place in a line that no line has: refused at once.
+        if (k % 2)
+            std::memset(content.data() + 8, 0, 8);
+    }
+}
+
 int main()
 {
     expect(wuzsanget_version() == WUZSANGET_VERSION, "the version");
@@ -359,5 +470,6 @@ int main()
     expect(refused([&] { p.glue(0, 1 + turned); }) == WUZSANGET_FACES_DIFFER, "faces of two signs");
 
     unnamed(p);
+    meshes();
     return failures != 0;
 }

@@ -1,16 +1,18 @@
 #!/usr/bin/env python3
 """A client in Python, and the test of the library from Python: the functions of include/wuzsanget.h by ctypes, on
-the tetrahedron of docs/FORMAT.md. Prints nothing; exit status 0 if nothing fails.
+the tetrahedron of docs/FORMAT.md and the mesh of a coat. Prints nothing; exit status 0 if nothing fails.
 
     clients/client.py LIBRARY      the library as a shared object, which clients/run makes
 """
 import ctypes
+import pathlib
+import random
 import struct
 import sys
 
 size, u8s, u16s = ctypes.c_size_t, ctypes.POINTER(ctypes.c_uint8), ctypes.POINTER(ctypes.c_uint16)
 
-VERSION = 1
+VERSION = 2
 FILE, REPORT, SHOW, SAID, LINE, BODIES, POINTS, WIRES, LISTINGS = 41048, 1126400, 262144, 256, 65536, 7, 2048, 1024, 512
 REVERSED = 32768
 HALF = struct.unpack("<Q", struct.pack("<d", 0.5))[0]
@@ -22,6 +24,27 @@ class Answer(ctypes.Structure):
 
 class Job(ctypes.Structure):
     _fields_ = [("text", size), ("file", size)]
+
+
+class Mesh(ctypes.Structure):
+    """A mesh that comes in pieces."""
+
+    _fields_ = [
+        ("numbers", ctypes.c_uint64 * 24),
+        ("spans", ctypes.c_double * 2048),
+        ("tables", ctypes.c_uint16 * 12312),
+        ("index", ctypes.c_uint16 * 17408),
+    ]
+
+    def start(self):
+        call("import_start", self.numbers, self.index)
+        return self
+
+    def step(self, piece):
+        call("import_step", self.numbers, self.tables, self.spans, self.index, *lent(piece))
+
+    def finish(self, out):
+        return call("import_finish", self.numbers, self.tables, self.spans, self.index, out, len(out))
 
 
 class Refused(Exception):
@@ -55,10 +78,19 @@ def declared(library):
         ("cut_by_edge", Answer, [size, size, *face]),
         ("glue", Answer, [size, size, *face]),
         ("edit", Job, [u8s, size, u8s, u8s]),
+        ("import", Answer, [u8s, size]),
     ):
         function = getattr(library, "wuzsanget_" + name)
         function.restype, function.argtypes = result, [*file, *more]
-    library.wuzsanget_version.restype, library.wuzsanget_version.argtypes = size, []
+    mesh = [ctypes.POINTER(ctypes.c_uint64), u16s, ctypes.POINTER(ctypes.c_double), u16s]
+    for name, result, types in (
+        ("version", size, []),
+        ("import_start", None, [mesh[0], mesh[3]]),
+        ("import_step", None, [*mesh, u8s, size]),
+        ("import_finish", Answer, [*mesh, u8s, size]),
+    ):
+        function = getattr(library, "wuzsanget_" + name)
+        function.restype, function.argtypes = result, types
     return library
 
 
@@ -263,11 +295,64 @@ def nulls(file):
     same(edit(b"", b"")[0], "no job: begin with cut, remove, concat, point, add, cutface or glue\n")
 
 
+def meshes():
+    """The mesh of a coat, whole and in pieces."""
+    samples = pathlib.Path(__file__).resolve().parent.parent / "samples"
+    mesh, file = (samples.joinpath(f"coat-mesh.{kind}").read_bytes() for kind in ("obj", "pattern"))
+    wrong = b"v\nv\nv\nf 1 2 4\n"
+    n = len(file)
+
+    def answered(a, out, values, written=b""):
+        """An answer with these first values; the list has what was written, and after that what it had."""
+        same((a.outcome, a.number, a.first, a.second, a.third, a.fourth), (*values, 0, 0, 0))
+        same(bytes(out), written + b"\7" * (len(out) - len(written)))
+
+    def room(length=FILE):
+        return (ctypes.c_uint8 * length)(*[7] * length)
+
+    def imported(given, out, *told):
+        answered(call("import", *lent(given), out, len(out)), out, *told)
+
+    imported(mesh, room(), (0, 0, n), file)
+    imported(mesh, room(n - 1), (2, 17, n))
+    imported(wrong, room(), (2, 31, 4))
+    for size in (1, 2, 3, 7, 4096):
+        for given in (wrong, mesh):
+            m = Mesh().start()
+            for k in range(0, len(given), size):
+                m.step(given[k : k + size])
+            if given == wrong:
+                out = room()
+                answered(m.finish(out), out, (2, 31, 4))
+        for out, values, written in ((room(n - 1), (2, 17, n), b""), (room(), (0, 0, n), file)):
+            answered(m.finish(out), out, values, written)
+    # No bytes: one shell without listings.
+    none = struct.pack("<14I", *(56, 0) * 5, 56, 1, 58, 0) + bytes(2)
+    imported(b"", room(), (0, 0, 58), none)
+    m, out = Mesh().start(), room()
+    m.step(b"")
+    answered(m.finish(out), out, (0, 0, 58), none)
+    # Any content, not started: an answer, and what is written is a pattern.
+    chance = random.Random(1)
+    contents = [b"\xff" * ctypes.sizeof(Mesh), *(chance.randbytes(ctypes.sizeof(Mesh)) for _ in range(50))]
+    for k, content in enumerate(contents):
+        m, out = Mesh.from_buffer_copy(content), room()
+        if k % 2:  # else a place in a line that no line has: refused at once
+            m.numbers[1] = k % 5
+        m.step(mesh)
+        a = m.finish(out)
+        if a.outcome == 0:
+            done("read", *lent(out[: a.first]))
+        else:
+            same(bytes(out), b"\7" * FILE)
+
+
 def main():
     same(call("version"), VERSION)
     file = tetrahedron()
     for part in (reports, edits, unnamed, nulls):
         part(file)
+    meshes()
 
 
 main()

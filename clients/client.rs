@@ -1,5 +1,6 @@
 //! A client in Rust, and the test of the library from Rust: the functions of include/wuzsanget.h with
-//! slices, called on the triangle of docs/FORMAT.md. Prints nothing; exit status 0 if nothing fails.
+//! slices, called on the triangle of docs/FORMAT.md and on the mesh of a coat. Prints nothing; exit status 0 if
+//! nothing fails.
 
 /// An answer, as in include/wuzsanget.h.
 #[repr(C)]
@@ -21,7 +22,17 @@ struct Job {
     file: usize,
 }
 
-const VERSION: usize = 1;
+/// A mesh that comes in pieces.
+#[repr(C)]
+#[derive(Clone)]
+struct Mesh {
+    numbers: [u64; 24],
+    spans: [f64; 2_048],
+    tables: [u16; 12_312],
+    index: [u16; 17_408],
+}
+
+const VERSION: usize = 2;
 const FILE: usize = 41_048;
 const REPORT: usize = 1_126_400;
 const SHOW: usize = 262_144;
@@ -61,6 +72,16 @@ mod c {
             file: *const u8, n: usize, label: usize, out: *mut u8, m: usize,
         ) -> Answer;
         pub fn wuzsanget_draft(text: *const u8, n: usize, out: *mut u8, said: *mut u8) -> Answer;
+        pub fn wuzsanget_import(mesh: *const u8, n: usize, out: *mut u8, m: usize) -> Answer;
+        pub fn wuzsanget_import_start(numbers: *mut u64, index: *mut u16);
+        pub fn wuzsanget_import_step(
+            numbers: *mut u64, tables: *mut u16, spans: *mut f64, index: *mut u16, piece: *const u8,
+            n: usize,
+        );
+        pub fn wuzsanget_import_finish(
+            numbers: *mut u64, tables: *mut u16, spans: *mut f64, index: *mut u16, out: *mut u8,
+            m: usize,
+        ) -> Answer;
         pub fn wuzsanget_add_boundary(
             file: *const u8, n: usize, face: usize, wire: *const u16, k: usize,
             uses: *mut u16, m: usize, lengths: *mut u16, l: usize,
@@ -127,6 +148,44 @@ fn draft(text: &[u8]) -> Result<Vec<u8>, String> {
     };
     out.truncate(a.first);
     if a.outcome == 0 { Ok(out) } else { Err(text_of(said, a.third)) }
+}
+
+/// Writes the file of a mesh.
+fn import(mesh: &[u8], out: &mut [u8]) -> Answer {
+    unsafe { c::wuzsanget_import(mesh.as_ptr(), mesh.len(), out.as_mut_ptr(), out.len()) }
+}
+
+impl Mesh {
+    /// With one number and one entry everywhere.
+    fn filled(number: u64, entry: u16) -> Box<Mesh> {
+        let spans = [f64::from_bits(number); 2_048];
+        Box::new(Mesh { numbers: [number; 24], spans, tables: [entry; 12_312], index: [entry; 17_408] })
+    }
+
+    fn start() -> Box<Mesh> {
+        let mut m = Mesh::filled(0, 0);
+        unsafe { c::wuzsanget_import_start(m.numbers.as_mut_ptr(), m.index.as_mut_ptr()) };
+        m
+    }
+
+    fn step(&mut self, piece: &[u8]) {
+        unsafe {
+            c::wuzsanget_import_step(
+                self.numbers.as_mut_ptr(), self.tables.as_mut_ptr(), self.spans.as_mut_ptr(),
+                self.index.as_mut_ptr(), piece.as_ptr(), piece.len(),
+            )
+        }
+    }
+
+    /// Writes the file of the mesh that was read.
+    fn finish(&mut self, out: &mut [u8]) -> Answer {
+        unsafe {
+            c::wuzsanget_import_finish(
+                self.numbers.as_mut_ptr(), self.tables.as_mut_ptr(), self.spans.as_mut_ptr(),
+                self.index.as_mut_ptr(), out.as_mut_ptr(), out.len(),
+            )
+        }
+    }
 }
 
 /// The answer of a job, and the edited file if there is one.
@@ -287,6 +346,59 @@ fn answer(outcome: usize, number: usize, first: usize, second: usize, third: usi
     Answer { outcome, number, first, second, third, fourth: 0 }
 }
 
+/// The mesh of a coat, whole and in pieces.
+fn meshes() {
+    let mesh = include_bytes!("../samples/coat-mesh.obj");
+    let file = include_bytes!("../samples/coat-mesh.pattern");
+    let wrong = b"v\nv\nv\nf 1 2 4\n";
+    let done = answer(0, 0, file.len(), 0, 0);
+    let short = answer(2, 17, file.len(), 0, 0);
+    let mut out = vec![7; FILE];
+    let lent = out.clone();
+    assert_eq!(import(mesh, &mut out[..file.len() - 1]), short);
+    assert_eq!(import(mesh, &mut []), short);
+    assert_eq!(import(wrong, &mut out), answer(2, 31, 4, 0, 0));
+    assert_eq!(out, lent);
+    assert_eq!(import(mesh, &mut out), done);
+    assert_eq!((&out[..file.len()], &out[file.len()..]), (&file[..], &lent[file.len()..]));
+
+    for size in [1, 2, 3, 7, 4_096] {
+        let (mut m, mut refused, mut out) = (Mesh::start(), Mesh::start(), lent.clone());
+        wrong.chunks(size).for_each(|piece| refused.step(piece));
+        assert_eq!(refused.finish(&mut out), answer(2, 31, 4, 0, 0));
+        mesh.chunks(size).for_each(|piece| m.step(piece));
+        assert_eq!(m.finish(&mut out[..file.len() - 1]), short);
+        assert_eq!(out, lent);
+        assert_eq!(m.finish(&mut out), done);
+        assert_eq!((&out[..file.len()], &out[file.len()..]), (&file[..], &lent[file.len()..]));
+    }
+
+    // No bytes: one shell without listings.
+    let mut out = vec![0; FILE];
+    assert_eq!(unsafe { c::wuzsanget_import(std::ptr::null(), 0, out.as_mut_ptr(), FILE) }, answer(0, 0, 58, 0, 0));
+    assert_eq!(counts(&out[..58]), Ok([0, 0, 0, 0, 0, 1, 0]));
+    assert_eq!(Mesh::start().finish(&mut out), answer(0, 0, 58, 0, 0));
+
+    // Any content, not started: an answer, and what is written is a pattern.
+    let mut state = 1u64;
+    let mut random = || {
+        state = state.wrapping_mul(6_364_136_223_846_793_005).wrapping_add(1_442_695_040_888_963_407);
+        state >> 16
+    };
+    for k in 0..100 {
+        let mut m = Mesh::filled(u64::MAX, u16::MAX);
+        if k > 0 {
+            m.numbers.fill_with(|| random() >> (random() % 48));
+            m.spans.fill_with(|| f64::from_bits(random() << 16));
+            m.tables.fill_with(|| random() as u16);
+            m.index.fill_with(|| random() as u16);
+        }
+        m.step(mesh);
+        let a = m.finish(&mut out);
+        assert!(a.outcome != 0 || read(&out[..a.first]) == answer(0, 0, 0, 0, 0));
+    }
+}
+
 fn main() {
     assert_eq!(unsafe { c::wuzsanget_version() }, VERSION);
     let file = triangle();
@@ -380,4 +492,6 @@ fn main() {
         assert_eq!(glue(&file, up, 0), Err(unnamed));
         assert_eq!(glue(&file, 0, up), Err(unnamed));
     }
+
+    meshes();
 }

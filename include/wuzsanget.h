@@ -9,7 +9,7 @@
  *
  * A list that a call writes to may not overlap any other list of that call: `out` may not be `file`, nor
  * share memory with it. Such a list keeps every entry past what is written, and all of them when the call
- * is refused; only a `text` or a `said` is written then too, and says the refusal.
+ * is refused; only a `text` or a `said`, which say the refusal, and the lists of a wuzsanget_mesh are written then too.
  *
  * Records are numbered from 0. A use is an edge's number, plus 32,768 if reversed. A listing is a face's
  * number, plus 32,768 if reversed; so is every face that is given to a call. A number that names nothing is
@@ -30,7 +30,8 @@ extern "C" {
 #define WUZSANGET_VERSION 2
 
 /* The stack that suffices for any call, in bytes. Measured on the library as it is compiled today:
- * wuzsanget_draft takes some 1,075 KiB, wuzsanget_edit some 415 KiB, no other call more than 110 KiB. */
+ * wuzsanget_draft takes some 1,075 KiB, wuzsanget_edit some 415 KiB, no other call more than 110 KiB;
+ * wuzsanget_import some 80 KiB, and the calls for a mesh in pieces at most 6 KiB, beside the mesh itself. */
 #define WUZSANGET_STACK 1310720
 
 /* ---- Rooms, in entries: of bytes for files and texts, else of numbers */
@@ -171,8 +172,8 @@ wuzsanget_answer wuzsanget_draft(const uint8_t *text, size_t text_length, uint8_
  * than the file; first: the file's length. */
 wuzsanget_answer wuzsanget_import(const uint8_t *mesh, size_t mesh_length, uint8_t *out, size_t out_length);
 
-/* A mesh that comes in pieces. What is in it is the library's alone; any content is taken to an answer, but only
- * that of start, and of steps after it, means anything. It may be moved and copied. */
+/* A mesh that comes in pieces, of 76,016 bytes. What is in it is the library's alone; any content is taken to an
+ * answer, but only that of start, and of steps after it, means anything. It may be moved and copied. */
 typedef struct wuzsanget_mesh {
     uint64_t numbers[24];
     double spans[2048];
