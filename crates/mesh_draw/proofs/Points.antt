@@ -53,3 +53,7 @@ module _ {m : Mesh} {us : List ℕ} {f : Filled} {p : Pattern} {index : List ℕ
     labels = tabled-over 2048 (p .points) (m .points) (n % 4294967296 ∷ []) (omega (arith, k .points)) (k .labels);
     edges = edges-pointed c (p .points);
   }
+
+-- with more points than the limit only they are kept
+pub points-alone : (m m′ : Mesh) {us us′ : List ℕ} {f : Filled} {p : Pattern} {index : List ℕ} → 2048 < length (m .points) → m′ .points ≡ m .points → Kept m us f p index → Kept m′ us′ f p index
+points-alone m m′ h e k = record { points = rw e (k .points); labels = rw e (k .labels); edges = rw e (λ (l : length (m .points) ≤ 2048). absurd (omega arith)) }

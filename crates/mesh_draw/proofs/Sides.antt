@@ -16,6 +16,7 @@ use Rattle.lists.proofs.Flat.{getD-tabulate}
 use Rattle.lists.proofs.Laws.{cases, length-tabulate}
 use Rattle.lists.specs.Lists.{pick}
 use Rattle.mesh.specs.Mesh.{Mesh, between, joins, place, sideUse, withSide}
+use Rattle.mesh_draw.proofs.Points.{points-alone}
 use Rattle.mesh_draw.specs.Kept.{EdgesKept, Kept, SidesKept, withEdges}
 use Rattle.mesh_draw.specs.declared.Filled.{Filled}
 use Rattle.mesh_edges.specs.Index.{Indexed}
@@ -73,7 +74,7 @@ module _ {m : Mesh} {us : List ℕ} {f : Filled} (t : List ℕ) (spans : List Fl
 
   -- more points than the limit
   pub kept-many : 2048 < f .points → Done f P index
-  kept-many h = record { points = k .points; labels = k .labels; edges = λ g. absurd (omega (arith, k .points)) }
+  kept-many h = points-alone m (withEdges m (withSide Es p q)) (omega (arith, k .points)) refl k
 
   module _ (few : f .points ≤ 2048) where
     given : EdgesKept m us f P index

@@ -14,6 +14,7 @@ use Rattle.mesh.specs.Reading.{State, closeFace, cornered, endLine, endWord, ke
 use Rattle.mesh.specs.declared.Corner.{Corner}
 use Rattle.mesh.specs.declared.Corner.the-variants.{At, Not}
 use Rattle.mesh.specs.declared.LineFault.the-variants.{NotGiven, NotNumber, TooFew}
+use Rattle.mesh_draw.proofs.Points.{points-alone}
 use Rattle.mesh_draw.specs.Kept.{Kept, withEdges, withWire}
 use Rattle.mesh_draw.specs.declared.Filled.{Filled}
 use Rattle.mesh_words.specs.Following.{Follows, Reads}
@@ -21,10 +22,6 @@ use Rattle.mesh_words.specs.declared.Reader.{Reader}
 use Rattle.pattern.specs.Contents.{Pattern}
 
 -- ---- a face is closed
-
--- with too many points only these are kept
-kept-many : (m m′ : Mesh) {us us′ : List ℕ} {f : Filled} {p : Pattern} {index : List ℕ} → 2048 < length (m .points) → m′ .points ≡ m .points → Kept m us f p index → Kept m′ us′ f p index
-kept-many m m′ h e k = record { points = rw e (k .points); labels = rw e (k .labels); edges = rw e (λ (l : length (m .points) ≤ 2048). absurd (omega arith)) }
 
 pub kept-closed : {st : State} {r : Reader} {p : Pattern} {index : List ℕ} → Reads st r p index → 0 < st .face .corners → (f : Filled) (q : Pattern) (index′ : List ℕ)
     → let es = st .mesh .edges in
@@ -34,7 +31,7 @@ unfolding closeFace
 kept-closed {st} g some f q index′ k =
     ⊎-elim
     (λ (h : leb (length (st .mesh .points)) 2048 ≡ true). let e = g .ends (leb-true (length (st .mesh .points)) 2048 h) some in rw (e .last, e .first) at k)
-    (λ (h : leb (length (st .mesh .points)) 2048 ≡ false). kept-many _ (closeFace st) (leb-false (length (st .mesh .points)) 2048 h) refl k)
+    (λ (h : leb (length (st .mesh .points)) 2048 ≡ false). points-alone _ (closeFace st) (leb-false (length (st .mesh .points)) 2048 h) refl k)
     (cases (leb (length (st .mesh .points)) 2048))
 
 -- ---- no word goes on after its end

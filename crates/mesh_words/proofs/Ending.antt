@@ -17,6 +17,7 @@ use Rattle.mesh.specs.declared.Corner.{Corner}
 use Rattle.mesh.specs.declared.Corner.the-variants.{At, Not}
 use Rattle.mesh.specs.declared.LineFault.{LineFault}
 use Rattle.mesh.specs.declared.LineFault.the-variants.{NotGiven, NotNumber, TooFew}
+use Rattle.mesh_draw.proofs.Points.{points-alone}
 use Rattle.mesh_draw.proofs.Tables.{tabled-whole}
 use Rattle.mesh_draw.specs.Kept.{Kept, withEdges}
 use Rattle.mesh_draw.specs.declared.Filled.{Filled}
@@ -112,8 +113,7 @@ module _ (m : Mesh) (us : List ℕ) (f : Filled) (p : Pattern) (index : List ℕ
       ⊎-elim
       (λ (h : leb (length (m .points)) 2048 ≡ true). let few = leb-true (length (m .points)) 2048 h in rw (← from few, ← to few) k)
       (λ (h : leb (length (m .points)) 2048 ≡ false).
-      let many = leb-false (length (m .points)) 2048 h in
-      record { points = k .points; labels = k .labels; edges = λ few. absurd (omega arith) })
+      points-alone _ _ (leb-false (length (m .points)) 2048 h) refl k)
       (cases (leb (length (m .points)) 2048))
 
 module _ {st : State} {r : Reader} {p : Pattern} {index : List ℕ} (f : Follows st r p index) (at : st .place ≡ 4) {a q : ℕ}

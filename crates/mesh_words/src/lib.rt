@@ -170,7 +170,7 @@ impl Reader {
     fn end_corner(mut self, t: &mut Tables, spans: &mut Spans, index: &mut Index) -> Reader
         ensures { λ r. ⌜ ((st : State) → Follows st self (held (now (t .entry)) (now (spans .entry))) (now (index .entry)) → st .place ≡ 4 → Follows (endWord st) r (held (now (t .exit)) (now (spans .exit))) (now (index .exit))) ⌝ }
     {
-        // No word has more in its table.
+        // A word keeps at most 11 bytes.
         let n = self.length;
         if n > 11 {
             return self;
