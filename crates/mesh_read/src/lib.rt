@@ -1,14 +1,17 @@
 // The bytes of a mesh, piece by piece.
 ghost use mathlib.Core.List.{List, [], _++_};
 ghost use mathlib.Core.Path.{_≡_};
-ghost use Prim.Native.Nat.{_%_, _<_, suc, ℕ};
+ghost use Prim.Native.Nat.{_%_, _+_, _<_, _≤_, suc, ℕ};
+ghost use lib.ListN.{drop, length};
 ghost use Rattle.mesh.specs.Mesh.{Mesh};
 ghost use Rattle.mesh.specs.Reading.{State, byte, closeFace, endLine, start};
 ghost use Rattle.mesh_draw.specs.Kept.{Kept};
 ghost use Rattle.mesh_read.specs.Pieces.{HasRead};
+ghost use Rattle.mesh_read.specs.Runs.{isBreak, stops};
 ghost use Rattle.mesh_words.specs.Following.{Follows};
 ghost use Rattle.pattern.specs.Contents.{Pattern};
 ghost use Rattle.store.specs.Store.{held};
+ghost use Rattle.text.specs.Text.{before};
 use mesh_draw::add_face;
 use mesh_draw::add_side;
 use mesh_edges::Index;
@@ -97,6 +100,50 @@ fn byte(from: Reader, b: u8, t: &mut Tables, spans: &mut Spans, index: &mut Inde
     r.ink(b)
 }
 
+fn is_break(b: u8) -> bool
+    ensures { λ r. ⌜ r ≡ isBreak b ⌝ }
+{
+    if b == b' ' {
+        return true;
+    }
+    if b == b'\t' {
+        return true;
+    }
+    if b == b'\n' {
+        return true;
+    }
+    b == b'\r'
+}
+
+// Where the bytes of a word end.
+fn ink_end(text: &[u8], from: usize) -> usize
+    requires { ⌜ from ≤ length (now text) ⌝ }
+    ensures { λ r. ⌜ (r ≡ from + length (before isBreak (drop from (now (text .entry))))) × (r ≤ length (now (text .entry))) ⌝ }
+{
+    let mut i = from;
+    while i < text.len() {
+        if is_break(text[i]) {
+            break;
+        }
+        i += 1;
+    }
+    i
+}
+
+// Where the bytes end that are read alike: passed over with the rest of a line, or put to a word.
+fn run_end(place: usize, held: bool, text: &[u8], from: usize) -> usize
+    requires { ⌜ from ≤ length (now text) ⌝ }
+    ensures { λ r. ⌜ (r ≡ from + length (before (stops place held) (drop from (now (text .entry))))) × (r ≤ length (now (text .entry))) ⌝ }
+{
+    if place == REST {
+        return line_end(text, from);
+    }
+    if held {
+        return from;
+    }
+    ink_end(text, from)
+}
+
 // A piece of the mesh.
 pub fn step(
     from: Reader,
@@ -110,14 +157,18 @@ pub fn step(
     let mut r = from;
     let mut i: usize = 0;
     while i < piece.len() {
-        if r.place == REST {
-            i = line_end(piece, i);
-            if i >= piece.len() {
-                return r;
-            }
+        if r.place >= REFUSED {
+            return r;
         }
-        r = byte(r, piece[i], t, spans, index);
-        i += 1;
+        let e = run_end(r.place, r.held, piece, i);
+        if r.place != REST {
+            r = r.ink_all(&piece[i..e]);
+        }
+        if e >= piece.len() {
+            return r;
+        }
+        r = byte(r, piece[e], t, spans, index);
+        i = e + 1;
     }
     r
 }

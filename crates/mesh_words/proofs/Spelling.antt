@@ -23,7 +23,7 @@ use Rattle.pattern.specs.Contents.{Pattern}
 abbrev written : Bool → List ℕ → ℕ → Bool → Reader → Reader
 written h w n s r = record { line = r .line; place = r .place; held = h; word = w; length = n; slashed = s; corners = r .corners; first = r .first; last = r .last; filled = r .filled }
 
-abbrev worded : List ℕ → ℕ → Bool → Reader → Reader
+abbrev pub worded : List ℕ → ℕ → Bool → Reader → Reader
 worded w n s r = written (r .held) w n s r
 
 abbrev pub facing : ℕ → ℕ → ℕ → ℕ → Filled → Reader → Reader

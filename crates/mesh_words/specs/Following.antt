@@ -1,9 +1,9 @@
 -- What a reader holds of the bytes of a mesh. Cited by inner contracts.
 use Prim.Native.Nat.{_%_, _<_, _≤_, min, ℕ}
-use mathlib.Core.List.{List, []}
+use mathlib.Core.List.{List, [], _∷_}
 use mathlib.Core.Path.{_≡_}
 use lib.ListN.{length}
-use Rattle.mesh.specs.Reading.{Drawing, State}
+use Rattle.mesh.specs.Reading.{Drawing, State, ink}
 use Rattle.mesh_draw.specs.Kept.{Kept, Tabled}
 use Rattle.pattern.specs.Contents.{Pattern}
 use Rattle.mesh_words.specs.declared.Reader.{Reader}
@@ -31,3 +31,8 @@ pub record Follows (st : State) (r : Reader) (p : Pattern) (index : List ℕ) : 
   pub line : r .line ≡ st .line % 18446744073709551616
   pub place : r .place ≡ st .place
   pub going : st .place < 30 → Reads st r p index
+
+-- the bytes of a word in turn
+unfoldable pub inks : List ℕ → State → State
+inks [] st = st
+inks (b ∷ s) st = inks s (ink b st)

@@ -8,7 +8,7 @@ ghost use lib.ListN.{length};
 ghost use Rattle.mesh.specs.Mesh.{noMesh};
 ghost use Rattle.mesh.specs.Reading.{State, cornerAt, endWord, ink, keyed, moved, release, spell, spelled, start};
 ghost use Rattle.mesh_edges.specs.Index.{Indexed};
-ghost use Rattle.mesh_words.specs.Following.{Follows};
+ghost use Rattle.mesh_words.specs.Following.{Follows, inks};
 ghost use Rattle.pattern.specs.Contents.{Pattern};
 ghost use Rattle.store.specs.Store.{held};
 use mesh::Corner;
@@ -113,6 +113,50 @@ impl Reader {
             return self.begin(WORD, b);
         }
         self.spell(b)
+    }
+
+    // More bytes of a word. Its table is filled beside the reader, which is slow to copy.
+    fn spell_all(mut self, bytes: &[u8]) -> Reader
+        ensures { λ r. ⌜ ((st : State) (p : Pattern) (index : List ℕ) → Follows st self p index → (self .place ≡ 0 → ⊥) → (self .place ≡ 3 → ⊥) → Follows (inks (now (bytes .entry)) st) r p index) ⌝ }
+    {
+        if self.slashed {
+            return self;
+        }
+        let place = self.place;
+        let mut word = self.word;
+        let mut n = self.length;
+        let mut i: usize = 0;
+        while i < bytes.len() {
+            let b = bytes[i];
+            if place == WORD {
+                if b == b'/' {
+                    self.word = word;
+                    self.length = n;
+                    self.slashed = true;
+                    return self;
+                }
+            }
+            if n < 11 {
+                word[n] = b;
+                n += 1;
+            }
+            i += 1;
+        }
+        self.word = word;
+        self.length = n;
+        self
+    }
+
+    // Bytes of a word: the first of it and later ones, or later ones.
+    pub fn ink_all(self, bytes: &[u8]) -> Reader
+        ensures { λ r. ⌜ ((st : State) (p : Pattern) (index : List ℕ) → Follows st self p index → Follows (inks (now (bytes .entry)) st) r p index) ⌝ }
+    {
+        let n = bytes.len();
+        if n == 0 {
+            return self;
+        }
+        let r = self.ink(bytes[0]);
+        r.spell_all(&bytes[1..n])
     }
 
     // A carriage return that was held back is a byte of a word.

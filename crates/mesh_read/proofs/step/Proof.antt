@@ -1,11 +1,11 @@
-use Prim.Native.Nat.{_-_, _<_, _≤_}
+use Prim.Native.Nat.{_-_, _≤_}
 use mathlib.Core.Logic.{⊎-elim}
-use mathlib.Core.Path.{_∙_}
 use native.Mathlib.Omega.{arith}
 use lib.ListN.{length}
 use borrow.Author.Needs.{needs}
 use Rattle.store.specs.Store.{held}
 use Rattle.mesh_read.proofs.Pieces.{Stepping, read-more, stepping-all, stepping-next, stepping-past, stepping-start}
+use Rattle.mesh_read.proofs.Runs.{stepping-refused, stepping-run, stops-rest}
 use Rattle.mesh_read.proofs.step.Statement.{statement}
 use Rattle.mesh_read.proofs.step.Tie as tie
 
@@ -15,41 +15,46 @@ Inv-loop piece t₀ spans₀ index₀ r₀ i₀ t spans index r i = Stepping pie
 abbrev μ-loop : tie.MeasureT-loop
 μ-loop piece t₀ spans₀ index₀ r₀ i₀ t spans index r i = length piece - i
 
--- the byte that is read next
-here : (c : tie.Joined1 Inv-loop μ-loop)
-    → let args = c .before .before .before .before .before .args in
-    let loop = c .before .before .before .loop in
-    (c .if1 .i < length (args .piece .now)) × (loop .i ≤ c .if1 .i)
-    × Stepping (args .piece .now) (args .from) (held (args .t .now) (args .spans .now)) (args .index .now) (c .if1 .i) (loop .r) (held (loop .t) (loop .spans)) (loop .index)
-here c =
-    let s = c .before .before .before .loop .inv in
-    ⊎-elim
-    (λ w. (omega arith, omega (arith, w .1 .ensures), stepping-past s (c .if1 .i) (w .0 .taken) (w .3 ∙ w .1 .ensures .0) (omega (arith, w .1 .ensures))))
-    (λ w. (omega arith, omega arith, rw (w .1) s))
-    (c .if1 .came)
-
 loop-holds : tie.Need-loop-holds Inv-loop μ-loop
 loop-holds c = stepping-start _ _ _ _
 
-returns : tie.Need-returns Inv-loop μ-loop
-returns c =
-    let line-end = c .before .line-end in
-    read-more _ (stepping-all (stepping-past (c .before .before .before .before .before .loop .inv) _ (c .before .before .if1 .taken) (line-end .ensures .0) (line-end .ensures .1)) (c .if2 .taken))
+-- the run is read
+here : (c : tie.Joined2 Inv-loop μ-loop)
+    → let args = c .before .before .before .before .before .before .before .before .args in
+    let loop = c .before .before .before .before .before .before .loop in
+    let e = c .before .before .run-end .result in
+    (loop .i ≤ e) × (e ≤ length (args .piece .now))
+    × Stepping (args .piece .now) (args .from) (held (args .t .now) (args .spans .now)) (args .index .now) e (c .if2 .r) (held (loop .t) (loop .spans)) (loop .index)
+here c =
+    let start = c .before .before .before in
+    let s = start .before .before .before .loop .inv in
+    let going = start .if1 .left in
+    let ends = c .before .before .run-end .ensures in (
+      omega (arith, ends),
+      ends .1,
+      ⊎-elim
+          (λ w. rw (w .3) (stepping-run s _ _ going (w .0 .taken) (ends .0) (ends .1) (w .2 .ensures)))
+          (λ w. rw (w .1) (stepping-past s _ (w .0 .left) (rw (stops-rest _ _ _ (w .0 .left)) at (ends .0)) (ends .1)))
+          (c .if2 .came),
+    )
 
-shared-slice-read-byte : tie.Need-shared-slice-read-byte Inv-loop μ-loop
-shared-slice-read-byte c = let h = here (c .before) in omega arith
+returns : tie.Need-returns Inv-loop μ-loop
+returns c = read-more _ (stepping-refused (c .before .before .before .loop .inv) (c .if1 .taken))
+
+returns-2 : tie.Need-returns-2 Inv-loop μ-loop
+returns-2 c = read-more _ (stepping-all (here (c .before) .2) (c .if3 .taken))
 
 add-i : tie.Need-add-i Inv-loop μ-loop
-add-i c = let h = here (c .before .before .before .before .before .before) in search needs
+add-i c = omega (arith, c .before .before .before .before .before .before .before .before .before .before .before .before .before .before .good .1 .0 .0)
 
 loop-less : tie.Need-loop-less Inv-loop μ-loop
 loop-less c = let h = here (c .before .before .before .before .before .before) in search needs
 
 loop-again : tie.Need-loop-again Inv-loop μ-loop
-loop-again c = let h = here (c .before .before .before .before .before .before) in stepping-next (h .2) _ _ _ (h .0) (c .before .byte .ensures)
+loop-again c = let h = here (c .before .before .before .before .before .before) in stepping-next (h .2) _ _ _ (omega arith) (c .byte .ensures)
 
-returns-2 : tie.Need-returns-2 Inv-loop μ-loop
-returns-2 c = read-more _ (stepping-all (c .before .loop .inv) (c .loop-test .left))
+returns-3 : tie.Need-returns-3 Inv-loop μ-loop
+returns-3 c = read-more _ (stepping-all (c .before .loop .inv) (c .loop-test .left))
 
 pub step-spec : {M : Type 1} → statement M
 step-spec =
@@ -58,11 +63,16 @@ step-spec =
     Inv-loop
     μ-loop
     loop-holds
-    (λ c κs. search needs)
     returns
-    shared-slice-read-byte
+    (λ c κs. search needs)
+    (search needs)
+    (search needs)
+    (search needs)
+    (λ c κs. search needs)
+    returns-2
+    (search needs)
     (λ c κs. search needs)
     add-i
     loop-less
     loop-again
-    returns-2)
+    returns-3)
