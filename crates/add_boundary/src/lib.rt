@@ -1,5 +1,6 @@
 // Adding an outline to a face (the Rust's Face::try_add_boundary). All is judged before anything is
 // written.
+#![tactic(auto)]
 ghost use Rattle.std.specs.Prelude.{◌≡◌, true, [], ◌∷◌, ◌++◌, map, ◌+◌, ◌<◌, ◌≤◌, suc, length};
 ghost use Rattle.std.proofs.lemmas.List.Edits.{sets};
 ghost use Rattle.lists.specs.Lists.{disjoint, flat, no_dup};
@@ -20,7 +21,7 @@ use wire::{check_wire, stamp_points};
 use words::{copy_u16s, index};
 
 // What is wrong with a wire that is to be added, if anything.
-#[derive(Drop)]
+#[derive(Clone, Copy)]
 pub enum Judged {
     Fine,
     Unfit(FaceEditError),

@@ -1,5 +1,6 @@
 // Answers as numbers, for callers outside the library: how a call ended, the number of the
 // refusal, and the values (docs/FORMAT.md 6.2).
+#![tactic(auto)]
 ghost use Rattle.std.specs.Prelude.{◌≡◌};
 ghost use Rattle.answers.specs.Values.{check_values, cut_values, done, face_values, figure_values, join_values, place_values, refused as refusedAnswer, solid_values, unread as unreadAnswer, vertex_values, written_values};
 
@@ -17,7 +18,7 @@ use words::index;
 // An answer. `outcome` is 0 done, 1 refused by the reading checks, 2 refused by the call. `fourth` is
 // 0: room for one number more.
 #[repr(C)]
-#[derive(Drop)]
+#[derive(Clone, Copy)]
 pub struct Answer {
     pub outcome: usize,
     pub number: usize,

@@ -1,5 +1,6 @@
 // What the calls on a shell of a pattern in the store share: the reading checks come first; then the shell
 // must be there.
+#![tactic(auto)]
 ghost use Rattle.std.specs.Prelude.{◌≡◌};
 ghost use Rattle.store.specs.Store.{held};
 ghost use Rattle.calls.specs.Calls.{presence};
@@ -10,7 +11,7 @@ use store::{Spans, Tables, counts_in, tables_known};
 use store_check::check;
 
 // Whether a pattern has a shell: the refusal of the reading checks, or no such shell (3).
-#[derive(Drop)]
+#[derive(Clone, Copy)]
 pub enum Presence {
     There,
     Refused(Refusal),
@@ -19,7 +20,7 @@ pub enum Presence {
 
 // What a call asks of a shell: its condition; how many openings it has, their uses in all, the lookups;
 // whether it is connected; how many components it has, their pairs in all; how many singular points.
-#[derive(Drop)]
+#[derive(Clone, Copy)]
 pub enum ShellFigure {
     Condition(Condition),
     Openings(usize, usize, usize),
@@ -29,7 +30,7 @@ pub enum ShellFigure {
 }
 
 // The answer of such a call: the figure, the refusal of the reading checks, or no such shell (3).
-#[derive(Drop)]
+#[derive(Clone, Copy)]
 pub enum FigureAnswer {
     Found(ShellFigure),
     Refused(Refusal),

@@ -1,6 +1,7 @@
 // Answers the lines of standard input, each as soon as it is there: a job submitted at a desk, or a turn, which
 // does the next job that waits on the garment in the file that its argument names. The file is read at each
 // turn, and replaced whole before the answer.
+#![tactic(auto)]
 ghost use Rattle.std.specs.Prelude.{◌≡◌};
 ghost use Rattle.clerk.specs.Settled.{settled};
 
@@ -14,7 +15,7 @@ use scheduler_lines::{Request, put_not, put_submitted, put_turned, request_of};
 use scheduler_turn::{TurnAnswer, turn};
 
 // The scheduler after a line, and whether its answer was written.
-#[derive(Drop)]
+#[derive(Clone, Copy)]
 struct Answered {
     scheduler: Scheduler,
     open: bool,
@@ -30,7 +31,7 @@ fn print(text: &[u8], n: usize) -> bool {
 }
 
 // How a turn ended, the length of its text, and the scheduler after it where it ended well.
-#[derive(Drop)]
+#[derive(Clone, Copy)]
 struct Worked {
     ending: Ending,
     text: usize,
@@ -38,7 +39,7 @@ struct Worked {
 }
 
 // The same of one attempt, and whether the file was changed by others meanwhile.
-#[derive(Drop)]
+#[derive(Clone, Copy)]
 struct Tried {
     work: Worked,
     changed: bool,

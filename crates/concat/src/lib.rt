@@ -1,4 +1,5 @@
 // Joining two uses to a new edge (the Rust's edge.rs, `Edge::concat`).
+#![tactic(auto)]
 ghost use Rattle.std.specs.Prelude.{◌≡◌, [], ◌<◌, get_or};
 ghost use Rattle.pattern.specs.Checks.{pattern_faults};
 ghost use Rattle.pattern.specs.Contents.{content};
@@ -18,7 +19,7 @@ use vertex::VertexID;
 use words::index;
 
 // Two uses joined to an edge; or why not.
-#[derive(Drop)]
+#[derive(Clone, Copy)]
 pub enum Joint {
     Whole(Edge),
     Not(EditError),

@@ -1,11 +1,12 @@
 // The condition of a shell, and the tally of its uses (shell.rs: ShellCondition, Boundaries).
+#![tactic(auto)]
 ghost use Rattle.std.specs.Prelude.{◌≡◌, ℕ, ◌%◌, ◌+◌, ◌-◌, ◌<◌, ◌≤◌, min, eqb, drop, length, replicate, take};
 ghost use Rattle.edge.specs.Uses.{edge_number};
 ghost use Rattle.condition.specs.Tallies.{condition_in, digit, inserted, inserted_all, least, next_state, odds_in, use_condition, with_digit};
 ghost use Rattle.edge.specs.Below.{EdgesBelow};
 
 // The condition of a shell: a lower one is worse.
-#[derive(Drop)]
+#[derive(Clone, Copy)]
 pub struct Condition(pub u8);
 
 impl Condition {
@@ -35,7 +36,7 @@ impl Condition {
 // Of each edge a state, four to a byte: 0 no use yet; 1 an odd number of uses, the last one along; 3
 // an odd number, the last one reversed; 2 an even number, at least two. `worst` is 3 until an edge
 // has two uses alike (1) or three uses (0).
-#[derive(Drop)]
+#[derive(Clone, Copy)]
 pub struct Tally {
     pub states: [u8; 256],
     pub worst: u8,

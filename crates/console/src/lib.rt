@@ -1,6 +1,7 @@
 // What the programs share: their usage, standard input read to its end, the files that the arguments
 // name, and texts written to a descriptor. No contract says what a descriptor gave or was given; the texts
 // are proved where they are made.
+#![tactic(auto)]
 ghost use Rattle.std.specs.Prelude.{◌≡◌, length};
 ghost use Rattle.io.specs.Counts.{IsPrefixLen};
 ghost use Rattle.libc.specs.Io.{Moved};

@@ -1,25 +1,26 @@
 // Cutting a curve at a parameter, and joining two (the Rust's edge.rs, `cut` and `concat`).
+#![tactic(auto)]
 ghost use Rattle.std.specs.Prelude.{◌≡◌};
 ghost use Rattle.curve.specs.Curves.{cut_curve, join_curves, parameter_of, refuses};
 
 use edge::Curve;
 
 // Where the search put a point on a curve.
-#[derive(Drop)]
+#[derive(Clone, Copy)]
 pub enum Parameter {
     At(f64),
     Nowhere,
 }
 
 // The two halves of a curve, the one at its front first; or the curve refuses (16).
-#[derive(Drop)]
+#[derive(Clone, Copy)]
 pub enum Halves {
     Both(Curve, Curve),
     Refused,
 }
 
 // Two curves joined; or the joined span is none (26).
-#[derive(Drop)]
+#[derive(Clone, Copy)]
 pub enum Joined {
     Whole(Curve),
     Refused,

@@ -1,5 +1,6 @@
 // The refusals of cutting an edge. The wires of the shell are flags, one for each wire of the
 // pattern.
+#![tactic(auto)]
 ghost use Rattle.std.specs.Prelude.{◌&&◌, map, ◌≡◌, ◌≤◌, ltb, length, take};
 ghost use Rattle.lists.specs.Lists.{has, pick, split, sum};
 ghost use Rattle.edge.specs.Uses.{edge_number};
@@ -16,7 +17,7 @@ use wire::{Found, find_use};
 use words::index;
 
 // The halves of the edge's curve, or the refusal.
-#[derive(Drop)]
+#[derive(Clone, Copy)]
 pub enum Judgement {
     Accepted(Curve, Curve),
     Not(EditError),

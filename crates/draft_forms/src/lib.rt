@@ -1,4 +1,5 @@
 // The lines of a text that describes a pattern: their kinds, and the values of their words.
+#![tactic(auto)]
 ghost use Rattle.std.specs.Prelude.{◌≡◌, ◌*◌, ◌≤◌, eqb, drop, length};
 ghost use Rattle.std.proofs.lemmas.List.Edits.{sets};
 ghost use Rattle.text.specs.Text.{words};
@@ -31,7 +32,7 @@ fn kind_named(name: u64) -> usize
 }
 
 // The kind of a line, and where its first word ends.
-#[derive(Drop)]
+#[derive(Clone, Copy)]
 pub struct Kind {
     pub kind: usize,
     pub end: usize,

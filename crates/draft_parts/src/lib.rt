@@ -1,4 +1,5 @@
 // What a line of text adds to a pattern, stored after what is there.
+#![tactic(auto)]
 ghost use Rattle.std.specs.Prelude.{◌≡◌, List, [], ◌+◌, ◌<◌, ◌≤◌, min, Float, length};
 ghost use Rattle.std.proofs.lemmas.List.Edits.{sets};
 ghost use Rattle.lists.specs.Lists.{flat};
@@ -67,7 +68,7 @@ fn label_of(v: u64) -> u32
 }
 
 // Numbers of uses and wires.
-#[derive(Drop)]
+#[derive(Clone, Copy)]
 struct Tail {
     uses: usize,
     wires: usize,

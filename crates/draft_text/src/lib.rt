@@ -1,4 +1,5 @@
 // A pattern file from text.
+#![tactic(auto)]
 ghost use Rattle.std.specs.Prelude.{◌≡◌, [], ◌≤◌, ◌*◌, length, get_or};
 ghost use Rattle.draft_forms.specs.LineForms.{line_kind};
 ghost use Rattle.draft_parts.specs.Parts.{joined};
@@ -22,7 +23,7 @@ use text::{line_end, trimmed_length};
 // What is wrong with a line: a word, counted from 1, of a line of a kind (1 point, 2 edge, 3 face, 4
 // shell, 6 empty, 0 none of them); its number, where another is expected after the lines of its kind
 // before; or a refusal of the reading checks.
-#[derive(Drop)]
+#[derive(Clone, Copy)]
 pub enum Fault {
     Word(usize, usize),
     Number(usize, usize),
@@ -32,7 +33,7 @@ pub enum Fault {
 // The length of the file; or a fault, with the number of its line; or a text of more than 262,144 bytes,
 // one that begins with a byte order mark, one that says nothing, not even that the pattern is empty, one that
 // says so beside records.
-#[derive(Drop)]
+#[derive(Clone, Copy)]
 pub enum Made {
     Length(usize),
     At(usize, Fault),
@@ -43,14 +44,14 @@ pub enum Made {
 }
 
 // The answer for a line.
-#[derive(Drop)]
+#[derive(Clone, Copy)]
 enum LineCheck {
     Right,
     Wrong(Fault),
 }
 
 // A line read: its kind, how many values it has, and whether its words are right.
-#[derive(Drop)]
+#[derive(Clone, Copy)]
 struct Line {
     kind: usize,
     words: usize,
@@ -147,7 +148,7 @@ fn add_line(line: &[u8], t: &mut Tables, spans: &mut Spans, values: &mut [u64]) 
 }
 
 // The first line that is wrong, if any.
-#[derive(Drop)]
+#[derive(Clone, Copy)]
 struct Gathered {
     line: usize,
     check: LineCheck,

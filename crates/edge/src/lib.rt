@@ -1,4 +1,5 @@
 // The edge, its curve, and the use of an edge (the Rust's edge.rs).
+#![tactic(auto)]
 ghost use Rattle.std.specs.Prelude.{◌≡◌, ◌<◌, length};
 ghost use Rattle.edge.specs.Edges.{in_range, is_span, edge};
 ghost use Rattle.edge.specs.Uses.{edge_number, use_of, front, back, front_of, back_of};
@@ -6,19 +7,19 @@ ghost use Rattle.edge.specs.Uses.{edge_number, use_of, front, back, front_of, ba
 use vertex::VertexID;
 
 // The number of an edge is its identity.
-#[derive(Drop)]
+#[derive(Clone, Copy)]
 pub struct EdgeID(pub u16);
 
 // The curve of an edge: its two parameter ends.
 #[repr(C)]
-#[derive(Drop)]
+#[derive(Clone, Copy)]
 pub struct Curve {
     pub t0: f64,
     pub t1: f64,
 }
 
 #[repr(C)]
-#[derive(Drop)]
+#[derive(Clone, Copy)]
 pub struct Edge {
     pub front: VertexID,
     pub back: VertexID,
@@ -26,7 +27,7 @@ pub struct Edge {
 }
 
 // A use of an edge, along it or reversed: the Rust's Edge with its orientation.
-#[derive(Drop)]
+#[derive(Clone, Copy)]
 pub struct EdgeUse {
     pub edge: EdgeID,
     pub reversed: bool,

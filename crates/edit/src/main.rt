@@ -2,6 +2,7 @@
 // argument names, and answers each with a line as soon as it is done. The file is read before each job, and
 // replaced whole before the answer. With --stop nothing is done after the first answer that is not done; with
 // --try the file is read once, and the jobs are done in memory alone.
+#![tactic(auto)]
 ghost use Rattle.std.specs.Prelude.{◌≡◌, ◌<◌, ◌≤◌, length};
 ghost use Rattle.queue.specs.Queue.{chosen, ending_by};
 ghost use Rattle.queue.specs.declared.Ending.TheVariants.{Done, Unread};
@@ -14,7 +15,7 @@ use replace::{Reading, Replaced};
 // What the queue is at: whether it is to stop after an answer that is not done, whether it only tries; with
 // --try the length of the file in memory, and whether it was read; whether it is stopped; whether there is
 // more to do.
-#[derive(Drop)]
+#[derive(Clone, Copy)]
 struct Queue {
     stop: bool,
     trial: bool,
@@ -25,7 +26,7 @@ struct Queue {
 }
 
 // How a line ended, and the lengths of its job's text and of the file in memory.
-#[derive(Drop)]
+#[derive(Clone, Copy)]
 struct Worked {
     ending: Ending,
     text: usize,
@@ -33,7 +34,7 @@ struct Worked {
 }
 
 // The same of one attempt, and whether the file was changed by others meanwhile.
-#[derive(Drop)]
+#[derive(Clone, Copy)]
 struct Tried {
     work: Worked,
     changed: bool,
@@ -184,7 +185,7 @@ fn answer(path: &[u8], line: &[u8], file: &mut [u8; 41049], q: Queue) -> Queue {
 
 // What is left of the input: how many bytes at the start of the buffer, whether they belong to a line that
 // was answered already, and the queue.
-#[derive(Drop)]
+#[derive(Clone, Copy)]
 struct Rest {
     held: usize,
     passing: bool,

@@ -1,4 +1,5 @@
 // The answers of the edits. They hold no array: the pattern stands beside them.
+#![tactic(auto)]
 ghost use Rattle.std.specs.Prelude.{◌≡◌};
 ghost use Rattle.edit_answers.specs.Answers.{edit_number, face_edit_number};
 
@@ -7,7 +8,7 @@ use errors::{Refusal, WireError, wire_number};
 use vertex::VertexID;
 
 // The refusal of an edit of a shell, its own.
-#[derive(Drop)]
+#[derive(Clone, Copy)]
 pub enum EditError {
     // 3: a number that names nothing, or is no label.
     Unnamed,
@@ -34,7 +35,7 @@ pub enum EditError {
 }
 
 // The refusal of an edit of a face, its own.
-#[derive(Drop)]
+#[derive(Clone, Copy)]
 pub enum FaceEditError {
     // 3: a number that names nothing.
     Unnamed,
@@ -59,7 +60,7 @@ pub enum FaceEditError {
 }
 
 // The answer of a cut: the numbers of the two new edges, the half at the edge's front first.
-#[derive(Drop)]
+#[derive(Clone, Copy)]
 pub enum CutAnswer {
     Cut(EdgeID, EdgeID),
     Refused(Refusal),
@@ -67,7 +68,7 @@ pub enum CutAnswer {
 }
 
 // The answer of a removal or a concat: the number of the new edge.
-#[derive(Drop)]
+#[derive(Clone, Copy)]
 pub enum JoinAnswer {
     Joined(EdgeID),
     Refused(Refusal),
@@ -75,7 +76,7 @@ pub enum JoinAnswer {
 }
 
 // The answer of an added point: its number.
-#[derive(Drop)]
+#[derive(Clone, Copy)]
 pub enum VertexAnswer {
     Added(VertexID),
     Refused(Refusal),
@@ -83,7 +84,7 @@ pub enum VertexAnswer {
 }
 
 // The answer of an edit of a face: how many uses and how many wires were written.
-#[derive(Drop)]
+#[derive(Clone, Copy)]
 pub enum FaceAnswer {
     Written(usize, usize),
     Refused(Refusal),

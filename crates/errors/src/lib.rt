@@ -1,10 +1,11 @@
 // The refusals of the reading checks with their values (docs/FORMAT.md 2.2; the Rust's errors.rs).
+#![tactic(auto)]
 ghost use Rattle.std.specs.Prelude.{◌≡◌};
 ghost use Rattle.errors.specs.Numbers.{wire_number, number, body, record_number};
 ghost use Rattle.errors.specs.Sequence.{and_then};
 
 // Why a wire is refused: numbers 6, 7 and 8.
-#[derive(Drop)]
+#[derive(Clone, Copy)]
 pub enum WireError {
     EmptyWire,
     NotClosedWire,
@@ -12,7 +13,7 @@ pub enum WireError {
 }
 
 // Why the reading checks refuse a pattern: numbers 1 to 8.
-#[derive(Drop)]
+#[derive(Clone, Copy)]
 pub enum Refusal {
     // 1: the body whose place in the file is wrong.
     Layout(usize),
@@ -29,14 +30,14 @@ pub enum Refusal {
 }
 
 // The answer for a wire.
-#[derive(Drop)]
+#[derive(Clone, Copy)]
 pub enum WireCheck {
     Simple,
     Refused(WireError),
 }
 
 // The answer of the reading checks.
-#[derive(Drop)]
+#[derive(Clone, Copy)]
 pub enum Check {
     Accepted,
     Refused(Refusal),

@@ -1,4 +1,5 @@
 // The face and the face rule (the Rust's face.rs, Face::try_new).
+#![tactic(auto)]
 ghost use Rattle.std.specs.Prelude.{◌≡◌, [], ◌%◌, ◌+◌, ◌<◌, ◌≤◌, length, take};
 ghost use Rattle.lists.specs.Lists.{sum, split};
 ghost use Rattle.lists.specs.Marks.{Below};
@@ -11,7 +12,7 @@ use wire::{check_wire, outline, stamp_points};
 use words::{index, sum_of};
 
 // The number of a face is its identity.
-#[derive(Drop)]
+#[derive(Clone, Copy)]
 pub struct FaceID(pub u16);
 
 impl FaceID {
@@ -25,7 +26,7 @@ impl FaceID {
 
 // A face: how many wires it has, taken in sequence, and its surface.
 #[repr(C)]
-#[derive(Drop)]
+#[derive(Clone, Copy)]
 pub struct Face {
     pub wires: u16,
     pub surface: u16,

@@ -1,5 +1,6 @@
 // A face in the store: where it stands, its uses, its wires' lengths; the ends of the edges; whether
 // uses name edges.
+#![tactic(auto)]
 ghost use Rattle.std.specs.Prelude.{◌≡◌, ◌+◌, ◌<◌, ◌≤◌, get_or, take};
 ghost use Rattle.lists.specs.Lists.{sum};
 ghost use Rattle.store.specs.Store.{use_table, wire_table};
@@ -11,7 +12,7 @@ use store::{Tables, backs_in, faces_in, fronts_in, tables_known, uses_in, wires_
 use words::{index, sum_of};
 
 // Where a face stands: its first wire and how many, its first use and how many.
-#[derive(Drop)]
+#[derive(Clone, Copy)]
 pub struct FacePart {
     pub wire: usize,
     pub wires: usize,

@@ -1,4 +1,5 @@
 // The values of the words of a line, by the form of the line.
+#![tactic(auto)]
 ghost use Rattle.std.specs.Prelude.{◌≡◌, ◌+◌, ◌*◌, ◌≤◌, eqb, drop, get_or, length};
 ghost use Rattle.std.proofs.lemmas.List.Edits.{sets};
 ghost use Rattle.text.specs.Text.{words};
@@ -105,7 +106,7 @@ fn kind_at(kinds: &[u64], rest: u64, i: usize) -> u64
 }
 
 // How many words were read, and whether they are all.
-#[derive(Drop)]
+#[derive(Clone, Copy)]
 pub struct Matched {
     pub words: usize,
     pub all: bool,

@@ -1,5 +1,6 @@
 // The uses of two faces, kept in an array and met one after the other; the outlines that they leave,
 // chained. The kept uses are a slice with a place for each point, 65535 where none is kept.
+#![tactic(auto)]
 ghost use Rattle.std.specs.Prelude.{◌≡◌, ◌&&◌, false, not, ◌<◌, eqb, get_or, length};
 ghost use Rattle.std.proofs.Math.Option.{none};
 ghost use Rattle.edge.specs.Uses.{back_of, edge_number, front_of};
@@ -14,7 +15,7 @@ use edge::{back_of, front_of};
 use openings::{follow_from, keep_at};
 
 // How many uses and how many wires have been written.
-#[derive(Drop)]
+#[derive(Clone, Copy)]
 pub struct Chained {
     pub uses: usize,
     pub wires: usize,

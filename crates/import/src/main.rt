@@ -1,5 +1,6 @@
 // Reads a Wavefront OBJ mesh on standard input, piece by piece, to its end, and writes the pattern file of it. Where the
 // mesh is refused, the line of the refusal goes to standard error, and nothing is written.
+#![tactic(auto)]
 use libc::{STDERR_FILENO, STDIN_FILENO, STDOUT_FILENO};
 use mesh::Imported;
 use mesh_edges::{INDEX, Index};
@@ -9,7 +10,7 @@ use pattern::LONGEST;
 use store::{SPANS, Spans, TABLES, Tables};
 
 // A mesh as far as it was read, and whether that is all of it.
-#[derive(Drop)]
+#[derive(Clone, Copy)]
 struct Taken {
     reader: Reader,
     whole: bool,

@@ -1,5 +1,6 @@
 // The jobs of the program `edit` as lines of text: which job a line asks for, its words, and the lines
 // of the answers.
+#![tactic(auto)]
 ghost use Rattle.std.specs.Prelude.{◌≡◌, ◌+◌, ◌*◌, ◌≤◌, eqb, drop, length, take};
 ghost use Rattle.std.proofs.lemmas.List.Edits.{sets};
 ghost use Rattle.lists.specs.Lists.{split, sum};
@@ -103,7 +104,7 @@ pub fn match_job(j: usize, line: &[u8], from: usize, out: &mut [u64]) -> Matched
 }
 
 // The job that the first word of a line asks for, and the end of that word.
-#[derive(Drop)]
+#[derive(Clone, Copy)]
 pub struct First {
     pub job: usize,
     pub end: usize,

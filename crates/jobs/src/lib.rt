@@ -1,4 +1,5 @@
 // The jobs of the program `edit`: a line of text is applied to a pattern file in memory.
+#![tactic(auto)]
 ghost use Rattle.std.specs.Prelude.{◌≡◌, ◌≤◌, leb, length};
 ghost use Rattle.std.proofs.lemmas.List.Edits.{sets};
 ghost use Rattle.lists.specs.Lists.{pick};
@@ -31,7 +32,7 @@ fn do_face_job(j: usize, v: &[u64], file: &[u8], text: &mut [u8]) -> usize
 
 // The lengths of an answer's text and of the edited file; 0 where the file stays as it is.
 #[repr(C)]
-#[derive(Drop)]
+#[derive(Clone, Copy)]
 pub struct Job {
     pub text: usize,
     pub file: usize,

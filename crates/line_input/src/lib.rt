@@ -1,5 +1,6 @@
 // Standard input line by line, in a buffer that the caller lends: a line is handed out as soon as it is
 // whole, and nothing is read while one is. No contract says what C's read gives.
+#![tactic(auto)]
 ghost use Rattle.std.specs.Prelude.{◌-◌, ◌≤◌, ◌≡◌, drop, length, take};
 ghost use Rattle.line_input.specs.Places.{Held, Inside};
 
@@ -8,7 +9,7 @@ use text::line_end;
 
 // What is left of the input: from where to where it is in the buffer; whether what is read next belongs to a
 // line that was handed out already; whether nothing more is to be read.
-#[derive(Drop)]
+#[derive(Clone, Copy)]
 pub struct Input {
     from: usize,
     to: usize,
@@ -17,14 +18,14 @@ pub struct Input {
 }
 
 // The next line, without its line feed: from where to where it is in the buffer. Or the input has ended.
-#[derive(Drop)]
+#[derive(Clone, Copy)]
 pub enum Fed {
     Line(usize, usize),
     Ended,
 }
 
 // The same, and what is left of the input.
-#[derive(Drop)]
+#[derive(Clone, Copy)]
 pub struct Got {
     pub input: Input,
     pub fed: Fed,

@@ -3,7 +3,7 @@ use Prim.Native.Nat.{◌+◌, ◌<◌, ◌≤◌, ℕ}
 use mathlib.Core.Bool.{Bool, ◌&&◌, and-false, false, not, true}
 use mathlib.Core.List.{List, [], ◌∷◌}
 use mathlib.Core.Logic.{⊎_elim}
-use mathlib.Core.Path.{◌≡◌, refl, sym}
+use mathlib.Core.Path.{◌≡◌, ap, refl, sym}
 use native.Mathlib.Omega.{arith}
 use lib.Dec.{eqb}
 use borrow.Author.Tests.{eq-eqb, eqb-true, not-true}
@@ -113,7 +113,7 @@ no_dup_count [] h x = omega arith
 no_dup_count (y ∷ ys) h x =
     let none = none_has y ys (not-true (has y ys) (left_true (not (has y ys)) (no_dup ys) h)) in
     ⊎_elim
-    (λ (e : eqb x y ≡ true). rw (e, eqb-true x y e) (omega (arith, none)))
+    (λ (e : eqb x y ≡ true). rw e (omega (arith, none, ap (λ (z : ℕ). count (eqb z) ys) (eqb-true x y e))))
     (λ (e : eqb x y ≡ false). rw e (omega (arith, no_dup_count ys (right_true (not (has y ys)) (no_dup ys) h) x)))
     (cases (eqb x y))
 

@@ -1,1 +1,2 @@
 // Definitions on lists and their laws; no code.
+#![tactic(auto)]

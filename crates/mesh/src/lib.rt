@@ -1,9 +1,10 @@
 // A Wavefront OBJ mesh, as a pattern: what is wrong with one, and the answer of its import.
+#![tactic(auto)]
 use errors::Refusal;
 
 // What is wrong with a line: a word that is no number (30), a point that is not yet given or zero (31), under three
 // points (32).
-#[derive(Drop)]
+#[derive(Clone, Copy)]
 pub enum LineFault {
     NotNumber,
     NotGiven,
@@ -11,7 +12,7 @@ pub enum LineFault {
 }
 
 // What a word of an `f` names: a point, or what is wrong with it.
-#[derive(Drop)]
+#[derive(Clone, Copy)]
 pub enum Corner {
     At(usize),
     Not(LineFault),
@@ -19,7 +20,7 @@ pub enum Corner {
 
 // The answer of an import: the length of the pattern's file; a fault with the number of its line; the refusal of the
 // reading checks; no space (17) with the length that the file needs.
-#[derive(Drop)]
+#[derive(Clone, Copy)]
 pub enum Imported {
     Length(usize),
     Line(LineFault, u64),

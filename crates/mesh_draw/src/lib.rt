@@ -1,4 +1,5 @@
 // The points and faces of a mesh, put into the tables of a pattern.
+#![tactic(auto)]
 ghost use Rattle.std.specs.Prelude.{◌≡◌, List, [], ◌++◌, ◌∷◌, ◌%◌, ◌+◌, ◌<◌, ℕ, eqb, Float};
 ghost use Rattle.lists.specs.Lists.{pick};
 ghost use Rattle.mesh.specs.Mesh.{Mesh, between, side_use, with_point, with_side};
@@ -15,7 +16,7 @@ use words::saturated;
 
 // How far the tables are filled: points, edges, uses, those of them before the face that is being read, faces. One more than
 // its limit says that a limit is passed; points are counted on to 999,999,999, since any of them can be named.
-#[derive(Drop)]
+#[derive(Clone, Copy)]
 pub struct Filled {
     pub points: usize,
     pub edges: usize,

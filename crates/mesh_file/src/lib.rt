@@ -1,4 +1,5 @@
 // The pattern file of a mesh.
+#![tactic(auto)]
 ghost use Rattle.std.specs.Prelude.{List, [], ◌++◌, ◌∷◌, ◌≡◌, ◌≤◌, ℕ, Float};
 ghost use Rattle.mesh.specs.Mesh.{Mesh, imported, imported_in};
 ghost use Rattle.mesh.specs.Reading.{fault_at};
@@ -125,7 +126,7 @@ fn fault_at(place: usize) -> LineFault
 }
 
 // The answer of an import, and the reader after its last line.
-#[derive(Drop)]
+#[derive(Clone, Copy)]
 pub struct Finished {
     pub answer: Imported,
     pub reader: Reader,

@@ -1,1 +1,2 @@
 // What holds of an imported mesh: theorems, no code.
+#![tactic(auto)]

@@ -1,4 +1,5 @@
 // The bytes of a mesh, piece by piece.
+#![tactic(auto)]
 ghost use Rattle.std.specs.Prelude.{◌≡◌, ℕ, suc, ◌+◌, ◌%◌, ◌<◌, ◌≤◌, List, [], ◌++◌, length, drop};
 ghost use Rattle.mesh.specs.Mesh.{Mesh};
 ghost use Rattle.mesh.specs.Reading.{State, byte, close_face, end_line, start};

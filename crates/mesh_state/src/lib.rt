@@ -1,4 +1,5 @@
 // A reader of a mesh in a lent list of numbers.
+#![tactic(auto)]
 ghost use Rattle.std.specs.Prelude.{not, ◌≡◌, ◌%◌, eqb};
 ghost use Rattle.mesh_state.specs.State.{filled_in, reader_in};
 

@@ -1,4 +1,5 @@
 // The words of a mesh, as its bytes come: where they begin and end, and what they add to the mesh.
+#![tactic(auto)]
 ghost use Rattle.std.specs.Prelude.{false, List, [], ◌≡◌, ◌<◌, ◌≤◌, ℕ, Float, length};
 ghost use Rattle.mesh.specs.Mesh.{no_mesh};
 ghost use Rattle.mesh.specs.Reading.{State, corner_at, end_word, ink, keyed, moved, release, spell, spelled, start};
@@ -29,7 +30,7 @@ pub const WORD: usize = 4;
 // How far a mesh is read: the number of the line, modulo 2 to the 64th; the place in it; whether a carriage return is held
 // back; the first bytes of the word, up to its slash, how many, and whether the slash was met; of the face that is being
 // read how many points, 3 for more, the first and the last; how far the tables are filled.
-#[derive(Drop)]
+#[derive(Clone, Copy)]
 pub struct Reader {
     pub line: u64,
     pub place: usize,

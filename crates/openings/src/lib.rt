@@ -1,5 +1,6 @@
 // The openings of a shell, on arrays: the walk along the free uses (extract_boundaries). The kept
 // uses are a slice with a place for each point, 65535 where none is kept.
+#![tactic(auto)]
 ghost use Rattle.std.specs.Prelude.{◌≡◌, [], ◌∷◌, ◌+◌, ◌<◌, ◌≤◌, suc, length, set};
 ghost use Rattle.lists.specs.Lists.{only};
 ghost use Rattle.edge.specs.Uses.{front_of, back_of, edge_number};
@@ -12,28 +13,28 @@ ghost use Rattle.openings.specs.Passes.{is_odd, Keepable, Followed, Ready, Passe
 use edge::{back_of, front_of};
 
 // What a lookup answers.
-#[derive(Drop)]
+#[derive(Clone, Copy)]
 pub enum Lookup {
     Use(u16),
     Nothing,
 }
 
 // The answer, with the count of lookups.
-#[derive(Drop)]
+#[derive(Clone, Copy)]
 pub struct Looked {
     pub answer: Lookup,
     pub lookups: usize,
 }
 
 // Where one start ends: the next free place of the written uses, and the count.
-#[derive(Drop)]
+#[derive(Clone, Copy)]
 pub struct Step {
     pub at: usize,
     pub lookups: usize,
 }
 
 // Where a walk stands: the next free place of the written uses, the number of openings, the count.
-#[derive(Drop)]
+#[derive(Clone, Copy)]
 pub struct Walked {
     pub at: usize,
     pub openings: usize,

@@ -1,5 +1,6 @@
 // The face and sign pairs of a shell, each once, ordered by first listing, without faces that have
 // no wires; their wires and uses stand one after the other in plain columns.
+#![tactic(auto)]
 ghost use Rattle.std.specs.Prelude.{◌≡◌, map, ℕ, ◌+◌, ◌<◌, ◌≤◌, get_or, length, replicate};
 ghost use Rattle.std.proofs.lemmas.List.Edits.{sets};
 ghost use Rattle.lists.specs.Lists.{padded};
@@ -12,7 +13,7 @@ use listing::part_of;
 use words::{copy_u16s, index};
 
 // How many pairs a shell has, how many wires and how many uses they have in all.
-#[derive(Drop)]
+#[derive(Clone, Copy)]
 pub struct PairCounts {
     pub number: usize,
     pub wires: usize,

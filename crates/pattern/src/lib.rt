@@ -1,4 +1,5 @@
 // The pattern in storage, and the reading checks from the counts on.
+#![tactic(auto)]
 ghost use Rattle.std.specs.Prelude.{◌≡◌, ◌+◌, ◌<◌, ◌≤◌, length, get_or, take};
 ghost use Rattle.errors.specs.Faults.{first as firstFault, each};
 ghost use Rattle.pattern.specs.Contents.{layout};
@@ -21,7 +22,7 @@ pub type Counts = [usize; BODIES];
 pub type Starts = [usize; BODIES + 1];
 
 // The layout of a file: the first offset, and for each body the bytes of a record and the limit.
-#[derive(Drop)]
+#[derive(Clone, Copy)]
 pub struct Layout {
     pub first: usize,
     pub sizes: Counts,
@@ -166,7 +167,7 @@ pub fn check_columns<'a>(
 
 // Where the uses of a wire stand in the use list: their start and their number; or the refusal of
 // the reading checks; or no such wire (3).
-#[derive(Drop)]
+#[derive(Clone, Copy)]
 pub enum WirePlace {
     At(usize, usize),
     Refused(Refusal),

@@ -1,5 +1,6 @@
 // The queue of the program `edit`: the words that it is started with, a job done on the file in memory, the
 // answer that is printed, and whether the queue stops there.
+#![tactic(auto)]
 ghost use Rattle.std.specs.Prelude.{◌≡◌, ◌&&◌, not, ◌≤◌, min, ltb, length, take};
 ghost use Rattle.std.proofs.lemmas.List.Edits.{sets};
 ghost use Rattle.jobs.specs.Jobs.{line_length, line_text};
@@ -11,7 +12,7 @@ use pattern::LONGEST;
 use text::name_of;
 
 // A word of the command line.
-#[derive(Drop)]
+#[derive(Clone, Copy)]
 pub enum Word {
     Stop,
     Try,
@@ -22,7 +23,7 @@ pub enum Word {
 
 // What the words so far ask: nothing but options, whether to stop and whether to try; a file with these; the
 // usage; or they make no sense.
-#[derive(Drop)]
+#[derive(Clone, Copy)]
 pub enum Asked {
     Options(bool, bool),
     File(bool, bool),
@@ -88,7 +89,7 @@ fn least(a: usize, b: usize) -> usize
 }
 
 // The lengths of a job's text and of the file after it, and whether that is an edited one.
-#[derive(Drop)]
+#[derive(Clone, Copy)]
 pub struct Stepped {
     pub text: usize,
     pub file: usize,
@@ -131,7 +132,7 @@ pub fn step(line: &[u8], file: &mut [u8; 41049], n: usize, text: &mut [u8; 65536
 
 // What is done with a line: it is skipped; it is answered that the file cannot be read; its job is done in
 // memory alone; its job is done on the file.
-#[derive(Drop)]
+#[derive(Clone, Copy)]
 pub enum Choice {
     Skip,
     Miss,
@@ -158,7 +159,7 @@ pub fn choose(stopped: bool, trial: bool, known: bool) -> Choice
 
 // How a line of the queue ended: its job is done or refused as its text says; the file could not be replaced;
 // it is replaced, and its directory not synced; it could not be read; the queue was stopped.
-#[derive(Drop)]
+#[derive(Clone, Copy)]
 pub enum Ending {
     Done,
     Kept,
@@ -205,7 +206,7 @@ fn put_answer(ending: Ending, text: &[u8], answer: &mut [u8]) -> usize
 }
 
 // The length of an answer, and whether the queue is stopped after it.
-#[derive(Drop)]
+#[derive(Clone, Copy)]
 pub struct Answered {
     pub length: usize,
     pub stopped: bool,

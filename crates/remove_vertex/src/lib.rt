@@ -1,4 +1,5 @@
 // Removing a vertex (the Rust's shell.rs, `remove_vertex_by_concat_edges`).
+#![tactic(auto)]
 ghost use Rattle.std.specs.Prelude.{◌≡◌, [], map, ◌<◌, ◌≤◌, get_or, length};
 ghost use Rattle.std.proofs.lemmas.List.Edits.{sets};
 ghost use Rattle.remove_vertex_corners.specs.Corners.{fit};
@@ -32,14 +33,14 @@ use vertex::VertexID;
 use words::{index, sum_of};
 
 // The wires that take a new edge, and the pair of uses that it joins; or why not.
-#[derive(Drop)]
+#[derive(Clone, Copy)]
 enum Pairing {
     Found(Ending, Corner),
     Not(EditError),
 }
 
 // A new edge, and the wires that take it; or why not.
-#[derive(Drop)]
+#[derive(Clone, Copy)]
 enum Removal {
     Joins(Edge, Ending),
     Not(EditError),

@@ -1,5 +1,6 @@
 // The wires with a use that ends at a vertex; that use and the next on its wire; the wires after the two give way
 // to one.
+#![tactic(auto)]
 ghost use Rattle.std.specs.Prelude.{◌≡◌, false, [], ◌∷◌, map, ◌+◌, ◌-◌, ◌≤◌, ◌<◌, ℕ, drop, get_or, length, take};
 ghost use Rattle.std.proofs.lemmas.List.Edits.{sets};
 ghost use Rattle.lists.specs.Lists.{numbers, only, padded, pick, split, sum, tabulate, flat};
@@ -17,7 +18,7 @@ use wire_swaps::swap_subwire_into_edges;
 use words::{copy_u16s, index, sum_of};
 
 // Wires in sequence: how many, the first, the last. Of none, all is 0.
-#[derive(Drop)]
+#[derive(Clone, Copy)]
 pub struct Ending {
     pub number: usize,
     pub first: usize,
@@ -209,14 +210,14 @@ pub fn ending_in<'a, 'b>(
 }
 
 // A use that ends at a vertex, and the next on its wire.
-#[derive(Drop)]
+#[derive(Clone, Copy)]
 pub struct Corner {
     pub ending: u16,
     pub next: u16,
 }
 
 // Both corners of two wires.
-#[derive(Drop)]
+#[derive(Clone, Copy)]
 pub struct Corners {
     pub first: Corner,
     pub last: Corner,

@@ -1,4 +1,5 @@
 // A file read whole, and replaced whole and durably: its new bytes go into a new file beside it, which takes its name once the device holds them. What C's calls do no contract says: the functions are proved safe and ending.
+#![tactic(auto)]
 ghost use Rattle.std.specs.Prelude.{◌≤◌, ◌≡◌, length};
 
 mod path;
@@ -11,7 +12,7 @@ use libc::types::stat;
 const SAME_OWNER: u32 = 4294967295;
 
 // How a replacement ended. Kept: the file has its old bytes. Unsynced: it has the new ones, and its directory could not be synced, so that a crash of the machine may bring the old ones back. Changed: the path does not name what was read any more, and others' bytes stay.
-#[derive(Drop)]
+#[derive(Clone, Copy)]
 pub enum Replaced {
     Done,
     Kept,
@@ -20,7 +21,7 @@ pub enum Replaced {
 }
 
 // Whether a file was read, and how many bytes; its descriptor, which is open then, so that no other file gets its number; what C told of it before the reading.
-#[derive(Drop)]
+#[derive(Clone, Copy)]
 pub struct Reading {
     pub read: bool,
     pub count: usize,

@@ -8,7 +8,7 @@ use libc::types::{stat, timespec};
 use libc::{PATH_MAX, S_IFLNK, S_IFMT, S_IFREG, STDERR_FILENO};
 
 // What C answered, and what it filled.
-#[derive(Drop)]
+#[derive(Clone, Copy)]
 pub struct Answer {
     pub status: i32,
     pub found: stat,

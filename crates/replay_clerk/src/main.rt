@@ -1,6 +1,7 @@
 // Replays the lines of the program `clerk`: the arguments name a pattern file and a file of lines, and so on in
 // pairs, each for a new scheduler. Prints for each pair the pattern file's name, and for each line the line and
 // its answer. recorded/README.md has the words.
+#![tactic(auto)]
 use libc::STDOUT_FILENO;
 use output::put_text;
 use pattern::LONGEST;
@@ -10,7 +11,7 @@ use scheduler_turn::{TurnAnswer, turn};
 use text::line_end;
 
 // The scheduler, and the length of the file.
-#[derive(Drop)]
+#[derive(Clone, Copy)]
 struct State {
     scheduler: Scheduler,
     length: usize,

@@ -1,6 +1,7 @@
 // Replays the edits of a shell: the arguments name a pattern file and a file of jobs for `edit`, and so on
 // in pairs. Prints for each pair the pattern file's name, and for each line the line, the answer of `edit`,
 // and after a `done` what changed in the pattern as text. recorded/README.md has the words.
+#![tactic(auto)]
 use libc::STDOUT_FILENO;
 use pattern::LONGEST;
 use text::{line_end, name_of};
@@ -11,7 +12,7 @@ const FRESH: u64 = 0x16672657368;
 const REPORT: u64 = 0x17265706f7274;
 
 // A pattern file: the first bytes.
-#[derive(Drop)]
+#[derive(Clone, Copy)]
 struct File {
     bytes: [u8; LONGEST],
     length: usize,

@@ -1,6 +1,7 @@
 // Replays the edits of faces: the arguments name a pattern file and a file of edits, and so on in pairs.
 // Prints for each pair the pattern file's name, and for each line the line and what the library answers, in
 // the words of `edit`. recorded/README.md has the words.
+#![tactic(auto)]
 ghost use Rattle.std.specs.Prelude.{◌≤◌};
 
 use answer_lines::put_refused;

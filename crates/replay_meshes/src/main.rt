@@ -1,6 +1,7 @@
 // For each mesh that the arguments name, prints a line with its name, and then the pattern of it, as `show` prints that, or the
 // line of its refusal. Each mesh is read whole, and in pieces of 1, 2, 3 and 7 bytes; where these give another answer or
 // another file, a line says so.
+#![tactic(auto)]
 ghost use Rattle.std.specs.Prelude.{◌≤◌};
 
 use libc::STDOUT_FILENO;

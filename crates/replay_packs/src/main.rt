@@ -1,6 +1,7 @@
 // Prints for each pack that the arguments name a line with its name, and for each pattern in it a
 // line with its number, and its report. A pack holds for each pattern its length, a u32, and its
 // bytes.
+#![tactic(auto)]
 use libc::STDOUT_FILENO;
 
 // The length of the next pattern; one longer than any file at the end of the pack.

@@ -1,5 +1,6 @@
 // Reads each file that the arguments name and prints its name and the answer; an accepted pattern is
 // written back and compared with the file.
+#![tactic(auto)]
 use errors::Check;
 use libc::STDOUT_FILENO;
 use pattern::LONGEST;

@@ -1,4 +1,5 @@
 // Prints for each pattern file that the arguments name a line with its name, and its report.
+#![tactic(auto)]
 use libc::STDOUT_FILENO;
 
 fn replay(k: usize, text: &mut [u8; 1126400]) {

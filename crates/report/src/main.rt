@@ -1,4 +1,5 @@
 // Reads one pattern file on standard input, to its end, and prints its report.
+#![tactic(auto)]
 use libc::STDOUT_FILENO;
 
 fn main() {

@@ -1,4 +1,5 @@
 // What `report` prints, as bytes: for every file its whole text.
+#![tactic(auto)]
 ghost use Rattle.std.specs.Prelude.{◌≡◌, ℕ, ◌+◌, ◌<◌, ◌≤◌, get_or, length};
 ghost use Rattle.std.proofs.lemmas.List.Edits.{sets};
 ghost use Rattle.columns.specs.Columns.{Made};
@@ -20,7 +21,7 @@ use store::{SPANS, TABLES, Tables, counts_in};
 use store_read::read;
 
 // The place after the lines of a shell, and what is wrong with it.
-#[derive(Drop)]
+#[derive(Clone, Copy)]
 pub struct ShellText {
     pub at: usize,
     pub check: ShellCheck,

@@ -1,5 +1,6 @@
 // The figures of a shell of a pattern in the store: its condition and openings; whether it is connected,
 // its components and its singular points.
+#![tactic(auto)]
 ghost use Rattle.std.specs.Prelude.{◌≡◌, ◌<◌, ◌≤◌, get_or, length};
 ghost use Rattle.columns.specs.Columns.{lent, Made};
 ghost use Rattle.columns.specs.Sound.{OfTables};
@@ -21,7 +22,7 @@ use singular::singular_of;
 use store::{Tables, backs_in, counts_in, fronts_in, listings_in, uses_in, wires_in};
 
 // The condition of a shell; how many openings it has, their uses in all, the lookups.
-#[derive(Drop)]
+#[derive(Clone, Copy)]
 pub struct OpeningCounts {
     pub condition: Condition,
     pub openings: usize,
@@ -30,7 +31,7 @@ pub struct OpeningCounts {
 }
 
 // Whether a shell is connected; how many components it has, their pairs in all; its singular points.
-#[derive(Drop)]
+#[derive(Clone, Copy)]
 pub struct GroupCounts {
     pub connected: bool,
     pub components: usize,

@@ -1,5 +1,6 @@
 // Jobs of several clients, done in turn and each once: the clerk of document 02, whose desks are the slots here.
 // At a slot one job may wait, and the last one that was served there is held with its answer.
+#![tactic(auto)]
 ghost use Rattle.std.specs.Prelude.{◌&&◌, ◌≡◌};
 ghost use Rattle.scheduler.specs.Scheduler.{after_submit, due_answer, held_other, new_scheduler, next_job, queue_answer, same_job, same_place, slot_after, slot_answer, submit_answer, submit_number, waits_other};
 
@@ -9,47 +10,47 @@ use answers::Answer;
 pub const SLOTS: usize = 8;
 
 // Where a point was put on a curve: a parameter, given by the bits of its f64, or nowhere.
-#[derive(Drop)]
+#[derive(Clone, Copy)]
 pub enum Place {
     At(u64),
     Nowhere,
 }
 
 // A job, its numbers as they were given: a cut of an edge of a shell at a point; the removal of a point of a shell.
-#[derive(Drop)]
+#[derive(Clone, Copy)]
 pub enum Job {
     Cut(usize, usize, usize, Place),
     Remove(usize, usize),
 }
 
 // The job that waits at a slot, with its key.
-#[derive(Drop)]
+#[derive(Clone, Copy)]
 pub enum Waiting {
     Nothing,
     Keyed(u32, Job),
 }
 
 // The job that was served last at a slot, with its key and its answer.
-#[derive(Drop)]
+#[derive(Clone, Copy)]
 pub enum Held {
     Nothing,
     Answered(u32, Job, Answer),
 }
 
-#[derive(Drop)]
+#[derive(Clone, Copy)]
 pub struct Slot {
     pub waiting: Waiting,
     pub held: Held,
 }
 
 // The slots, and the one that was served last.
-#[derive(Drop)]
+#[derive(Clone, Copy)]
 pub struct Scheduler {
     pub slots: [Slot; SLOTS],
     pub last: usize,
 }
 
-#[derive(Drop)]
+#[derive(Clone, Copy)]
 pub enum SubmitError {
     // 3: no such slot.
     Unnamed,
@@ -60,21 +61,21 @@ pub enum SubmitError {
 }
 
 // The answer to a submission: the job waits; it was served before, with this answer; it is refused.
-#[derive(Drop)]
+#[derive(Clone, Copy)]
 pub enum SubmitAnswer {
     Waits,
     Held(Answer),
     Refused(SubmitError),
 }
 
-#[derive(Drop)]
+#[derive(Clone, Copy)]
 pub struct Submitted {
     pub scheduler: Scheduler,
     pub answer: SubmitAnswer,
 }
 
 // Whose turn it is: the slot, with the key and the job that wait there.
-#[derive(Drop)]
+#[derive(Clone, Copy)]
 pub enum Next {
     Nobody,
     Slot(usize, u32, Job),

@@ -1,4 +1,5 @@
 // The scheduler as calls: its state in a lent list of numbers, its answers as numbers.
+#![tactic(auto)]
 ghost use Rattle.std.specs.Prelude.{◌≡◌, length};
 ghost use Rattle.scheduler.specs.Scheduler.{after_submit, new_scheduler, submit_answer};
 ghost use Rattle.scheduler.specs.declared.Job.TheVariants.{Cut, Remove};
@@ -15,7 +16,7 @@ use scheduler_turn::{TurnAnswer, serve};
 // An answer of the scheduler. `outcome` is 0 done, 2 refused, with the refusal's number. `state` is 1 where an
 // answer is held or a slot was served: `answer` is then the edit's, and `slot` the slot that was served.
 #[repr(C)]
-#[derive(Drop)]
+#[derive(Clone, Copy)]
 pub struct SchedulerAnswer {
     pub outcome: usize,
     pub number: usize,

@@ -1,1 +1,2 @@
 // What holds of the scheduler over any sequence of events. Definitions and theorems; no code.
+#![tactic(auto)]

@@ -1,4 +1,5 @@
 // The lines of the program `clerk`: what a line asks for, and the lines of the answers.
+#![tactic(auto)]
 ghost use Rattle.std.specs.Prelude.{◌≡◌, ◌+◌, ◌*◌, ◌%◌, ◌≤◌, length, take};
 ghost use Rattle.std.proofs.lemmas.List.Edits.{sets};
 ghost use Rattle.forms.specs.Forms.{values};
@@ -29,7 +30,7 @@ const NOWHERE: u64 = 0x16e6f7768657265;
 
 // What a line asks for: a job submitted at a slot under a key; a turn; or it is no such line, by its form and
 // the first word that is wrong or missing.
-#[derive(Drop)]
+#[derive(Clone, Copy)]
 pub enum Request {
     Submit(usize, u32, Job),
     Turn,
@@ -69,7 +70,7 @@ fn remove_request(v: &[u64; 32768]) -> Request
 }
 
 // How many words of a line are of their kinds, and whether they are all and none is missing.
-#[derive(Drop)]
+#[derive(Clone, Copy)]
 struct Fitted {
     words: usize,
     whole: bool,

@@ -1,4 +1,5 @@
 // A scheduler in a lent list of numbers.
+#![tactic(auto)]
 ghost use Rattle.std.specs.Prelude.{◌≡◌, ◌%◌, ◌+◌, ◌≤◌, drop, take};
 ghost use Rattle.scheduler_state.specs.State.{SixPut, SlotPut, answer_in, held_of, scheduler_in, slot_in, slots_in, waiting_in};
 
@@ -133,7 +134,7 @@ fn answer_numbers(a: Answer) -> [u64; 6]
 }
 
 // What is held at a slot, as the job with its key and the answer.
-#[derive(Drop)]
+#[derive(Clone, Copy)]
 struct Parts {
     job: Waiting,
     answer: Answer,

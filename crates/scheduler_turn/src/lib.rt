@@ -1,4 +1,5 @@
 // A turn of the scheduler: the next job that waits is done on a pattern file in memory.
+#![tactic(auto)]
 ghost use Rattle.std.specs.Prelude.{◌≡◌, length};
 ghost use Rattle.scheduler_turn.specs.Turn.{after_turn, bits_of, job_answer, job_out, turn_answer, turn_out};
 
@@ -10,13 +11,13 @@ use scheduler::{Held, Job, Next, Place, Scheduler, Slot, Waiting};
 use words::saturated;
 
 // The answer to a turn: the slot that was served, its job, and the answer of its edit.
-#[derive(Drop)]
+#[derive(Clone, Copy)]
 pub enum TurnAnswer {
     Nobody,
     Served(usize, Job, Answer),
 }
 
-#[derive(Drop)]
+#[derive(Clone, Copy)]
 pub struct Turned {
     pub scheduler: Scheduler,
     pub answer: TurnAnswer,

@@ -1,6 +1,7 @@
 // Members with equal keys as groups, each in sequence, ordered by their first members, in linear
 // time: a pass from the last member to the first threads the members of each key, then each thread
 // is followed from its head.
+#![tactic(auto)]
 ghost use Rattle.std.specs.Prelude.{◌≡◌, map, ◌+◌, ◌≤◌, length, get_or};
 ghost use Rattle.std.proofs.lemmas.List.Edits.{sets};
 ghost use Rattle.lists.specs.Lists.{flat};

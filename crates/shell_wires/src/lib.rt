@@ -1,5 +1,6 @@
 // The wires of a shell, for its edits: which of the wires in storage are its own, and whether it
 // shares a face with another shell. Faces are marked first, then their wires.
+#![tactic(auto)]
 ghost use Rattle.std.specs.Prelude.{◌≡◌, false, map, ◌++◌, ◌+◌, ◌<◌, ◌≤◌, ℕ, drop, get_or, length, replicate, take};
 ghost use Rattle.std.proofs.lemmas.List.Edits.{sets};
 ghost use Rattle.lists.specs.Lists.{has, padded, sum, tabulate};
@@ -13,7 +14,7 @@ use pattern::Counts;
 use words::{index, sum_of};
 
 // Which wires a shell has, and whether another shell lists one of its faces.
-#[derive(Drop)]
+#[derive(Clone, Copy)]
 pub struct Marks {
     pub shared: bool,
     pub wires: [bool; 1024],

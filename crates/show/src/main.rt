@@ -1,4 +1,5 @@
 // Reads one pattern file on standard input, to its end, and prints it as text.
+#![tactic(auto)]
 use libc::STDOUT_FILENO;
 
 fn print_text(text: &[u8; 262144], n: usize) {

@@ -1,4 +1,5 @@
 // The solid (solid.rs, Solid::try_new): what is wrong with a shell of it, and with which.
+#![tactic(auto)]
 ghost use Rattle.std.specs.Prelude.{◌≡◌};
 ghost use Rattle.solid.specs.Solid.{errors_of, reason_number};
 ghost use Rattle.solid.specs.Sequence.{and_then, first_error, in_solid};
@@ -6,7 +7,7 @@ ghost use Rattle.solid.specs.Sequence.{and_then, first_error, in_solid};
 use condition::Condition;
 
 // A shell's own reason.
-#[derive(Drop)]
+#[derive(Clone, Copy)]
 pub enum ShellError {
     EmptyShell,
     NotConnected,
@@ -14,20 +15,20 @@ pub enum ShellError {
     NotManifold,
 }
 
-#[derive(Drop)]
+#[derive(Clone, Copy)]
 pub enum ShellCheck {
     Fine,
     Wrong(ShellError),
 }
 
 // A refusal of a solid: the shell's number, and its reason.
-#[derive(Drop)]
+#[derive(Clone, Copy)]
 pub struct SolidError {
     pub shell: usize,
     pub reason: ShellError,
 }
 
-#[derive(Drop)]
+#[derive(Clone, Copy)]
 pub enum SolidCheck {
     Accepted,
     Refused(SolidError),

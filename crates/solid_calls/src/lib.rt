@@ -1,4 +1,5 @@
 // The solid of a pattern in the store (Solid::try_new): each shell in turn, after the reading checks.
+#![tactic(auto)]
 ghost use Rattle.std.specs.Prelude.{◌≡◌, ◌<◌, get_or};
 ghost use Rattle.columns.specs.Columns.{Made};
 ghost use Rattle.columns.specs.Sound.{OfTables};
@@ -16,7 +17,7 @@ use store::{Spans, Tables, counts_in};
 use store_check::check;
 
 // A solid is accepted, or refused for one of its shells; or the reading checks refuse the pattern.
-#[derive(Drop)]
+#[derive(Clone, Copy)]
 pub enum SolidAnswer {
     Accepted,
     Refused(SolidError),

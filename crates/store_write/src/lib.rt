@@ -1,4 +1,5 @@
 // The file of a pattern in the store.
+#![tactic(auto)]
 ghost use Rattle.std.specs.Prelude.{◌≡◌, [], map, ◌++◌, true, ℕ, ◌+◌, ◌*◌, ◌≤◌, ◌<◌, drop, get_or, length, take};
 ghost use Rattle.std.proofs.lemmas.List.Edits.{sets};
 ghost use Rattle.lists.specs.Lists.{flat, tabulate};
@@ -24,7 +25,7 @@ use words::{put_u16, put_u32, put_u64};
 
 // The answer: the length of the file, the refusal of the reading checks, or no space (17) with the
 // length that the file needs.
-#[derive(Drop)]
+#[derive(Clone, Copy)]
 pub enum Written {
     Length(usize),
     Refused(Refusal),

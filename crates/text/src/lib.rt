@@ -1,11 +1,12 @@
 // The lines of a text, the words of a line, and what a word can say.
+#![tactic(auto)]
 ghost use Rattle.std.specs.Prelude.{◌≡◌, drop, length, take};
 ghost use Prim.Native.Nat.{◌+◌, ◌-◌, ◌≤◌, ◌<◌};
 ghost use Rattle.text.specs.Text.{before, is_blank, is_feed, is_ink, trimmed};
 ghost use Rattle.text.specs.Tokens.{name, number, signed};
 
 // What a word says: a value, or not what was asked.
-#[derive(Drop)]
+#[derive(Clone, Copy)]
 pub enum Token {
     Value(u64),
     Not,

@@ -1,5 +1,6 @@
 // The wire (the Rust's wire.rs). A wire is a slice of uses; `fronts` and `backs` have the ends of
 // the edges by edge number.
+#![tactic(auto)]
 ghost use Rattle.std.specs.Prelude.{◌≡◌, ◌+◌, ◌<◌, length};
 ghost use Rattle.lists.specs.Lists.{no_dup};
 ghost use Rattle.lists.specs.Marks.{stamped, met, Below};
@@ -12,7 +13,7 @@ use errors::{WireCheck, WireError};
 use vertex::VertexID;
 
 // Where a use was found.
-#[derive(Drop)]
+#[derive(Clone, Copy)]
 pub enum Found {
     At(usize),
     Nothing,

@@ -1,5 +1,6 @@
 // The static library for clients: every callable part on a pattern file in memory, with C's calling
 // convention. include/wuzsanget.h says what each takes, returns and leaves behind.
+#![tactic(auto)]
 ghost use Rattle.std.specs.Prelude.{◌≡◌, List, [], ◌++◌, ◌∷◌, map, ℕ, length};
 ghost use Rattle.std.proofs.lemmas.List.Edits.{sets};
 ghost use Rattle.lists.specs.Lists.{flat};
