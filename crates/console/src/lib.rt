@@ -1,15 +1,23 @@
-// What the programs share: their usage, standard input read to its end, the files that the arguments
-// name, and texts written to a descriptor. No contract says what a descriptor gave or was given; the texts
-// are proved where they are made.
+// What the programs share: their arguments and usage, standard input read to its end, the files that the
+// arguments name, and texts that are printed. No contract says what a reader gave or a stream was given; the
+// texts are proved where they are made.
 #![tactic(auto)]
-ghost use Rattle.std.specs.Prelude.{◌≡◌, length};
-ghost use Rattle.io.specs.Counts.{IsPrefixLen};
-ghost use Rattle.libc.specs.Io.{Moved};
+
+ghost use Rattle.std.specs.Prelude.{◌≡◌, ◌≤◌, length};
 ghost use Rattle.console.specs.Help.{is_help};
+ghost use Rattle.console.specs.Counts.{IsPrefixLen, Moved};
+
+mod words;
 
 use errors::Refusal;
-use libc::{STDERR_FILENO, STDIN_FILENO, STDOUT_FILENO};
+use std::env::FillError;
+use std::fs::File;
+use std::io;
+use std::io::Read;
+use std::rt::Env;
+use std::str::from_utf8;
 use text::name_of;
+pub use words::{fail, say};
 
 // Whether a word asks for help.
 fn is_help(word: &[u8]) -> bool
@@ -22,144 +30,182 @@ fn is_help(word: &[u8]) -> bool
     name == 0x12d68
 }
 
+// Whether the program was started with argument k.
+fn is_given(rt: &HostRuntime, k: usize) -> bool {
+    let mut none = [0u8; 0];
+    match rt.arg(k, &mut none) {
+        Ok(_) => true,
+        Err(FillError::TooLong) => true,
+        Err(FillError::NotPresent) => false,
+    }
+}
+
+// How many arguments the program was started with, its own name among them.
+pub fn arg_count(rt: &HostRuntime) -> usize {
+    for k in 0..usize::MAX {
+        if !is_given(rt, k) {
+            return k;
+        }
+    }
+    usize::MAX
+}
+
+// Puts argument k at the start of the list and answers its length, or 0 where it is missing or longer than the
+// list.
+pub fn argument(rt: &HostRuntime, k: usize, word: &mut [u8]) -> usize
+    ensures { IsPrefixLen result word.new }
+{
+    match rt.arg(k, word) {
+        Ok(n) => n,
+        Err(_) => 0,
+    }
+}
+
 // Whether a program that takes no words was started with none. Where its only word asks for help, its usage
 // goes to standard output, which `output` names; where it was started with others, to standard error.
-pub fn is_alone(output: &[u8], usage: &[u8]) -> bool {
-    let given = os::arg_count();
+pub fn is_alone(rt: &HostRuntime, output: &[u8], usage: &[u8]) -> bool {
+    let given = arg_count(rt);
     if given == 1 {
         return true;
     }
     if given == 2 {
         let mut word = [0u8; 8];
-        let n = os::arg(1, &mut word);
+        let n = argument(rt, 1, &mut word);
         if is_help(&word[..n]) {
-            if !io::write_all(STDOUT_FILENO, usage) {
-                os::fail(output);
+            if let Err(e) = rt.write_all(usage) {
+                fail(rt, output, e);
             }
             return false;
         }
     }
-    io::write_all(STDERR_FILENO, usage);
+    let _ = rt.stderr().write_all(usage);
     false
 }
 
-// Reads until the list is full or the input ends, and answers how many bytes, or -1 at a read that fails.
-pub fn read_all(fd: i32, bytes: &mut [u8]) -> isize
+// Reads until the list is full or the input ends, and answers how many bytes, or the error of a read that fails.
+pub fn read_all<R: Read>(from: &mut R, bytes: &mut [u8]) -> io::Result<usize>
     ensures { Moved (length bytes.old) result }
 {
     let mut done: usize = 0;
     while done < bytes.len() {
-        let got = libc::read(fd, &mut bytes[done..]);
-        if got < 0 {
-            return -1;
-        }
-        let more = io::count(got, &bytes[done..]);
+        let more = from.read(&mut bytes[done..])?;
         if more == 0 {
-            return done as isize;
+            return Ok(done);
         }
         done += more;
     }
-    done as isize
+    Ok(done)
 }
 
-// Reads the rest of an input that is longer than any that is taken. Whether no read failed.
-fn drain() -> bool {
-    let mut scratch = [0u8; 4096];
-    let mut turn: u64 = 0;
-    while turn < 18446744073709551615 {
-        let got = libc::read(STDIN_FILENO, &mut scratch);
-        if got < 0 {
-            return false;
+// Reads until the list is full, the input ends or a read fails, and answers how many bytes it put at the start
+// of the list.
+pub fn read_full<R: Read>(from: &mut R, bytes: &mut [u8]) -> usize
+    ensures { IsPrefixLen result bytes.new }
+{
+    let mut done: usize = 0;
+    while done < bytes.len() {
+        match from.read(&mut bytes[done..]) {
+            Ok(0) => return done,
+            Ok(more) => done += more,
+            Err(_) => return done,
         }
-        if got == 0 {
-            return true;
-        }
-        turn += 1;
     }
-    true
+    done
+}
+
+// Reads the rest of an input that is longer than any that is taken.
+fn drain<R: Read>(from: &mut R) -> io::Result<()> {
+    let mut scratch = [0u8; 4096];
+    for _ in 0..u64::MAX {
+        if from.read(&mut scratch)? == 0 {
+            break;
+        }
+    }
+    Ok(())
+}
+
+// Reads an input to its end, and answers how many bytes it put at the start of the list.
+fn read_whole<R: Read>(from: &mut R, bytes: &mut [u8]) -> io::Result<usize>
+    ensures { Moved (length bytes.old) result }
+{
+    let n = read_all(from, bytes)?;
+    if n == bytes.len() {
+        drain(from)?;
+    }
+    Ok(n)
 }
 
 // Reads standard input to its end, and answers how many bytes it put at the start of the list: a list of
 // one byte more than is taken is full where the input is too long. Where a read fails, at any place, it says
-// why on standard error, after `input`, and answers -1.
-pub fn read_input(input: &[u8], bytes: &mut [u8]) -> isize
+// why on standard error, after `input`, and answers the error.
+pub fn read_input(rt: &HostRuntime, input: &[u8], bytes: &mut [u8]) -> io::Result<usize>
     ensures { Moved (length bytes.old) result }
 {
-    let got = read_all(STDIN_FILENO, bytes);
-    if got < 0 {
-        os::fail(input);
-        return -1;
-    }
-    if io::count(got, bytes) == bytes.len() {
-        if !drain() {
-            os::fail(input);
-            return -1;
+    match read_whole(&mut rt.stdin(), bytes) {
+        Ok(n) => Ok(n),
+        Err(e) => {
+            fail(rt, input, e);
+            Err(e)
         }
     }
-    got
 }
 
 // The first n bytes, or nothing where there are fewer. Whether all was written.
-pub fn print_first(fd: i32, bytes: &[u8], n: usize) -> bool {
+pub fn print_first(to: &impl Print, bytes: &[u8], n: usize) -> io::Result<()> {
     if n > bytes.len() {
-        return false;
+        return Err(io::Error::from(io::ErrorKind::InvalidInput));
     }
-    io::write_all(fd, &bytes[0..n])
+    to.write_all(&bytes[0..n])
 }
 
 // The line of a refusal, `output::refusal_line`. Whether all of it was written.
-pub fn print_refusal(fd: i32, f: Refusal) -> bool {
+pub fn print_refusal(to: &impl Print, f: Refusal) -> io::Result<()> {
     let mut line = [0u8; 96];
     let length = output::refusal_line(f, &mut line);
-    io::write_all(fd, &line[0..length])
+    to.write_all(&line[0..length])
 }
 
 // The first n bytes of a report, or nothing where there are fewer. Whether all was written.
-pub fn print_report(fd: i32, text: &[u8; 1126400], n: usize) -> bool {
-    let whole: &[u8] = text;
-    if n > whole.len() {
-        return false;
-    }
-    io::write_all(fd, &whole[0..n])
+pub fn print_report(to: &impl Print, text: &[u8; 1126400], n: usize) -> io::Result<()> {
+    print_first(to, text, n)
 }
 
 // The first n bytes of an answer to a job, or nothing where there are fewer. Whether all was written.
-pub fn print_answer(fd: i32, text: &[u8; 65536], n: usize) -> bool {
-    let whole: &[u8] = text;
-    print_first(fd, whole, n)
+pub fn print_answer(to: &impl Print, text: &[u8; 65536], n: usize) -> io::Result<()> {
+    print_first(to, text, n)
 }
 
 // Argument k, of at most 64 bytes.
-pub fn print_argument(fd: i32, k: usize) -> bool {
+pub fn print_argument(rt: &HostRuntime, k: usize) -> io::Result<()> {
     let mut name = [0u8; 64];
-    let length = os::arg(k, &mut name);
-    io::write_all(fd, &name[..length])
+    let length = argument(rt, k, &mut name);
+    rt.write_all(&name[..length])
 }
 
 // The line that stands before what is said of the file that argument k names.
-pub fn print_file_line(fd: i32, k: usize) -> bool {
-    io::write_all(fd, b"file ");
-    print_argument(fd, k);
-    io::write_all(fd, b"\n")
+pub fn print_file_line(rt: &HostRuntime, k: usize) -> io::Result<()> {
+    rt.write_all(b"file ")?;
+    print_argument(rt, k)?;
+    rt.write_all(b"\n")
 }
 
-// Opens the file that argument k names, and answers its descriptor, or -1.
-pub fn open_argument(k: usize) -> i32 {
+// Opens the file that argument k names.
+pub fn open_argument(rt: &HostRuntime, k: usize) -> io::Result<File> {
     let mut name = [0u8; 64];
-    let length = os::arg(k, &mut name);
-    os::open_read(&name[..length])
+    let length = argument(rt, k, &mut name);
+    match from_utf8(&name[..length]) {
+        Ok(path) => File::open(rt, path),
+        Err(_) => Err(io::Error::from(io::ErrorKind::InvalidFilename)),
+    }
 }
 
 // Reads the file that argument k names, and answers how many bytes it put at the start of the list; 0 where
 // the file cannot be opened.
-pub fn read_argument(k: usize, bytes: &mut [u8]) -> usize
+pub fn read_argument(rt: &HostRuntime, k: usize, bytes: &mut [u8]) -> usize
     ensures { IsPrefixLen result bytes.new }
 {
-    let fd = open_argument(k);
-    if fd < 0 {
-        return 0;
+    match open_argument(rt, k) {
+        Ok(mut file) => read_full(&mut file, bytes),
+        Err(_) => 0,
     }
-    let n = io::read_full(fd, bytes);
-    libc::close(fd);
-    n
 }

@@ -17,14 +17,14 @@ module _ (N : Numeral) (back : Reads N) where
   one : (m r : ℕ) → r < N.base → (N.all (digit_byte r ∷ []) ≡ true) × (N.after m (digit_byte r ∷ []) ≡ m * N.base + r)
   one m r h =
       let b = back r h in (
-        rw (N.All-cons (digit_byte r) [], b.0, N.All-nil),
+        rw (N.all_cons (digit_byte r) [], b.0, N.all_nil),
         rw (N.after_cons m (digit_byte r) [], b.1, N.after_nil (m * N.base + r)),
       )
 
   -- the last d digits, after what stands before them
   pub last_all : (d n : ℕ) → N.all (last_in N.base d n) ≡ true
   unfolding last_in
-  last_all zero n = N.All-nil
+  last_all zero n = N.all_nil
   last_all (suc d) n =
       rw (all_append N (last_in N.base d (n / N.base)) (digit_byte (n % N.base) ∷ []), last_all d (n / N.base))
       (one 0 (n % N.base) (mod-lt n {m = N.base} N.some)).0

@@ -1,5 +1,6 @@
 // What the programs print: texts, decimal numbers and the line of a refusal, as bytes.
 #![tactic(auto)]
+
 ghost use Rattle.std.specs.Prelude.{◌≡◌, ◌++◌, ◌+◌, ◌≤◌, length};
 ghost use Rattle.std.proofs.lemmas.List.Edits.{sets};
 ghost use Rattle.output.specs.Text.{decimal, refusal_line};

@@ -1,2 +1,1 @@
-pub mod Stat
 pub mod Same

@@ -1,47 +1,45 @@
 -- Times and files that are the same, and those that are not.
-use mathlib.Core.Bool.{Bool, false, true}
-use mathlib.Core.Path.{◌≡◌}
-use mir.Syntax.{w64}
-use mir.Val.{of_z}
+use Rattle.std.proofs.Common.{◌≡◌, Bool, false, true}
+use Rattle.std.specs.Int.{cast_unsigned, w64}
 use borrow.Author.Tests.{eq-eqb, ne_eqb}
-use Rattle.libc.specs.declared.types.stat.{stat}
-use Rattle.libc.specs.declared.types.timespec.{timespec}
+use Rattle.replace.specs.declared.status.Found.{Found}
+use Rattle.replace.specs.declared.status.Time.{Time}
 use Rattle.replace.specs.Same.{same_file, same_time}
 
-module _ (a b : timespec) where
-  pub seconds_differ : (of_z w64 a.tv_sec ≡ of_z w64 b.tv_sec → ⊥) → false ≡ same_time a b
+module _ (a b : Time) where
+  pub seconds_differ : (cast_unsigned w64 a.seconds ≡ cast_unsigned w64 b.seconds → ⊥) → false ≡ same_time a b
   unfolding same_time
   seconds_differ h = rw (ne_eqb _ _ h)
 
-  module _ (s : of_z w64 a.tv_sec ≡ of_z w64 b.tv_sec) where
-    pub nanos_differ : (of_z w64 a.tv_nsec ≡ of_z w64 b.tv_nsec → ⊥) → false ≡ same_time a b
+  module _ (s : cast_unsigned w64 a.seconds ≡ cast_unsigned w64 b.seconds) where
+    pub nanos_differ : (cast_unsigned w64 a.nanoseconds ≡ cast_unsigned w64 b.nanoseconds → ⊥) → false ≡ same_time a b
     unfolding same_time
     nanos_differ h = rw (eq-eqb _ _ s, ne_eqb _ _ h)
 
-    pub times_same : of_z w64 a.tv_nsec ≡ of_z w64 b.tv_nsec → true ≡ same_time a b
+    pub times_same : cast_unsigned w64 a.nanoseconds ≡ cast_unsigned w64 b.nanoseconds → true ≡ same_time a b
     unfolding same_time
     times_same h = rw (eq-eqb _ _ s, eq-eqb _ _ h)
 
-module _ (a b : stat) where
-  pub device_differs : (a.st_dev ≡ b.st_dev → ⊥) → false ≡ same_file a b
+module _ (a b : Found) where
+  pub device_differs : (a.device ≡ b.device → ⊥) → false ≡ same_file a b
   unfolding same_file
   device_differs h = rw (ne_eqb _ _ h)
 
-  module _ (d : a.st_dev ≡ b.st_dev) where
-    pub inode_differs : (a.st_ino ≡ b.st_ino → ⊥) → false ≡ same_file a b
+  module _ (d : a.device ≡ b.device) where
+    pub inode_differs : (a.number ≡ b.number → ⊥) → false ≡ same_file a b
     unfolding same_file
     inode_differs h = rw (eq-eqb _ _ d, ne_eqb _ _ h)
 
-    module _ (i : a.st_ino ≡ b.st_ino) where
-      pub size_differs : (of_z w64 a.st_size ≡ of_z w64 b.st_size → ⊥) → false ≡ same_file a b
+    module _ (i : a.number ≡ b.number) where
+      pub size_differs : (a.size ≡ b.size → ⊥) → false ≡ same_file a b
       unfolding same_file
       size_differs h = rw (eq-eqb _ _ d, eq-eqb _ _ i, ne_eqb _ _ h)
 
-      module _ (s : of_z w64 a.st_size ≡ of_z w64 b.st_size) (m : Bool) (is : m ≡ same_time a.st_mtim b.st_mtim) where
+      module _ (s : a.size ≡ b.size) (m : Bool) (is : m ≡ same_time a.modified b.modified) where
         pub bytes_differ : m ≡ false → false ≡ same_file a b
         unfolding same_file
         bytes_differ h = rw (eq-eqb _ _ d, eq-eqb _ _ i, eq-eqb _ _ s, ← is, h)
 
-        pub bytes_same : m ≡ true → (r : Bool) → r ≡ same_time a.st_ctim b.st_ctim → r ≡ same_file a b
+        pub bytes_same : m ≡ true → (r : Bool) → r ≡ same_time a.changed b.changed → r ≡ same_file a b
         unfolding same_file
         bytes_same h r e = rw (eq-eqb _ _ d, eq-eqb _ _ i, eq-eqb _ _ s, ← is, h, e)

@@ -1,8 +1,12 @@
 // Names that are made of a path.
-ghost use Rattle.std.specs.Prelude.{◌≤◌, length};
-ghost use Rattle.libc.specs.Io.{Ended};
+ghost use Rattle.std.specs.Prelude.{◌<◌, ◌≤◌, length};
+ghost use Rattle.replace.specs.Paths.{Ended};
 
-use libc::PATH_MAX;
+use std::io;
+use std::str::from_utf8;
+
+// How many bytes C takes for a path, the 0 at its end among them.
+pub const PATH_MAX: usize = 4096;
 
 const LAST: usize = PATH_MAX - 1;
 
@@ -46,7 +50,27 @@ pub fn ended(path: &[u8]) -> [u8; PATH_MAX]
     ended
 }
 
-// Puts the path and `.XXXXXX`, for os::create_temp, into name, and answers how many bytes, or 0 where they do not fit.
+// How many bytes C reads of a path that ends in 0: those before its first 0.
+pub fn end_of(path: &[u8; PATH_MAX]) -> usize
+    requires { Ended path.now }
+    ensures { result < length path.now }
+{
+    let mut n = 0;
+    while path[n] != 0 {
+        n += 1;
+    }
+    n
+}
+
+// The path as std takes it.
+pub fn text(path: &[u8]) -> io::Result<&str> {
+    match from_utf8(path) {
+        Ok(text) => Ok(text),
+        Err(_) => Err(io::Error::new(io::ErrorKind::InvalidFilename, "its name is not UTF-8")),
+    }
+}
+
+// Puts the path and `.XXXXXX`, for files::create_temp, into name, and answers how many bytes, or 0 where they do not fit.
 pub fn temporary(path: &[u8], name: &mut [u8]) -> usize
     ensures { result ≤ length name.new }
 {
@@ -61,6 +85,23 @@ pub fn temporary(path: &[u8], name: &mut [u8]) -> usize
     copy(path, name);
     copy(b".XXXXXX", &mut name[n..]);
     end
+}
+
+// A letter or a digit.
+fn letter(random: u8) -> u8 {
+    let letters = b"abcdefghijklmnopqrstuvwxyzABCDEFGHIJKLMNOPQRSTUVWXYZ0123456789";
+    letters[(random % 62) as usize]
+}
+
+// Puts letters and digits that these random bytes choose in place of the name's last bytes.
+pub fn complete(name: &mut [u8], random: &[u8; 6]) {
+    let n = name.len();
+    if n < 6 {
+        return;
+    }
+    for k in 0..6 {
+        name[n - 6 + k] = letter(random[k]);
+    }
 }
 
 // Where the path's last `/` stands, or the path's length where it has none.

@@ -1,0 +1,10 @@
+-- The root of the point that it is at.
+use mathlib.Core.Path.{◌∙◌, ap}
+use Rattle.groups.specs.Forest.{root_of}
+use Rattle.connected.proofs.root_of.Goals as goal
+
+pub find-requires : goal.find-requires
+find-requires c = rw c.front_of.ensures c.requires.1
+
+pub returns : goal.returns
+returns c = c.find.ensures ∙ ap (root_of c.args.parents.now) c.front_of.ensures

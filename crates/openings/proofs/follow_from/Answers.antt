@@ -1,0 +1,42 @@
+use mathlib.Core.Path.{◌∙◌, refl}
+use native.Mathlib.Omega.{arith}
+use Rattle.openings.proofs.Follow.{edge_at_lem, end, going_long, going_start, less_at, next_at, room_at}
+use Rattle.openings.proofs.follow_from.Goals as goal
+
+pub loop-u-init : goal.loop-u-init
+loop-u-init c = let pre = c.requires in going_start _ _ _ _ _ _ _ pre.0 pre.1
+
+pub look_up-l-requires-clause-p_in_bounds : goal.look_up-l-requires-clause-p_in_bounds
+look_up-l-requires-clause-p_in_bounds c = c.loop-u.invariant.inside
+
+pub look_up-l-requires-clause-lookups_bound : goal.look_up-l-requires-clause-lookups_bound
+look_up-l-requires-clause-lookups_bound c = omega (arith, c.loop-u.invariant.asked, c.loop-u.invariant.all, c.requires.3)
+
+pub offset_bounds-out-m : goal.offset_bounds-out-m
+offset_bounds-out-m c = let look_up = c.look_up-l in
+    let h = room_at _ _ _ _ _ _ _ _ _ _ _ _ c.loop-u.invariant _ _ _ look_up.ensures.answer_value look_up.ensures.kept_after_2 look_up.ensures.lookups_value c.in-Use.u c.in-Use.is c.requires.2 in
+    omega (arith, h)
+
+pub bounds-out-m : goal.bounds-out-m
+bounds-out-m c = let look_up = c.look_up-l in
+    room_at _ _ _ _ _ _ _ _ _ _ _ _ c.loop-u.invariant _ _ _ look_up.ensures.answer_value look_up.ensures.kept_after_2 look_up.ensures.lookups_value c.in-Use.u c.in-Use.is c.requires.2
+
+pub overflow_add-m : goal.overflow_add-m
+overflow_add-m c = let look_up = c.look_up-l in
+    let h = room_at _ _ _ _ _ _ _ _ _ _ _ _ c.loop-u.invariant _ _ _ look_up.ensures.answer_value look_up.ensures.kept_after_2 look_up.ensures.lookups_value c.in-Use.u c.in-Use.is c.requires.2 in
+    omega (arith, h)
+
+pub back_of-q-requires : goal.back_of-q-requires
+back_of-q-requires c = let look_up = c.look_up-l in
+    let h = edge_at_lem _ _ _ _ _ _ _ _ _ _ _ _ c.loop-u.invariant _ _ _ look_up.ensures.answer_value look_up.ensures.kept_after_2 look_up.ensures.lookups_value c.in-Use.u c.in-Use.is in
+    (omega (arith, h.0, h.1), omega (arith, h.0, h.1))
+
+pub shape_of-kept : goal.shape_of-kept
+shape_of-kept c = c.look_up-l.auto.kept ∙ c.loop-u.invariant.long
+
+pub shape_of-out : goal.shape_of-out
+shape_of-out c = going_long _ _ _ _ _ _ _ _ _ _ _ _ c.loop-u.invariant
+
+pub returns : goal.returns
+returns c = let look_up = c.look_up-l in
+    end _ _ _ _ _ _ _ _ _ _ _ _ c.loop-u.invariant _ _ _ look_up.ensures.answer_value look_up.ensures.kept_after_2 look_up.ensures.lookups_value c.in-Nothing.is _ refl refl

@@ -1,0 +1,30 @@
+use Prim.Native.Nat.{◌%◌, ◌-◌, ◌/◌}
+use mathlib.Core.Logic.{⊎_elim}
+use mathlib.Core.Path.{◌∙◌, refl}
+use native.Mathlib.Omega.{arith}
+use lib.ListN.{get_or}
+use borrow.Author.Tests.{eq-eqb, ne_eqb}
+use Rattle.edge.specs.Uses.{edge_number}
+use Rattle.openings.proofs.Keeping.{keeping_all, keeping_edge, keeping_even, keeping_front, keeping_odd, keeping_start, keeping_tally}
+use Rattle.openings.proofs.keep_part.Goals as goal
+
+pub loop-i-init : goal.loop-i-init
+loop-i-init c = keeping_start _ _ _ _ _ c.requires
+
+pub bounds-odd-e : goal.bounds-odd-e
+bounds-odd-e c = keeping_tally _ _ _ _ _ c.requires _ _ c.loop-i.invariant _ (omega arith) refl
+
+pub front_of-p-requires : goal.front_of-p-requires
+front_of-p-requires c = keeping_edge _ _ _ _ _ c.requires _ _ c.loop-i.invariant _ (omega arith) refl
+
+pub keep_at-requires : goal.keep_at-requires
+keep_at-requires c = keeping_front _ _ _ _ _ c.requires _ _ c.loop-i.invariant _ (omega arith) refl _ c.front_of-p.ensures
+
+pub shape_of-kept : goal.shape_of-kept
+shape_of-kept c = c.loop-i.invariant.long
+
+pub returns-clause-kept_after : goal.returns-clause-kept_after
+returns-clause-kept_after c = keeping_all _ _ _ _ _ c.requires _ _ c.loop-i.invariant (omega arith)
+
+pub returns-clause-holding : goal.returns-clause-holding
+returns-clause-holding c = c.loop-i.invariant.holding

@@ -1,0 +1,35 @@
+use Prim.Native.Nat.{◌-◌}
+use mathlib.Core.Path.{◌∙◌, sym}
+use native.Mathlib.Omega.{arith}
+use Rattle.openings.proofs.Passes.{passing_all, passing_lens, passing_next, passing_out, passing_start}
+use Rattle.openings.proofs.walk_part.Goals as goal
+
+pub loop-i-init : goal.loop-i-init
+loop-i-init c = passing_start _ _ _ _ _ _ _ c.requires.ready
+
+pub walk_use-w-requires-clause-u_in_bounds : goal.walk_use-w-requires-clause-u_in_bounds
+walk_use-w-requires-clause-u_in_bounds c = let loop-test = c.loop-i-test in
+    (c.requires.named.edge _ loop-test.true, c.requires.named.point _ loop-test.true)
+
+pub walk_use-w-requires-clause-ready : goal.walk_use-w-requires-clause-ready
+walk_use-w-requires-clause-ready c = let loop-test = c.loop-i-test in
+    c.loop-i.invariant.ready
+
+pub loop-i-preserved : goal.loop-i-preserved
+loop-i-preserved c = let walk-use = c.walk_use-w in
+    passing_next _ _ _ _ _ _ _ _ _ _ _ _ c.loop-i.invariant c.loop-i-test.true _ _ _ _ walk-use.ensures.passed walk-use.ensures.ready_2
+
+pub shape_of-kept : goal.shape_of-kept
+shape_of-kept c = c.loop-i.invariant.ready.points ∙ sym c.requires.ready.points
+
+pub shape_of-out : goal.shape_of-out
+shape_of-out c = passing_out _ _ _ _ _ _ _ _ _ _ _ _ c.loop-i.invariant
+
+pub shape_of-lens : goal.shape_of-lens
+shape_of-lens c = passing_lens _ _ _ _ _ _ _ _ _ _ _ _ c.loop-i.invariant
+
+pub returns-clause-passed : goal.returns-clause-passed
+returns-clause-passed c = passing_all _ _ _ _ _ _ _ _ _ _ _ _ c.loop-i.invariant (omega arith)
+
+pub returns-clause-ready_2 : goal.returns-clause-ready_2
+returns-clause-ready_2 c = c.loop-i.invariant.ready
