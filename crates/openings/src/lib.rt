@@ -1,6 +1,7 @@
 // The openings of a shell, on arrays: the walk along the free uses (extract_boundaries). The kept
 // uses are a slice with a place for each point, 65535 where none is kept.
 #![tactic(auto)]
+
 ghost use Rattle.std.specs.Prelude.{◌≡◌, [], ◌∷◌, ◌+◌, ◌<◌, ◌≤◌, suc, length, set};
 ghost use Rattle.lists.specs.Lists.{only};
 ghost use Rattle.edge.specs.Uses.{front_of, back_of, edge_number};

@@ -1,6 +1,7 @@
 // The face and sign pairs of a shell, each once, ordered by first listing, without faces that have
 // no wires; their wires and uses stand one after the other in plain columns.
 #![tactic(auto)]
+
 ghost use Rattle.std.specs.Prelude.{◌≡◌, map, ℕ, ◌+◌, ◌<◌, ◌≤◌, get_or, length, replicate};
 ghost use Rattle.std.proofs.lemmas.List.Edits.{sets};
 ghost use Rattle.lists.specs.Lists.{padded};

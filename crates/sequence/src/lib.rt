@@ -2,6 +2,7 @@
 // time: a pass from the last member to the first threads the members of each key, then each thread
 // is followed from its head.
 #![tactic(auto)]
+
 ghost use Rattle.std.specs.Prelude.{◌≡◌, map, ◌+◌, ◌≤◌, length, get_or};
 ghost use Rattle.std.proofs.lemmas.List.Edits.{sets};
 ghost use Rattle.lists.specs.Lists.{flat};

@@ -1,5 +1,5 @@
-// The static library for clients: every callable part on a pattern file in memory, with C's calling
-// convention. include/wuzsanget.h says what each takes, returns and leaves behind.
+// The library for clients: every callable part on a pattern file in memory. include/wuzsanget.h says what each takes,
+// returns and leaves behind; the crate wuzsanget_c exports each with C's calling convention.
 #![tactic(auto)]
 ghost use Rattle.std.specs.Prelude.{◌≡◌, List, [], ◌++◌, ◌∷◌, map, ℕ, length};
 ghost use Rattle.std.proofs.lemmas.List.Edits.{sets};
@@ -55,45 +55,39 @@ fn named(n: usize) -> u16
 }
 
 // WUZSANGET_VERSION of include/wuzsanget.h.
-#[unsafe(no_mangle)]
-pub extern "C" fn wuzsanget_version() -> usize
+pub fn wuzsanget_version() -> usize
     ensures { result ≡ 2 }
 {
     2
 }
 
-#[unsafe(no_mangle)]
-pub extern "C" fn wuzsanget_read(file: &[u8]) -> Answer
+pub fn wuzsanget_read(file: &[u8]) -> Answer
     ensures { result ≡ file_check file.now }
 {
     check_file(file)
 }
 
-#[unsafe(no_mangle)]
-pub extern "C" fn wuzsanget_counts(file: &[u8], counts: &mut [u16; BODIES]) -> Answer
+pub fn wuzsanget_counts(file: &[u8], counts: &mut [u16; BODIES]) -> Answer
     ensures value { result ≡ file_check file.now }
     ensures counts_after { counts.new ≡ sets counts.old 0 (file_counts_out file.now) }
 {
     file_counts(file, counts)
 }
 
-#[unsafe(no_mangle)]
-pub extern "C" fn wuzsanget_outline(file: &[u8], wire: usize) -> Answer
+pub fn wuzsanget_outline(file: &[u8], wire: usize) -> Answer
     ensures { result ≡ file_outline file.now wire }
 {
     file_outline(file, wire)
 }
 
-#[unsafe(no_mangle)]
-pub extern "C" fn wuzsanget_write(file: &[u8], out: &mut [u8]) -> Answer
+pub fn wuzsanget_write(file: &[u8], out: &mut [u8]) -> Answer
     ensures value { result ≡ file_written file.now out.old }
     ensures out_after { out.new ≡ file_written_bytes file.now out.old }
 {
     rewrite_file(file, out)
 }
 
-#[unsafe(no_mangle)]
-pub extern "C" fn wuzsanget_report(file: &[u8], text: &mut [u8; 1126400]) -> usize
+pub fn wuzsanget_report(file: &[u8], text: &mut [u8; 1126400]) -> usize
     ensures value { result ≡ length (report_of file.now) }
     ensures text_after { text.new ≡ sets text.old 0 (report_of file.now) }
     ensures report_promised { ReportPromised file.now }
@@ -101,15 +95,13 @@ pub extern "C" fn wuzsanget_report(file: &[u8], text: &mut [u8; 1126400]) -> usi
     report(file, text)
 }
 
-#[unsafe(no_mangle)]
-pub extern "C" fn wuzsanget_show(file: &[u8], text: &mut [u8; 262144]) -> usize
+pub fn wuzsanget_show(file: &[u8], text: &mut [u8; 262144]) -> usize
     ensures { (text.new ≡ sets text.old 0 (file_text file.now)) × (result ≡ length (file_text file.now)) }
 {
     show(file, text)
 }
 
-#[unsafe(no_mangle)]
-pub extern "C" fn wuzsanget_draft(
+pub fn wuzsanget_draft(
     text: &[u8],
     out: &mut [u8; LONGEST],
     said: &mut [u8; 256],
@@ -120,23 +112,20 @@ pub extern "C" fn wuzsanget_draft(
     draft(text, out, said)
 }
 
-#[unsafe(no_mangle)]
-pub extern "C" fn wuzsanget_import(mesh: &[u8], out: &mut [u8]) -> Answer
+pub fn wuzsanget_import(mesh: &[u8], out: &mut [u8]) -> Answer
     ensures value { (result ≡ import_values (imported mesh.now out.old)) × (out.new ≡ imported_in mesh.now out.old) }
     ensures import_promised { ImportPromised mesh.now }
 {
     import_file(mesh, out)
 }
 
-#[unsafe(no_mangle)]
-pub extern "C" fn wuzsanget_import_start(numbers: &mut Numbers, index: &mut Index)
+pub fn wuzsanget_import_start(numbers: &mut Numbers, index: &mut Index)
     ensures { (p : Pattern) → HasRead [] (reader_in numbers.new) p index.new }
 {
     start_import(numbers, index)
 }
 
-#[unsafe(no_mangle)]
-pub extern "C" fn wuzsanget_import_step(
+pub fn wuzsanget_import_step(
     numbers: &mut Numbers,
     tables: &mut Tables,
     spans: &mut Spans,
@@ -148,8 +137,7 @@ pub extern "C" fn wuzsanget_import_step(
     step_import(numbers, tables, spans, index, piece)
 }
 
-#[unsafe(no_mangle)]
-pub extern "C" fn wuzsanget_import_finish(
+pub fn wuzsanget_import_finish(
     numbers: &mut Numbers,
     tables: &mut Tables,
     spans: &mut Spans,
@@ -161,15 +149,13 @@ pub extern "C" fn wuzsanget_import_finish(
     finish_import(numbers, tables, spans, index, out)
 }
 
-#[unsafe(no_mangle)]
-pub extern "C" fn wuzsanget_shell_condition(file: &[u8], shell: usize) -> Answer
+pub fn wuzsanget_shell_condition(file: &[u8], shell: usize) -> Answer
     ensures { result ≡ file_condition file.now shell }
 {
     file_condition(file, shell)
 }
 
-#[unsafe(no_mangle)]
-pub extern "C" fn wuzsanget_extract_boundaries(
+pub fn wuzsanget_extract_boundaries(
     file: &[u8],
     shell: usize,
     uses: &mut [u16; 2048],
@@ -183,15 +169,13 @@ pub extern "C" fn wuzsanget_extract_boundaries(
     file_openings(file, shell, uses, lengths)
 }
 
-#[unsafe(no_mangle)]
-pub extern "C" fn wuzsanget_is_connected(file: &[u8], shell: usize) -> Answer
+pub fn wuzsanget_is_connected(file: &[u8], shell: usize) -> Answer
     ensures { result ≡ file_connected file.now shell }
 {
     file_connected(file, shell)
 }
 
-#[unsafe(no_mangle)]
-pub extern "C" fn wuzsanget_connected_components(
+pub fn wuzsanget_connected_components(
     file: &[u8],
     shell: usize,
     listings: &mut [u16; 512],
@@ -204,8 +188,7 @@ pub extern "C" fn wuzsanget_connected_components(
     file_components(file, shell, listings, lengths)
 }
 
-#[unsafe(no_mangle)]
-pub extern "C" fn wuzsanget_singular_vertices(
+pub fn wuzsanget_singular_vertices(
     file: &[u8],
     shell: usize,
     points: &mut [u16; 2048],
@@ -216,15 +199,13 @@ pub extern "C" fn wuzsanget_singular_vertices(
     file_singular(file, shell, points)
 }
 
-#[unsafe(no_mangle)]
-pub extern "C" fn wuzsanget_solid(file: &[u8]) -> Answer
+pub fn wuzsanget_solid(file: &[u8]) -> Answer
     ensures { result ≡ file_solid file.now }
 {
     file_solid(file)
 }
 
-#[unsafe(no_mangle)]
-pub extern "C" fn wuzsanget_cut_edge(
+pub fn wuzsanget_cut_edge(
     file: &[u8],
     shell: usize,
     edge: usize,
@@ -238,8 +219,7 @@ pub extern "C" fn wuzsanget_cut_edge(
     file_cut(file, shell, named(edge), named(point), parameter, out)
 }
 
-#[unsafe(no_mangle)]
-pub extern "C" fn wuzsanget_remove_vertex(
+pub fn wuzsanget_remove_vertex(
     file: &[u8],
     shell: usize,
     point: usize,
@@ -251,24 +231,21 @@ pub extern "C" fn wuzsanget_remove_vertex(
     file_remove(file, shell, named(point), out)
 }
 
-#[unsafe(no_mangle)]
-pub extern "C" fn wuzsanget_concat(file: &[u8], a: usize, b: usize, out: &mut [u8]) -> Answer
+pub fn wuzsanget_concat(file: &[u8], a: usize, b: usize, out: &mut [u8]) -> Answer
     ensures value { result ≡ file_concat file.now (short a) (short b) out.old }
     ensures out_after { out.new ≡ file_concat_bytes file.now (short a) (short b) out.old }
 {
     file_concat(file, named(a), named(b), out)
 }
 
-#[unsafe(no_mangle)]
-pub extern "C" fn wuzsanget_add_vertex(file: &[u8], label: usize, out: &mut [u8]) -> Answer
+pub fn wuzsanget_add_vertex(file: &[u8], label: usize, out: &mut [u8]) -> Answer
     ensures value { result ≡ file_vertex file.now label out.old }
     ensures out_after { out.new ≡ file_vertex_bytes file.now label out.old }
 {
     file_add_vertex(file, label, out)
 }
 
-#[unsafe(no_mangle)]
-pub extern "C" fn wuzsanget_add_boundary(
+pub fn wuzsanget_add_boundary(
     file: &[u8],
     face: usize,
     wire: &[u16],
@@ -282,8 +259,7 @@ pub extern "C" fn wuzsanget_add_boundary(
     file_add(file, named(face), wire, uses, lengths)
 }
 
-#[unsafe(no_mangle)]
-pub extern "C" fn wuzsanget_cut_by_wire(
+pub fn wuzsanget_cut_by_wire(
     file: &[u8],
     face: usize,
     wire: &[u16],
@@ -297,8 +273,7 @@ pub extern "C" fn wuzsanget_cut_by_wire(
     file_cut_by_wire(file, named(face), wire, uses, lengths)
 }
 
-#[unsafe(no_mangle)]
-pub extern "C" fn wuzsanget_cut_by_edge(
+pub fn wuzsanget_cut_by_edge(
     file: &[u8],
     face: usize,
     edge_use: usize,
@@ -312,8 +287,7 @@ pub extern "C" fn wuzsanget_cut_by_edge(
     file_cut_by_edge(file, named(face), named(edge_use), uses, lengths)
 }
 
-#[unsafe(no_mangle)]
-pub extern "C" fn wuzsanget_glue(
+pub fn wuzsanget_glue(
     file: &[u8],
     face: usize,
     other: usize,
@@ -327,8 +301,7 @@ pub extern "C" fn wuzsanget_glue(
     file_glue(file, named(face), named(other), uses, lengths)
 }
 
-#[unsafe(no_mangle)]
-pub extern "C" fn wuzsanget_edit(
+pub fn wuzsanget_edit(
     line: &[u8],
     file: &[u8],
     out: &mut [u8; LONGEST],

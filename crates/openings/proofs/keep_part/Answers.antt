@@ -7,6 +7,7 @@ use borrow.Author.Tests.{eq-eqb, ne_eqb}
 use Rattle.edge.specs.Uses.{edge_number}
 use Rattle.openings.proofs.Keeping.{keeping_all, keeping_edge, keeping_even, keeping_front, keeping_odd, keeping_start, keeping_tally}
 use Rattle.openings.proofs.keep_part.Goals as goal
+use Rattle.openings.proofs.keep_part.Goals.{then-odd-e-eq1, else-odd-e-eq1}
 
 pub loop-i-init : goal.loop-i-init
 loop-i-init c = keeping_start _ _ _ _ _ c.requires
@@ -28,3 +29,11 @@ returns-clause-kept_after c = keeping_all _ _ _ _ _ c.requires _ _ c.loop-i.inva
 
 pub returns-clause-holding : goal.returns-clause-holding
 returns-clause-holding c = c.loop-i.invariant.holding
+
+pub loop-i-preserved : goal.loop-i-preserved
+loop-i-preserved c = let loop = c.loop-i in
+    let u = get_or c.args.part.now loop.i 0 in
+    elim c.if-odd-e-eq1.branch [
+      | then-odd-e-eq1 w ↦ rw (w.kept-is ∙ w.keep_at.ensures) (keeping_odd _ _ _ _ _ c.requires _ _ loop.invariant u (omega arith) refl (eq-eqb (get_or c.args.odd.now (edge_number u) 0 / 16 % 2) 1 w.if-odd-e-eq1.true) _ w.front_of-p.ensures)
+      | else-odd-e-eq1 w ↦ rw w.kept-is (keeping_even _ _ _ _ _ c.requires _ _ loop.invariant u (omega arith) refl (ne_eqb (get_or c.args.odd.now (edge_number u) 0 / 16 % 2) 1 w.if-odd-e-eq1.false))
+    ]

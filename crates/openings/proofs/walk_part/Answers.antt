@@ -8,16 +8,13 @@ pub loop-i-init : goal.loop-i-init
 loop-i-init c = passing_start _ _ _ _ _ _ _ c.requires.ready
 
 pub walk_use-w-requires-clause-u_in_bounds : goal.walk_use-w-requires-clause-u_in_bounds
-walk_use-w-requires-clause-u_in_bounds c = let loop-test = c.loop-i-test in
-    (c.requires.named.edge _ loop-test.true, c.requires.named.point _ loop-test.true)
+walk_use-w-requires-clause-u_in_bounds c = (c.requires.named.edge _ c.loop-i-test.true, c.requires.named.point _ c.loop-i-test.true)
 
 pub walk_use-w-requires-clause-ready : goal.walk_use-w-requires-clause-ready
-walk_use-w-requires-clause-ready c = let loop-test = c.loop-i-test in
-    c.loop-i.invariant.ready
+walk_use-w-requires-clause-ready c = c.loop-i.invariant.ready
 
 pub loop-i-preserved : goal.loop-i-preserved
-loop-i-preserved c = let walk-use = c.walk_use-w in
-    passing_next _ _ _ _ _ _ _ _ _ _ _ _ c.loop-i.invariant c.loop-i-test.true _ _ _ _ walk-use.ensures.passed walk-use.ensures.ready_2
+loop-i-preserved c = passing_next _ _ _ _ _ _ _ _ _ _ _ _ c.loop-i.invariant c.loop-i-test.true _ _ _ _ c.walk_use-w.ensures.passed c.walk_use-w.ensures.ready_2
 
 pub shape_of-kept : goal.shape_of-kept
 shape_of-kept c = c.loop-i.invariant.ready.points ∙ sym c.requires.ready.points

@@ -21,9 +21,7 @@ pub bounds-lens-openings : goal.bounds-lens-openings
 bounds-lens-openings c = space _ _ _ _ _ _ c.requires.ready _ c.requires.u_in_bounds.1 _ c.front_of-p.ensures c.if-kept-p.false
 
 pub returns-clause-passed : goal.returns-clause-passed
-returns-clause-passed c = let front_of = c.front_of-p in
-    let if1 = c.if-kept-p in let follow-from = c.follow_from-s in one_passed _ _ _ _ _ _ c.requires.ready _ c.requires.u_in_bounds.1 _ front_of.ensures if1.false _ _ _ follow-from.ensures _ _ refl refl refl refl
+returns-clause-passed c = one_passed _ _ _ _ _ _ c.requires.ready _ c.requires.u_in_bounds.1 _ c.front_of-p.ensures c.if-kept-p.false _ _ _ c.follow_from-s.ensures _ _ refl refl refl refl
 
 pub returns-clause-ready_2 : goal.returns-clause-ready_2
-returns-clause-ready_2 c = let front_of = c.front_of-p in
-    let if1 = c.if-kept-p in let follow-from = c.follow_from-s in one_ready _ _ _ _ _ _ c.requires.ready _ c.requires.u_in_bounds.1 _ front_of.ensures if1.false _ _ _ follow-from.ensures _ _ refl refl refl refl follow-from.auto.kept
+returns-clause-ready_2 c = one_ready _ _ _ _ _ _ c.requires.ready _ c.requires.u_in_bounds.1 _ c.front_of-p.ensures c.if-kept-p.false _ _ _ c.follow_from-s.ensures _ _ refl refl refl refl c.follow_from-s.auto.kept

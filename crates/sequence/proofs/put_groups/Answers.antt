@@ -4,6 +4,7 @@ use mathlib.Core.Path.{refl}
 use native.Mathlib.Omega.{arith}
 use Rattle.sequence.proofs.Loops.{placing_all, placing_count, placing_few, placing_first, placing_key, placing_lens, placing_other, placing_out, placing_small, placing_start, placing_writable}
 use Rattle.sequence.proofs.put_groups.Goals as goal
+use Rattle.sequence.proofs.put_groups.Goals.{then-index-i, else-index-i}
 
 pub loop-i-init : goal.loop-i-init
 loop-i-init c = let pre = c.requires in
@@ -44,3 +45,10 @@ returns-clause-lens_after c = let p = placing_all _ _ _ _ _ _ _ _ _ _ _ c.loop-i
 
 pub returns-clause-value : goal.returns-clause-value
 returns-clause-value c = let p = placing_all _ _ _ _ _ _ _ _ _ _ _ c.loop-i.invariant (omega arith) in p.1.1
+
+pub loop-i-preserved : goal.loop-i-preserved
+loop-i-preserved c = let loop = c.loop-i in let index = c.index in
+    elim c.if-index-i.branch [
+      | then-index-i w ↦ rw (w.out-is, w.lens-is, w.at-is, w.count-is) (placing_first _ _ _ _ _ _ _ _ _ _ _ loop.invariant (omega arith) _ index.ensures.0 _ c.index-in-loop-i.ensures.0 w.if-index-i.true _ _ _ w.put_group-end.ensures.out_after w.put_group-end.ensures.value refl)
+      | else-index-i w ↦ rw (w.out-is, w.lens-is, w.at-is, w.count-is) (placing_other _ _ _ _ _ _ _ _ _ _ _ loop.invariant (omega arith) _ index.ensures.0 _ c.index-in-loop-i.ensures.0 w.if-index-i.false)
+    ]

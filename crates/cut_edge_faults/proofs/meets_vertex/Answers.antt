@@ -1,0 +1,38 @@
+use Prim.Native.Nat.{◌+◌, ◌-◌, ◌≤◌}
+use native.Mathlib.Omega.{arith}
+use lib.ListN.{length}
+use Rattle.cut_edge_faults.proofs.Flags.{seeking_here, seeking_next, seeking_none, seeking_start}
+use Rattle.lists.proofs.Split.{walk_fits}
+use Rattle.wire.proofs.Laws.{named_part}
+use Rattle.cut_edge_faults.proofs.meets_vertex.Goals as goal
+
+pub loop-k-init : goal.loop-k-init
+loop-k-init c = seeking_start _ _ _ _ _
+
+pub overflow_add-at : goal.overflow_add-at
+overflow_add-at c = let fits : c.loop-k.at + c.index-n.result ≤ length c.args.uses.now = omega (arith, walk_fits _ _ _ _ c.loop-k.invariant.walk c.loop-k-test.true c.index-n.ensures.0, c.requires.lens_in_bounds.0) in
+    omega (arith, fits)
+
+pub offset_bounds-uses-at : goal.offset_bounds-uses-at
+offset_bounds-uses-at c = let fits : c.loop-k.at + c.index-n.result ≤ length c.args.uses.now = omega (arith, walk_fits _ _ _ _ c.loop-k.invariant.walk c.loop-k-test.true c.index-n.ensures.0, c.requires.lens_in_bounds.0) in
+    omega (arith, fits)
+
+pub slice_bounds-wire_meets-end : goal.slice_bounds-wire_meets-end
+slice_bounds-wire_meets-end c = let fits : c.loop-k.at + c.index-n.result ≤ length c.args.uses.now = omega (arith, walk_fits _ _ _ _ c.loop-k.invariant.walk c.loop-k-test.true c.index-n.ensures.0, c.requires.lens_in_bounds.0) in
+    omega (arith, fits)
+
+pub wire_meets-requires : goal.wire_meets-requires
+wire_meets-requires c = named_part _ _ _ c.requires.named c.loop-k.at (c.loop-k.at + c.index-n.result - c.loop-k.at)
+
+pub returns-then-wire_meets : goal.returns-then-wire_meets
+returns-then-wire_meets c = seeking_here _ _ _ _ _ _ _ c.loop-k.invariant _ c.loop-k-test.true c.index-n.ensures.0 c.wire_meets.ensures c.if-wire_meets.true
+
+pub overflow_add-at-in-loop-k : goal.overflow_add-at-in-loop-k
+overflow_add-at-in-loop-k c = let fits : c.loop-k.at + c.index-n.result ≤ length c.args.uses.now = omega (arith, walk_fits _ _ _ _ c.loop-k.invariant.walk c.loop-k-test.true c.index-n.ensures.0, c.requires.lens_in_bounds.0) in
+    omega (arith, fits)
+
+pub loop-k-preserved : goal.loop-k-preserved
+loop-k-preserved c = seeking_next _ _ _ _ _ _ _ c.loop-k.invariant _ c.loop-k-test.true c.index-n.ensures.0 c.wire_meets.ensures c.if-wire_meets.false
+
+pub returns : goal.returns
+returns c = seeking_none _ _ _ _ _ _ _ c.loop-k.invariant c.loop-k-test.false

@@ -1,0 +1,110 @@
+use Prim.Native.Nat.{◌-◌, ◌<◌}
+use mathlib.Core.List.{◌∷◌}
+use mathlib.Core.Path.{◌∙◌, ◌≡◌, ap}
+use native.Mathlib.Omega.{arith}
+use lib.ListN.{drop, drop_of_length-le, length, length-drop, take}
+use Rattle.forms.proofs.Values.{reading_all, reading_long, reading_next, reading_not, reading_room, reading_start}
+use Rattle.text.proofs.Words.{word_at, word_none, words_few, words_nil}
+use Rattle.text.specs.Text.{words}
+use borrow.Author.Rules.{rules}
+use Rattle.forms.proofs.put_values.Goals as goal
+
+pub loop-at-init : goal.loop-at-init
+loop-at-init c = (c.requires.0, reading_start _ _ (words (drop c.args.from c.args.line.now)) _)
+
+pub shape_of-out-in-Not : goal.shape_of-out-in-Not
+shape_of-out-in-Not c = reading_long c.loop-at.invariant.1
+
+pub returns-in-Not-clause-out_after : goal.returns-in-Not-clause-out_after
+returns-in-Not-clause-out_after c = let word : (
+    words (drop c.loop-at.at c.args.line.now)
+    ≡ take (c.word_end-end.result - c.word_start-start.result) (drop c.word_start-start.result c.args.line.now)
+    ∷ words (drop c.word_end-end.result c.args.line.now)
+    ) × (c.word_start-start.result < c.word_end-end.result) = word_at _ _ _ c.word_start-start.ensures.0 _ (omega arith) c.word_end-end.ensures.0 in
+    let p = reading_not c.loop-at.invariant.1 (word).0 c.kind_at.ensures c.token_of-read.ensures c.in-Not.is in p.0
+
+pub returns-in-Not-clause-words_value : goal.returns-in-Not-clause-words_value
+returns-in-Not-clause-words_value c = let word : (
+    words (drop c.loop-at.at c.args.line.now)
+    ≡ take (c.word_end-end.result - c.word_start-start.result) (drop c.word_start-start.result c.args.line.now)
+    ∷ words (drop c.word_end-end.result c.args.line.now)
+    ) × (c.word_start-start.result < c.word_end-end.result) = word_at _ _ _ c.word_start-start.ensures.0 _ (omega arith) c.word_end-end.ensures.0 in
+    let p = reading_not c.loop-at.invariant.1 (word).0 c.kind_at.ensures c.token_of-read.ensures c.in-Not.is in p.1.0
+
+pub returns-in-Not-clause-all_value : goal.returns-in-Not-clause-all_value
+returns-in-Not-clause-all_value c = let word : (
+    words (drop c.loop-at.at c.args.line.now)
+    ≡ take (c.word_end-end.result - c.word_start-start.result) (drop c.word_start-start.result c.args.line.now)
+    ∷ words (drop c.word_end-end.result c.args.line.now)
+    ) × (c.word_start-start.result < c.word_end-end.result) = word_at _ _ _ c.word_start-start.ensures.0 _ (omega arith) c.word_end-end.ensures.0 in
+    let p = reading_not c.loop-at.invariant.1 (word).0 c.kind_at.ensures c.token_of-read.ensures c.in-Not.is in p.1.1
+
+pub offset_bounds-out-i : goal.offset_bounds-out-i
+offset_bounds-out-i c = let word : (
+    words (drop c.loop-at.at c.args.line.now)
+    ≡ take (c.word_end-end.result - c.word_start-start.result) (drop c.word_start-start.result c.args.line.now)
+    ∷ words (drop c.word_end-end.result c.args.line.now)
+    ) × (c.word_start-start.result < c.word_end-end.result) = word_at _ _ _ c.word_start-start.ensures.0 _ (omega arith) c.word_end-end.ensures.0 in
+    let room : (c.loop-at.i < length c.args.out.now) × (c.loop-at.i < length c.loop-at.out) = let args = c.args in
+    reading_room c.loop-at.invariant.1 (word).0 (length (drop args.from args.line.now)) (words_few (drop args.from args.line.now)) (omega (arith, length-drop args.from args.line.now)) in
+    let h = (room).0 in search rules
+
+pub bounds-out-i : goal.bounds-out-i
+bounds-out-i c = let word : (
+    words (drop c.loop-at.at c.args.line.now)
+    ≡ take (c.word_end-end.result - c.word_start-start.result) (drop c.word_start-start.result c.args.line.now)
+    ∷ words (drop c.word_end-end.result c.args.line.now)
+    ) × (c.word_start-start.result < c.word_end-end.result) = word_at _ _ _ c.word_start-start.ensures.0 _ (omega arith) c.word_end-end.ensures.0 in
+    let room : (c.loop-at.i < length c.args.out.now) × (c.loop-at.i < length c.loop-at.out) = let args = c.args in
+    reading_room c.loop-at.invariant.1 (word).0 (length (drop args.from args.line.now)) (words_few (drop args.from args.line.now)) (omega (arith, length-drop args.from args.line.now)) in
+    (room).1
+
+pub overflow_add-i : goal.overflow_add-i
+overflow_add-i c = let word : (
+    words (drop c.loop-at.at c.args.line.now)
+    ≡ take (c.word_end-end.result - c.word_start-start.result) (drop c.word_start-start.result c.args.line.now)
+    ∷ words (drop c.word_end-end.result c.args.line.now)
+    ) × (c.word_start-start.result < c.word_end-end.result) = word_at _ _ _ c.word_start-start.ensures.0 _ (omega arith) c.word_end-end.ensures.0 in
+    let room : (c.loop-at.i < length c.args.out.now) × (c.loop-at.i < length c.loop-at.out) = let args = c.args in
+    reading_room c.loop-at.invariant.1 (word).0 (length (drop args.from args.line.now)) (words_few (drop args.from args.line.now)) (omega (arith, length-drop args.from args.line.now)) in
+    let h = (room).0 in search rules
+
+pub loop-at-smaller : goal.loop-at-smaller
+loop-at-smaller c = let word : (
+    words (drop c.loop-at.at c.args.line.now)
+    ≡ take (c.word_end-end.result - c.word_start-start.result) (drop c.word_start-start.result c.args.line.now)
+    ∷ words (drop c.word_end-end.result c.args.line.now)
+    ) × (c.word_start-start.result < c.word_end-end.result) = word_at _ _ _ c.word_start-start.ensures.0 _ (omega arith) c.word_end-end.ensures.0 in
+    let h = (word).1 in omega arith
+
+pub loop-at-preserved : goal.loop-at-preserved
+loop-at-preserved c = let word : (
+    words (drop c.loop-at.at c.args.line.now)
+    ≡ take (c.word_end-end.result - c.word_start-start.result) (drop c.word_start-start.result c.args.line.now)
+    ∷ words (drop c.word_end-end.result c.args.line.now)
+    ) × (c.word_start-start.result < c.word_end-end.result) = word_at _ _ _ c.word_start-start.ensures.0 _ (omega arith) c.word_end-end.ensures.0 in
+    (c.word_end-end.ensures.1, reading_next c.loop-at.invariant.1 (word).0 c.kind_at.ensures c.token_of-read.ensures c.in-Value.is)
+
+pub shape_of-out-after-loop-at : goal.shape_of-out-after-loop-at
+shape_of-out-after-loop-at c = reading_long c.loop-at.invariant.1
+
+pub returns-after-loop-at-clause-out_after : goal.returns-after-loop-at-clause-out_after
+returns-after-loop-at-clause-out_after c = let p = reading_all c.loop-at.invariant.1 (ap words (drop_of_length-le _ c.loop-at-test.false) ∙ words_nil) in p.0
+
+pub returns-after-loop-at-clause-words_value : goal.returns-after-loop-at-clause-words_value
+returns-after-loop-at-clause-words_value c = let p = reading_all c.loop-at.invariant.1 (ap words (drop_of_length-le _ c.loop-at-test.false) ∙ words_nil) in p.1.0
+
+pub returns-after-loop-at-clause-all_value : goal.returns-after-loop-at-clause-all_value
+returns-after-loop-at-clause-all_value c = let p = reading_all c.loop-at.invariant.1 (ap words (drop_of_length-le _ c.loop-at-test.false) ∙ words_nil) in p.1.1
+
+pub shape_of-out-then-start-line : goal.shape_of-out-then-start-line
+shape_of-out-then-start-line c = reading_long c.loop-at.invariant.1
+
+pub returns-then-start-line-clause-out_after : goal.returns-then-start-line-clause-out_after
+returns-then-start-line-clause-out_after c = let p = reading_all c.loop-at.invariant.1 (word_none _ _ _ c.word_start-start.ensures.0 c.if-start-line.true) in p.0
+
+pub returns-then-start-line-clause-words_value : goal.returns-then-start-line-clause-words_value
+returns-then-start-line-clause-words_value c = let p = reading_all c.loop-at.invariant.1 (word_none _ _ _ c.word_start-start.ensures.0 c.if-start-line.true) in p.1.0
+
+pub returns-then-start-line-clause-all_value : goal.returns-then-start-line-clause-all_value
+returns-then-start-line-clause-all_value c = let p = reading_all c.loop-at.invariant.1 (word_none _ _ _ c.word_start-start.ensures.0 c.if-start-line.true) in p.1.1
