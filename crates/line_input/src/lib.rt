@@ -1,10 +1,12 @@
 // Standard input line by line, in a buffer that the caller lends: a line is handed out as soon as it is
-// whole, and nothing is read while one is. No contract says what C's read gives.
+// whole, and nothing is read while one is. No contract says what a read gives.
 #![tactic(auto)]
+
 ghost use Rattle.std.specs.Prelude.{◌-◌, ◌≤◌, ◌≡◌, drop, length, take};
 ghost use Rattle.line_input.specs.Places.{Held, Inside};
 
-use libc::STDIN_FILENO;
+use console::fail;
+use std::io::Read;
 use text::line_end;
 
 // What is left of the input: from where to where it is in the buffer; whether what is read next belongs to a
@@ -122,21 +124,22 @@ fn shift(buffer: &mut [u8; 65537], from: usize, to: usize)
 
 // Reads once, after the first n bytes, and answers how many there are then: n where the input has ended. Where
 // the read fails, says why and answers 0.
-fn fill(name: &[u8], buffer: &mut [u8], n: usize) -> usize
+fn fill(rt: &HostRuntime, name: &[u8], buffer: &mut [u8], n: usize) -> usize
     requires { n ≤ length buffer.old }
     ensures { result ≤ length buffer.new }
 {
-    let got = libc::read(STDIN_FILENO, &mut buffer[n..]);
-    if got < 0 {
-        os::fail(name);
-        return 0;
+    match rt.stdin().read(&mut buffer[n..]) {
+        Ok(more) => n + more,
+        Err(e) => {
+            fail(rt, name, e);
+            0
+        }
     }
-    n + io::count(got, &buffer[n..])
 }
 
 // Moves what is left to the start, and reads once. The rest of a line that was handed out already is passed
 // over.
-fn refill(name: &[u8], buffer: &mut [u8; 65537], left: Input) -> Input
+fn refill(rt: &HostRuntime, name: &[u8], buffer: &mut [u8; 65537], left: Input) -> Input
     requires { Held 65537 left }
     ensures { Held 65537 result }
 {
@@ -144,7 +147,7 @@ fn refill(name: &[u8], buffer: &mut [u8; 65537], left: Input) -> Input
     let to = left.to;
     shift(buffer, from, to);
     let n = to - from;
-    let m = fill(name, buffer, n);
+    let m = fill(rt, name, buffer, n);
     if left.passing {
         let end = find(buffer, 0, m);
         if end < m {
@@ -173,7 +176,7 @@ fn refill(name: &[u8], buffer: &mut [u8; 65537], left: Input) -> Input
 // The next line of standard input. Of a line of more than 65,536 bytes the first 65,537 are handed out, once;
 // at the end of the input a rest that is not empty is a line. Where a read fails, says why on standard error,
 // after `name`, and the input has ended.
-pub fn next_line(name: &[u8], buffer: &mut [u8; 65537], input: Input) -> Got
+pub fn next_line(rt: &HostRuntime, name: &[u8], buffer: &mut [u8; 65537], input: Input) -> Got
     ensures { Inside 65537 result.fed }
 {
     let mut left = fitting(input);
@@ -184,7 +187,7 @@ pub fn next_line(name: &[u8], buffer: &mut [u8; 65537], input: Input) -> Got
         if is_ready(left, end) {
             return hand_out(left, end);
         }
-        left = refill(name, buffer, left);
+        left = refill(rt, name, buffer, left);
     }
     Got {
         input: left,

@@ -1,9 +1,10 @@
 // Reads each file that the arguments name and prints its name and the answer; an accepted pattern is
 // written back and compared with the file.
 #![tactic(auto)]
+
 use errors::Check;
-use libc::STDOUT_FILENO;
 use pattern::LONGEST;
+use std::io;
 use store::{SPANS, Spans, TABLES, Tables};
 use store_write::Written;
 
@@ -14,7 +15,7 @@ fn written_back(t: &Tables, spans: &Spans, bytes: &[u8]) -> bool {
     match answer {
         Written::Length(n) => {
             if n <= LONGEST {
-                check::same(&file[0..n], bytes)
+                &file[0..n] == bytes
             } else {
                 false
             }
@@ -24,44 +25,37 @@ fn written_back(t: &Tables, spans: &Spans, bytes: &[u8]) -> bool {
     }
 }
 
-fn answer(bytes: &[u8]) {
+fn answer(rt: &HostRuntime, bytes: &[u8]) -> io::Result<()> {
     let mut t = [0u16; TABLES];
     let mut spans = [0.0; SPANS];
     let answer = store_read::read(bytes, &mut t, &mut spans);
     match answer {
-        Check::Refused(f) => {
-            console::print_refusal(STDOUT_FILENO, f);
-        }
+        Check::Refused(f) => console::print_refusal(rt, f),
         Check::Accepted => {
             if written_back(&t, &spans, bytes) {
-                io::write_all(STDOUT_FILENO, b"accepted\n");
+                rt.write_all(b"accepted\n")
             } else {
-                io::write_all(STDOUT_FILENO, b"accepted, written back otherwise\n");
+                rt.write_all(b"accepted, written back otherwise\n")
             }
         }
     }
 }
 
-fn replay(k: usize) {
-    console::print_argument(STDOUT_FILENO, k);
-    io::write_all(STDOUT_FILENO, b" ");
-    let fd = console::open_argument(k);
-    if fd < 0 {
-        io::write_all(STDOUT_FILENO, b"not found\n");
-        return;
-    }
+fn replay(rt: &HostRuntime, k: usize) -> io::Result<()> {
+    console::print_argument(rt, k)?;
+    rt.write_all(b" ")?;
+    let Ok(mut file) = console::open_argument(rt, k) else {
+        return rt.write_all(b"not found\n");
+    };
     // One byte more than the longest file.
     let mut bytes = [0u8; LONGEST + 1];
-    let n = io::read_full(fd, &mut bytes);
-    libc::close(fd);
-    answer(&bytes[..n]);
+    let n = console::read_full(&mut file, &mut bytes);
+    answer(rt, &bytes[..n])
 }
 
-fn main() {
-    let n = os::arg_count();
-    let mut k: usize = 1;
-    while k < n {
-        replay(k);
-        k += 1;
+fn main(rt: HostRuntime) -> io::Result<()> {
+    for k in 1..console::arg_count(&rt) {
+        replay(&rt, k)?;
     }
+    Ok(())
 }

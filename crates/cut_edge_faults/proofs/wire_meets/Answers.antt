@@ -6,10 +6,26 @@ use Rattle.cut_edge_faults.proofs.Flags.{meets_off, meets_on, scan_here, scan_ne
 use Rattle.edge.specs.Uses.{front_of}
 use Rattle.lists.specs.Lists.{has}
 use Rattle.wire.proofs.Laws.{named_edge}
+use mathlib.Core.Path.{ap}
+use mathlib.Core.Bool.{not}
 use Rattle.cut_edge_faults.proofs.wire_meets.Goals as goal
+
+pub returns-then-not-flag : goal.returns-then-not-flag
+returns-then-not-flag c = let args = c.args in
+    meets_off args.flag (has args.v.0 (map (front_of args.fronts.now args.backs.now) args.uses.now)) (ap not c.if-not-flag.true)
 
 pub front_of-requires : goal.front_of-requires
 front_of-requires c = named_edge _ _ _ c.requires _ c.loop-i-test.true
 
+pub returns-then-p-front_of : goal.returns-then-p-front_of
+returns-then-p-front_of c = let args = c.args in
+    meets_on args.flag (front_of args.fronts.now args.backs.now) args.uses.now (ap not c.if-not-flag.false) c.index-p.ensures.0
+    (c.loop-i.invariant.1 ∙ scan_here (front_of _ _) _ _ _ c.loop-i-test.true (c.if-p-front_of.true ∙ c.front_of.ensures))
+
 pub loop-i-preserved : goal.loop-i-preserved
 loop-i-preserved c = (omega arith, c.loop-i.invariant.1 ∙ scan_next (front_of _ _) _ _ _ c.loop-i-test.true (λ h. c.if-p-front_of.false (h ∙ sym c.front_of.ensures)))
+
+pub returns : goal.returns
+returns c = let args = c.args in
+    meets_on args.flag (front_of args.fronts.now args.backs.now) args.uses.now (ap not c.if-not-flag.false) c.index-p.ensures.0
+    (c.loop-i.invariant.1 ∙ scan_past (front_of _ _) _ _ _ c.loop-i-test.false)
