@@ -1,4 +1,4 @@
-/* Wuzsanget: a proved checker of garment patterns, as a static library for x86-64 Linux.
+/* Wuzsanget: a proved checker of garment patterns, as a static library for x86-64 Linux (level x86-64-v2 or later).
  *
  * A pattern is given as its file, in memory. Every function takes any bytes and any numbers to an
  * answer. Nothing is kept between calls, nothing is allocated, and calls may run at the same time in

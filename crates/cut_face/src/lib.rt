@@ -1,5 +1,6 @@
 // Cutting a face (the Rust's face.rs, `Face::cut_by_wire`, `cut_by_edge`).
 #![tactic(auto)]
+
 ghost use Rattle.std.specs.Prelude.{◌≡◌, [], ◌∷◌, map, length};
 ghost use Rattle.std.proofs.lemmas.List.Edits.{sets};
 ghost use Rattle.lists.specs.Lists.{flat};

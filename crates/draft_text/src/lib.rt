@@ -1,5 +1,6 @@
 // A pattern file from text.
 #![tactic(auto)]
+
 ghost use Rattle.std.specs.Prelude.{◌≡◌, [], ◌≤◌, ◌*◌, length, get_or};
 ghost use Rattle.draft_forms.specs.LineForms.{line_kind};
 ghost use Rattle.draft_parts.specs.Parts.{joined};

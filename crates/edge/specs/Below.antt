@@ -1,5 +1,5 @@
 -- Uses of edges below a number. Cited by inner contracts.
-use Rattle.std.specs.Prelude.{ℕ, ◌-◌, ◌<◌, List, get_or, length}
+use Rattle.std.specs.Prelude.{ℕ, ◌<◌, List, get_or, length}
 use Rattle.edge.specs.Uses.{edge_number}
 
 -- every use of the list names an edge below n

@@ -1,5 +1,6 @@
 // The edge, its curve, and the use of an edge (the Rust's edge.rs).
 #![tactic(auto)]
+
 ghost use Rattle.std.specs.Prelude.{◌≡◌, ◌<◌, length};
 ghost use Rattle.edge.specs.Edges.{in_range, is_span, edge};
 ghost use Rattle.edge.specs.Uses.{edge_number, use_of, front, back, front_of, back_of};

@@ -1,5 +1,6 @@
 // The refusals of the reading checks with their values (docs/FORMAT.md 2.2; the Rust's errors.rs).
 #![tactic(auto)]
+
 ghost use Rattle.std.specs.Prelude.{◌≡◌};
 ghost use Rattle.errors.specs.Numbers.{wire_number, number, body, record_number};
 ghost use Rattle.errors.specs.Sequence.{and_then};

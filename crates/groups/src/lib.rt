@@ -2,6 +2,7 @@
 // tree. A root is its own parent and stands for its group; the smaller tree goes under the larger,
 // so no member is more than 11 steps below its root where there are 2,048.
 #![tactic(auto)]
+
 ghost use Rattle.std.specs.Prelude.{◌≡◌, ℕ, ◌+◌, ◌<◌, ◌≤◌, length, get_or};
 ghost use Rattle.groups.specs.Forest.{Climbs, Forest, Ready, joined, joined_all, root_of, started, trees, under};
 ghost use Rattle.groups.specs.Groups.{links};

@@ -1,5 +1,6 @@
 // The bytes of a mesh, piece by piece.
 #![tactic(auto)]
+
 ghost use Rattle.std.specs.Prelude.{◌≡◌, ℕ, suc, ◌+◌, ◌%◌, ◌<◌, ◌≤◌, List, [], ◌++◌, length, drop};
 ghost use Rattle.mesh.specs.Mesh.{Mesh};
 ghost use Rattle.mesh.specs.Reading.{State, byte, close_face, end_line, start};

@@ -1,5 +1,6 @@
 // The words of a mesh, as its bytes come: where they begin and end, and what they add to the mesh.
 #![tactic(auto)]
+
 ghost use Rattle.std.specs.Prelude.{false, List, [], ◌≡◌, ◌<◌, ◌≤◌, ℕ, Float, length};
 ghost use Rattle.mesh.specs.Mesh.{no_mesh};
 ghost use Rattle.mesh.specs.Reading.{State, corner_at, end_word, ink, keyed, moved, release, spell, spelled, start};

@@ -1,16 +1,15 @@
 // Reads one pattern file on standard input, to its end, and prints it as text.
 #![tactic(auto)]
-use libc::STDOUT_FILENO;
 
-fn print_text(text: &[u8; 262144], n: usize) {
-    let whole: &[u8] = text;
-    if !console::print_first(STDOUT_FILENO, whole, n) {
-        os::fail(b"show: standard output");
+fn print_text(rt: &HostRuntime, text: &[u8; 262144], n: usize) {
+    if let Err(e) = console::print_first(rt, text, n) {
+        console::fail(rt, b"show: standard output", e);
     }
 }
 
-fn main() {
+fn main(rt: HostRuntime) {
     if !console::is_alone(
+        &rt,
         b"show: standard output",
         b"usage: show < FILE\nreads a pattern file and prints it as text, or why it is refused\n",
     ) {
@@ -18,12 +17,10 @@ fn main() {
     }
     // One byte more than the longest file.
     let mut bytes = [0u8; 41049];
-    let got = console::read_input(b"show: standard input", &mut bytes);
-    if got < 0 {
+    let Ok(n) = console::read_input(&rt, b"show: standard input", &mut bytes) else {
         return;
-    }
-    let n = io::count(got, &bytes);
+    };
     let mut text = [0u8; 262144];
     let length = show_text::show(&bytes[0..n], &mut text);
-    print_text(&text, length);
+    print_text(&rt, &text, length);
 }

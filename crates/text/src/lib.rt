@@ -1,5 +1,6 @@
 // The lines of a text, the words of a line, and what a word can say.
 #![tactic(auto)]
+
 ghost use Rattle.std.specs.Prelude.{◌≡◌, drop, length, take};
 ghost use Prim.Native.Nat.{◌+◌, ◌-◌, ◌≤◌, ◌<◌};
 ghost use Rattle.text.specs.Text.{before, is_blank, is_feed, is_ink, trimmed};

@@ -1,6 +1,7 @@
 // The library for clients: every callable part on a pattern file in memory. include/wuzsanget.h says what each takes,
 // returns and leaves behind; the crate wuzsanget_c exports each with C's calling convention.
 #![tactic(auto)]
+
 ghost use Rattle.std.specs.Prelude.{◌≡◌, List, [], ◌++◌, ◌∷◌, map, ℕ, length};
 ghost use Rattle.std.proofs.lemmas.List.Edits.{sets};
 ghost use Rattle.lists.specs.Lists.{flat};
@@ -101,11 +102,7 @@ pub fn wuzsanget_show(file: &[u8], text: &mut [u8; 262144]) -> usize
     show(file, text)
 }
 
-pub fn wuzsanget_draft(
-    text: &[u8],
-    out: &mut [u8; LONGEST],
-    said: &mut [u8; 256],
-) -> Answer
+pub fn wuzsanget_draft(text: &[u8], out: &mut [u8; LONGEST], said: &mut [u8; 256]) -> Answer
     ensures value { result ≡ draft_answer (made text.now) }
     ensures out_after { (out.new ≡ made_in (made text.now) (text_file text.now) out.old) × (said.new ≡ sets said.old 0 (made_text (made text.now))) }
 {
@@ -188,11 +185,7 @@ pub fn wuzsanget_connected_components(
     file_components(file, shell, listings, lengths)
 }
 
-pub fn wuzsanget_singular_vertices(
-    file: &[u8],
-    shell: usize,
-    points: &mut [u16; 2048],
-) -> Answer
+pub fn wuzsanget_singular_vertices(file: &[u8], shell: usize, points: &mut [u16; 2048]) -> Answer
     ensures value { result ≡ file_singular file.now shell }
     ensures points_after { points.new ≡ sets points.old 0 (file_singular_out file.now shell) }
 {
@@ -219,12 +212,7 @@ pub fn wuzsanget_cut_edge(
     file_cut(file, shell, named(edge), named(point), parameter, out)
 }
 
-pub fn wuzsanget_remove_vertex(
-    file: &[u8],
-    shell: usize,
-    point: usize,
-    out: &mut [u8],
-) -> Answer
+pub fn wuzsanget_remove_vertex(file: &[u8], shell: usize, point: usize, out: &mut [u8]) -> Answer
     ensures value { result ≡ file_remove file.now shell (short point) out.old }
     ensures out_after { out.new ≡ file_remove_bytes file.now shell (short point) out.old }
 {

@@ -1,4 +1,3 @@
-use Prim.Native.Nat.{◌-◌}
 use native.Mathlib.Omega.{arith}
 use Rattle.groups.proofs.All.{joins_end, joins_next, joins_start}
 use Rattle.groups.proofs.Laws.{ready}

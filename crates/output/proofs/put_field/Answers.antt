@@ -1,5 +1,4 @@
 -- The text, then the number.
-use mathlib.Core.Path.{◌∙◌}
 use native.Mathlib.Omega.{arith}
 use lib.ListN.{length-append}
 use Rattle.lists.proofs.Sets.{put_then}

@@ -1,4 +1,3 @@
-use Prim.Native.Nat.{◌-◌}
 use borrow.Author.Tests.{eq-eqb, ne_eqb}
 use Rattle.text.proofs.Words.{scan_all, scan_next, scan_start, scan_stop}
 use Rattle.text.specs.Text.{is_feed}

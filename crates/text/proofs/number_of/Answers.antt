@@ -1,4 +1,3 @@
-use Prim.Native.Nat.{◌-◌}
 use mathlib.Core.Path.{sym}
 use native.Mathlib.Omega.{arith}
 use Rattle.text.proofs.Numbers.{digit_high, digit_low, digits_next, digits_start, number_all, number_empty, number_long, number_small, number_stop}

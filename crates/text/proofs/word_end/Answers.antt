@@ -1,4 +1,3 @@
-use Prim.Native.Nat.{◌-◌}
 use mathlib.Core.Path.{◌∙◌, sym}
 use Rattle.text.proofs.Words.{scan_all, scan_next, scan_start, scan_stop}
 use Rattle.text.specs.Text.{is_blank}

@@ -1,4 +1,3 @@
-use Prim.Native.Nat.{◌-◌}
 use mathlib.Core.Bool.{not}
 use mathlib.Core.Path.{◌∙◌, ap, sym}
 use Rattle.text.proofs.Words.{scan_all, scan_next, scan_start, scan_stop}

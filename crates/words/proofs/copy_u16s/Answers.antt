@@ -1,4 +1,3 @@
-use Prim.Native.Nat.{◌-◌}
 use native.Mathlib.Omega.{arith}
 use lib.ListN.{length-set}
 use lib.Seq.{take_all}
@@ -7,10 +6,10 @@ use Rattle.words.proofs.copy_u16s.Goals as goal
 
 pub loop-i-preserved : goal.loop-i-preserved
 loop-i-preserved c = let loop = c.loop-i in (
-      omega arith,
-      simp length-set loop.invariant.1,
-      rw loop.invariant.2 (sets_next _ _ _ _ 0 c.loop-i-test.true),
-    )
+  omega arith,
+  simp length-set loop.invariant.1,
+  rw loop.invariant.2 (sets_next _ _ _ _ 0 c.loop-i-test.true),
+)
 
 pub returns : goal.returns
 returns c = rw (take_all c.loop-i.i c.args.from.now (omega arith)) at c.loop-i.invariant.2

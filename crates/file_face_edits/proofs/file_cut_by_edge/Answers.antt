@@ -1,0 +1,23 @@
+-- The contents table first; then the edit, which applies the reading checks.
+use mathlib.Core.Path.{◌∙◌, sym}
+use mathlib.Core.List.{[], ◌∷◌}
+use lib.ListN.{length}
+use Rattle.face_edits.specs.FaceEdits.{cut_face_faults, cut_in_two}
+use Rattle.pattern.specs.Contents.{Pattern, content}
+use Rattle.file_face_edits.proofs.Laws.{loaded_owed, refused_owed}
+use Rattle.file_face_edits.proofs.file_cut_by_edge.Goals as goal
+
+pair : {A B : Type 0} → A → B → A × B
+pair a b = (a, b)
+
+-- a record from the pairs that a law gives
+split3 : {A B C R : Type 0} → (A → B → C → R) → A × (B × C) → R
+split3 f p = f p.0 p.1.0 p.1.1
+
+pub returns-in-Refused : goal.returns-in-Refused
+returns-in-Refused c = let a = c.args in
+    split3 (λ x y z. record { value = x; uses_after = y; lens_after = z }) (refused_owed a.file.now a.uses.now a.lens.now (λ (p : Pattern). cut_face_faults (content p) a.f (a.u ∷ []) (length a.uses.now) (length a.lens.now)) (λ (p : Pattern). cut_in_two (content p) a.f (a.u ∷ [])) _ (sym c.load-table.ensures.value ∙ c.in-Refused.is) _ c.unread.ensures)
+
+pub returns-in-Accepted : goal.returns-in-Accepted
+returns-in-Accepted c = let a = c.args in
+    split3 (λ x y z. record { value = x; uses_after = y; lens_after = z }) (loaded_owed a.file.now a.uses.now a.lens.now (λ (p : Pattern). cut_face_faults (content p) a.f (a.u ∷ []) (length a.uses.now) (length a.lens.now)) (λ (p : Pattern). cut_in_two (content p) a.f (a.u ∷ [])) _ c.load-table.ensures.spans_after (sym c.load-table.ensures.value ∙ c.in-Accepted.is) _ _ _ (pair c.cut_by_edge.ensures.value (pair c.cut_by_edge.ensures.uses_after c.cut_by_edge.ensures.lens_after)) _ c.face_values.ensures)

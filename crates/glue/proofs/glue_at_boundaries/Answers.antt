@@ -1,0 +1,164 @@
+-- The reading checks first; then each test is one of the definition's, in sequence.
+use Prim.Native.Nat.{◌≤◌, ◌<◌, ℕ}
+use mathlib.Core.List.{List}
+use mathlib.Core.Path.{◌∙◌, ◌≡◌, ap, sym}
+use native.Mathlib.Omega.{arith}
+use lib.ListN.{get_or}
+use Rattle.errors.proofs.Laws.{accepted_none}
+use Rattle.face_edits.specs.FaceEdits.{backs_in, fronts_in, surface_of}
+use Rattle.face_parts.proofs.Facts.{Stands, backs_lent, fronts_lent, part_asked, part_stands}
+use Rattle.face_parts.proofs.Owed.{unread_owed}
+use Rattle.glue.proofs.Faces.{first_unnamed, glue_owed, parts_fit, second_unnamed, signs_differ, surface_stored, surfaces_differ}
+use Rattle.pattern.specs.Checks.{pattern_faults}
+use Rattle.pattern.specs.Contents.{content}
+use Rattle.shell.specs.Shells.{face_number}
+use Rattle.shell_wires.proofs.Facts.{Fine}
+use Rattle.shell_wires.proofs.Held.{held_fine}
+use Rattle.store.specs.Store.{count_table, held, use_table, wire_table}
+use Rattle.glue.proofs.glue_at_boundaries.Goals as goal
+
+-- a record from the pairs that a law gives
+split3 : {A B C R : Type 0} → (A → B → C → R) → A × (B × C) → R
+split3 f p = f p.0 p.1.0 p.1.1
+
+pub returns-in-Refused : goal.returns-in-Refused
+returns-in-Refused c = split3 (λ x y z. record { value = x; uses_after = y; lens_after = z }) (unread_owed _ _ _ _ _ _ (sym c.check-answer.ensures ∙ c.in-Refused.is))
+
+pub returns-then-i-counts : goal.returns-then-i-counts
+returns-then-i-counts c = let good : Fine (held c.args.t.now c.args.spans.now) = held_fine c.args.t.now c.args.spans.now c.tables_known.ensures (accepted_none (pattern_faults _) (sym c.check-answer.ensures ∙ c.in-Accepted.is)) in
+    let h : get_or c.counts_in-counts.result 4 0 ≤ face_number c.args.f = omega (arith, c.if-i-counts.true, c.index-i.ensures.0) in
+    split3 (λ x y z. record { value = x; uses_after = y; lens_after = z }) (first_unnamed _ (good) _ _ _ _ (rw c.counts_in-counts.ensures at h))
+
+pub returns-then-j-counts : goal.returns-then-j-counts
+returns-then-j-counts c = let good : Fine (held c.args.t.now c.args.spans.now) = held_fine c.args.t.now c.args.spans.now c.tables_known.ensures (accepted_none (pattern_faults _) (sym c.check-answer.ensures ∙ c.in-Accepted.is)) in
+    let h : get_or c.counts_in-counts.result 4 0 ≤ face_number c.args.g = omega (arith, c.if-j-counts.true, c.index-j.ensures.0) in
+    split3 (λ x y z. record { value = x; uses_after = y; lens_after = z }) (second_unnamed _ (good) _ _ _ _ (rw c.counts_in-counts.ensures at h))
+
+pub face_in-a-requires : goal.face_in-a-requires
+face_in-a-requires c = let good : Fine (held c.args.t.now c.args.spans.now) = held_fine c.args.t.now c.args.spans.now c.tables_known.ensures (accepted_none (pattern_faults _) (sym c.check-answer.ensures ∙ c.in-Accepted.is)) in
+    let first_here : face_number c.args.f < get_or (count_table c.args.t.now) 4 0 = let h : face_number c.args.f < get_or c.counts_in-counts.result 4 0 = omega (arith, c.if-i-counts.false, c.index-i.ensures.0) in
+    rw c.counts_in-counts.ensures at h in
+    omega (arith, first_here, c.index-i.ensures.0, (good).limits.faces)
+
+pub face_in-b-requires : goal.face_in-b-requires
+face_in-b-requires c = let good : Fine (held c.args.t.now c.args.spans.now) = held_fine c.args.t.now c.args.spans.now c.tables_known.ensures (accepted_none (pattern_faults _) (sym c.check-answer.ensures ∙ c.in-Accepted.is)) in
+    let second_here : face_number c.args.g < get_or (count_table c.args.t.now) 4 0 = let h : face_number c.args.g < get_or c.counts_in-counts.result 4 0 = omega (arith, c.if-j-counts.false, c.index-j.ensures.0) in
+    rw c.counts_in-counts.ensures at h in
+    omega (arith, second_here, c.index-j.ensures.0, (good).limits.faces)
+
+pub returns-then-a-b : goal.returns-then-a-b
+returns-then-a-b c = let good : Fine (held c.args.t.now c.args.spans.now) = held_fine c.args.t.now c.args.spans.now c.tables_known.ensures (accepted_none (pattern_faults _) (sym c.check-answer.ensures ∙ c.in-Accepted.is)) in
+    let first_here : face_number c.args.f < get_or (count_table c.args.t.now) 4 0 = let h : face_number c.args.f < get_or c.counts_in-counts.result 4 0 = omega (arith, c.if-i-counts.false, c.index-i.ensures.0) in
+    rw c.counts_in-counts.ensures at h in
+    let second_here : face_number c.args.g < get_or (count_table c.args.t.now) 4 0 = let h : face_number c.args.g < get_or c.counts_in-counts.result 4 0 = omega (arith, c.if-j-counts.false, c.index-j.ensures.0) in
+    rw c.counts_in-counts.ensures at h in
+    let first_surface : surface_of (content (held c.args.t.now c.args.spans.now)) c.args.f ≡ c.face_in-a.result.surface = surface_stored c.args.t.now c.args.spans.now (good) c.args.f (first_here) _ c.index-i.ensures.0 _ c.face_in-a.ensures in
+    let second_surface : surface_of (content (held c.args.t.now c.args.spans.now)) c.args.g ≡ c.face_in-b.result.surface = surface_stored c.args.t.now c.args.spans.now (good) c.args.g (second_here) _ c.index-j.ensures.0 _ c.face_in-b.ensures in
+    split3 (λ x y z. record { value = x; uses_after = y; lens_after = z }) (surfaces_differ _ (good) _ _ _ _ (first_here) (second_here) (λ e. c.if-a-b.true (sym (first_surface) ∙ e ∙ second_surface)))
+
+pub returns-then-f-g : goal.returns-then-f-g
+returns-then-f-g c = let good : Fine (held c.args.t.now c.args.spans.now) = held_fine c.args.t.now c.args.spans.now c.tables_known.ensures (accepted_none (pattern_faults _) (sym c.check-answer.ensures ∙ c.in-Accepted.is)) in
+    let first_here : face_number c.args.f < get_or (count_table c.args.t.now) 4 0 = let h : face_number c.args.f < get_or c.counts_in-counts.result 4 0 = omega (arith, c.if-i-counts.false, c.index-i.ensures.0) in
+    rw c.counts_in-counts.ensures at h in
+    let second_here : face_number c.args.g < get_or (count_table c.args.t.now) 4 0 = let h : face_number c.args.g < get_or c.counts_in-counts.result 4 0 = omega (arith, c.if-j-counts.false, c.index-j.ensures.0) in
+    rw c.counts_in-counts.ensures at h in
+    split3 (λ x y z. record { value = x; uses_after = y; lens_after = z }) (signs_differ _ (good) _ _ _ _ (first_here) (second_here) c.if-f-g.true)
+
+pub face_part-first-requires : goal.face_part-first-requires
+face_part-first-requires c = let good : Fine (held c.args.t.now c.args.spans.now) = held_fine c.args.t.now c.args.spans.now c.tables_known.ensures (accepted_none (pattern_faults _) (sym c.check-answer.ensures ∙ c.in-Accepted.is)) in
+    let first_here : face_number c.args.f < get_or (count_table c.args.t.now) 4 0 = let h : face_number c.args.f < get_or c.counts_in-counts.result 4 0 = omega (arith, c.if-i-counts.false, c.index-i.ensures.0) in
+    rw c.counts_in-counts.ensures at h in
+    part_asked c.args.t.now c.args.spans.now c.tables_known.ensures (good) c.args.f (first_here) _ c.index-i.ensures.0
+
+pub face_part-second-requires : goal.face_part-second-requires
+face_part-second-requires c = let good : Fine (held c.args.t.now c.args.spans.now) = held_fine c.args.t.now c.args.spans.now c.tables_known.ensures (accepted_none (pattern_faults _) (sym c.check-answer.ensures ∙ c.in-Accepted.is)) in
+    let second_here : face_number c.args.g < get_or (count_table c.args.t.now) 4 0 = let h : face_number c.args.g < get_or c.counts_in-counts.result 4 0 = omega (arith, c.if-j-counts.false, c.index-j.ensures.0) in
+    rw c.counts_in-counts.ensures at h in
+    part_asked c.args.t.now c.args.spans.now c.tables_known.ensures (good) c.args.g (second_here) _ c.index-j.ensures.0
+
+pub uses_of-requires : goal.uses_of-requires
+uses_of-requires c = let good : Fine (held c.args.t.now c.args.spans.now) = held_fine c.args.t.now c.args.spans.now c.tables_known.ensures (accepted_none (pattern_faults _) (sym c.check-answer.ensures ∙ c.in-Accepted.is)) in
+    let first_here : face_number c.args.f < get_or (count_table c.args.t.now) 4 0 = let h : face_number c.args.f < get_or c.counts_in-counts.result 4 0 = omega (arith, c.if-i-counts.false, c.index-i.ensures.0) in
+    rw c.counts_in-counts.ensures at h in
+    let first_there : Stands (content (held c.args.t.now c.args.spans.now)) c.args.f (use_table c.args.t.now) (wire_table c.args.t.now) c.face_part-first.result = part_stands c.args.t.now c.args.spans.now c.tables_known.ensures (good) c.args.f (first_here) _ c.index-i.ensures.0 _ c.face_part-first.ensures in
+    (first_there).uses_fit
+
+pub uses_of-requires-2 : goal.uses_of-requires-2
+uses_of-requires-2 c = let good : Fine (held c.args.t.now c.args.spans.now) = held_fine c.args.t.now c.args.spans.now c.tables_known.ensures (accepted_none (pattern_faults _) (sym c.check-answer.ensures ∙ c.in-Accepted.is)) in
+    let second_here : face_number c.args.g < get_or (count_table c.args.t.now) 4 0 = let h : face_number c.args.g < get_or c.counts_in-counts.result 4 0 = omega (arith, c.if-j-counts.false, c.index-j.ensures.0) in
+    rw c.counts_in-counts.ensures at h in
+    let second_there : Stands (content (held c.args.t.now c.args.spans.now)) c.args.g (use_table c.args.t.now) (wire_table c.args.t.now) c.face_part-second.result = part_stands c.args.t.now c.args.spans.now c.tables_known.ensures (good) c.args.g (second_here) _ c.index-j.ensures.0 _ c.face_part-second.ensures in
+    (second_there).uses_fit
+
+pub first_fronts-requires : goal.first_fronts-requires
+first_fronts-requires c = let good : Fine (held c.args.t.now c.args.spans.now) = held_fine c.args.t.now c.args.spans.now c.tables_known.ensures (accepted_none (pattern_faults _) (sym c.check-answer.ensures ∙ c.in-Accepted.is)) in
+    rw c.counts_in-counts.ensures (good).limits.edges
+
+pub first_backs-requires : goal.first_backs-requires
+first_backs-requires c = let good : Fine (held c.args.t.now c.args.spans.now) = held_fine c.args.t.now c.args.spans.now c.tables_known.ensures (accepted_none (pattern_faults _) (sym c.check-answer.ensures ∙ c.in-Accepted.is)) in
+    rw c.counts_in-counts.ensures (good).limits.edges
+
+pub glue_parts-requires-clause-part_fits : goal.glue_parts-requires-clause-part_fits
+glue_parts-requires-clause-part_fits c = let good : Fine (held c.args.t.now c.args.spans.now) = held_fine c.args.t.now c.args.spans.now c.tables_known.ensures (accepted_none (pattern_faults _) (sym c.check-answer.ensures ∙ c.in-Accepted.is)) in
+    let first_here : face_number c.args.f < get_or (count_table c.args.t.now) 4 0 = let h : face_number c.args.f < get_or c.counts_in-counts.result 4 0 = omega (arith, c.if-i-counts.false, c.index-i.ensures.0) in
+    rw c.counts_in-counts.ensures at h in
+    let second_here : face_number c.args.g < get_or (count_table c.args.t.now) 4 0 = let h : face_number c.args.g < get_or c.counts_in-counts.result 4 0 = omega (arith, c.if-j-counts.false, c.index-j.ensures.0) in
+    rw c.counts_in-counts.ensures at h in
+    let first_there : Stands (content (held c.args.t.now c.args.spans.now)) c.args.f (use_table c.args.t.now) (wire_table c.args.t.now) c.face_part-first.result = part_stands c.args.t.now c.args.spans.now c.tables_known.ensures (good) c.args.f (first_here) _ c.index-i.ensures.0 _ c.face_part-first.ensures in
+    let second_there : Stands (content (held c.args.t.now c.args.spans.now)) c.args.g (use_table c.args.t.now) (wire_table c.args.t.now) c.face_part-second.result = part_stands c.args.t.now c.args.spans.now c.tables_known.ensures (good) c.args.g (second_here) _ c.index-j.ensures.0 _ c.face_part-second.ensures in
+    let fronts_there : c.first_fronts.result.now ≡ fronts_in (content (held c.args.t.now c.args.spans.now)) = fronts_lent c.args.t.now c.args.spans.now c.tables_known.ensures (good) _ (rw c.counts_in-counts.ensures at c.first_fronts.ensures) in
+    let backs_there : c.first_backs.result.now ≡ backs_in (content (held c.args.t.now c.args.spans.now)) = backs_lent c.args.t.now c.args.spans.now c.tables_known.ensures (good) _ (rw c.counts_in-counts.ensures at c.first_backs.ensures) in
+    let few_points : get_or c.counts_in-counts.result 0 0 ≤ 2048 = rw c.counts_in-counts.ensures (good).limits.points in
+    let points_there : get_or c.counts_in-counts.result 0 0 ≡ get_or (count_table c.args.t.now) 0 0 = ap (λ (ns : List ℕ). get_or ns 0 0) c.counts_in-counts.ensures in
+    let args = c.args in
+    let fit = parts_fit _ (good) args.f args.g args.uses.now args.lens.now (first_here) (second_here) _ _ _ _ _ (fronts_there) (backs_there) (c.uses_of.ensures ∙ (first_there).its_uses) (c.uses_of-2.ensures ∙ (second_there).its_uses) (points_there) in
+    fit.0
+
+pub glue_parts-requires-clause-part_fits_2 : goal.glue_parts-requires-clause-part_fits_2
+glue_parts-requires-clause-part_fits_2 c = let good : Fine (held c.args.t.now c.args.spans.now) = held_fine c.args.t.now c.args.spans.now c.tables_known.ensures (accepted_none (pattern_faults _) (sym c.check-answer.ensures ∙ c.in-Accepted.is)) in
+    let first_here : face_number c.args.f < get_or (count_table c.args.t.now) 4 0 = let h : face_number c.args.f < get_or c.counts_in-counts.result 4 0 = omega (arith, c.if-i-counts.false, c.index-i.ensures.0) in
+    rw c.counts_in-counts.ensures at h in
+    let second_here : face_number c.args.g < get_or (count_table c.args.t.now) 4 0 = let h : face_number c.args.g < get_or c.counts_in-counts.result 4 0 = omega (arith, c.if-j-counts.false, c.index-j.ensures.0) in
+    rw c.counts_in-counts.ensures at h in
+    let first_there : Stands (content (held c.args.t.now c.args.spans.now)) c.args.f (use_table c.args.t.now) (wire_table c.args.t.now) c.face_part-first.result = part_stands c.args.t.now c.args.spans.now c.tables_known.ensures (good) c.args.f (first_here) _ c.index-i.ensures.0 _ c.face_part-first.ensures in
+    let second_there : Stands (content (held c.args.t.now c.args.spans.now)) c.args.g (use_table c.args.t.now) (wire_table c.args.t.now) c.face_part-second.result = part_stands c.args.t.now c.args.spans.now c.tables_known.ensures (good) c.args.g (second_here) _ c.index-j.ensures.0 _ c.face_part-second.ensures in
+    let fronts_there : c.first_fronts.result.now ≡ fronts_in (content (held c.args.t.now c.args.spans.now)) = fronts_lent c.args.t.now c.args.spans.now c.tables_known.ensures (good) _ (rw c.counts_in-counts.ensures at c.first_fronts.ensures) in
+    let backs_there : c.first_backs.result.now ≡ backs_in (content (held c.args.t.now c.args.spans.now)) = backs_lent c.args.t.now c.args.spans.now c.tables_known.ensures (good) _ (rw c.counts_in-counts.ensures at c.first_backs.ensures) in
+    let few_points : get_or c.counts_in-counts.result 0 0 ≤ 2048 = rw c.counts_in-counts.ensures (good).limits.points in
+    let points_there : get_or c.counts_in-counts.result 0 0 ≡ get_or (count_table c.args.t.now) 0 0 = ap (λ (ns : List ℕ). get_or ns 0 0) c.counts_in-counts.ensures in
+    let args = c.args in
+    let fit = parts_fit _ (good) args.f args.g args.uses.now args.lens.now (first_here) (second_here) _ _ _ _ _ (fronts_there) (backs_there) (c.uses_of.ensures ∙ (first_there).its_uses) (c.uses_of-2.ensures ∙ (second_there).its_uses) (points_there) in
+    fit.1
+
+pub glue_parts-requires-clause-points_bound : goal.glue_parts-requires-clause-points_bound
+glue_parts-requires-clause-points_bound c = let good : Fine (held c.args.t.now c.args.spans.now) = held_fine c.args.t.now c.args.spans.now c.tables_known.ensures (accepted_none (pattern_faults _) (sym c.check-answer.ensures ∙ c.in-Accepted.is)) in
+    let first_here : face_number c.args.f < get_or (count_table c.args.t.now) 4 0 = let h : face_number c.args.f < get_or c.counts_in-counts.result 4 0 = omega (arith, c.if-i-counts.false, c.index-i.ensures.0) in
+    rw c.counts_in-counts.ensures at h in
+    let second_here : face_number c.args.g < get_or (count_table c.args.t.now) 4 0 = let h : face_number c.args.g < get_or c.counts_in-counts.result 4 0 = omega (arith, c.if-j-counts.false, c.index-j.ensures.0) in
+    rw c.counts_in-counts.ensures at h in
+    let first_there : Stands (content (held c.args.t.now c.args.spans.now)) c.args.f (use_table c.args.t.now) (wire_table c.args.t.now) c.face_part-first.result = part_stands c.args.t.now c.args.spans.now c.tables_known.ensures (good) c.args.f (first_here) _ c.index-i.ensures.0 _ c.face_part-first.ensures in
+    let second_there : Stands (content (held c.args.t.now c.args.spans.now)) c.args.g (use_table c.args.t.now) (wire_table c.args.t.now) c.face_part-second.result = part_stands c.args.t.now c.args.spans.now c.tables_known.ensures (good) c.args.g (second_here) _ c.index-j.ensures.0 _ c.face_part-second.ensures in
+    let fronts_there : c.first_fronts.result.now ≡ fronts_in (content (held c.args.t.now c.args.spans.now)) = fronts_lent c.args.t.now c.args.spans.now c.tables_known.ensures (good) _ (rw c.counts_in-counts.ensures at c.first_fronts.ensures) in
+    let backs_there : c.first_backs.result.now ≡ backs_in (content (held c.args.t.now c.args.spans.now)) = backs_lent c.args.t.now c.args.spans.now c.tables_known.ensures (good) _ (rw c.counts_in-counts.ensures at c.first_backs.ensures) in
+    let few_points : get_or c.counts_in-counts.result 0 0 ≤ 2048 = rw c.counts_in-counts.ensures (good).limits.points in
+    let points_there : get_or c.counts_in-counts.result 0 0 ≡ get_or (count_table c.args.t.now) 0 0 = ap (λ (ns : List ℕ). get_or ns 0 0) c.counts_in-counts.ensures in
+    let args = c.args in
+    let fit = parts_fit _ (good) args.f args.g args.uses.now args.lens.now (first_here) (second_here) _ _ _ _ _ (fronts_there) (backs_there) (c.uses_of.ensures ∙ (first_there).its_uses) (c.uses_of-2.ensures ∙ (second_there).its_uses) (points_there) in
+    few_points
+
+pub returns : goal.returns
+returns c = let good : Fine (held c.args.t.now c.args.spans.now) = held_fine c.args.t.now c.args.spans.now c.tables_known.ensures (accepted_none (pattern_faults _) (sym c.check-answer.ensures ∙ c.in-Accepted.is)) in
+    let first_here : face_number c.args.f < get_or (count_table c.args.t.now) 4 0 = let h : face_number c.args.f < get_or c.counts_in-counts.result 4 0 = omega (arith, c.if-i-counts.false, c.index-i.ensures.0) in
+    rw c.counts_in-counts.ensures at h in
+    let second_here : face_number c.args.g < get_or (count_table c.args.t.now) 4 0 = let h : face_number c.args.g < get_or c.counts_in-counts.result 4 0 = omega (arith, c.if-j-counts.false, c.index-j.ensures.0) in
+    rw c.counts_in-counts.ensures at h in
+    let first_surface : surface_of (content (held c.args.t.now c.args.spans.now)) c.args.f ≡ c.face_in-a.result.surface = surface_stored c.args.t.now c.args.spans.now (good) c.args.f (first_here) _ c.index-i.ensures.0 _ c.face_in-a.ensures in
+    let second_surface : surface_of (content (held c.args.t.now c.args.spans.now)) c.args.g ≡ c.face_in-b.result.surface = surface_stored c.args.t.now c.args.spans.now (good) c.args.g (second_here) _ c.index-j.ensures.0 _ c.face_in-b.ensures in
+    let first_there : Stands (content (held c.args.t.now c.args.spans.now)) c.args.f (use_table c.args.t.now) (wire_table c.args.t.now) c.face_part-first.result = part_stands c.args.t.now c.args.spans.now c.tables_known.ensures (good) c.args.f (first_here) _ c.index-i.ensures.0 _ c.face_part-first.ensures in
+    let second_there : Stands (content (held c.args.t.now c.args.spans.now)) c.args.g (use_table c.args.t.now) (wire_table c.args.t.now) c.face_part-second.result = part_stands c.args.t.now c.args.spans.now c.tables_known.ensures (good) c.args.g (second_here) _ c.index-j.ensures.0 _ c.face_part-second.ensures in
+    let fronts_there : c.first_fronts.result.now ≡ fronts_in (content (held c.args.t.now c.args.spans.now)) = fronts_lent c.args.t.now c.args.spans.now c.tables_known.ensures (good) _ (rw c.counts_in-counts.ensures at c.first_fronts.ensures) in
+    let backs_there : c.first_backs.result.now ≡ backs_in (content (held c.args.t.now c.args.spans.now)) = backs_lent c.args.t.now c.args.spans.now c.tables_known.ensures (good) _ (rw c.counts_in-counts.ensures at c.first_backs.ensures) in
+    let points_there : get_or c.counts_in-counts.result 0 0 ≡ get_or (count_table c.args.t.now) 0 0 = ap (λ (ns : List ℕ). get_or ns 0 0) c.counts_in-counts.ensures in
+    let args = c.args in
+    split3 (λ x y z. record { value = x; uses_after = y; lens_after = z }) (glue_owed _ (good) _ _ args.uses.now args.lens.now (first_here) (second_here) _ _ _ _ _ (fronts_there) (backs_there) (c.uses_of.ensures ∙ (first_there).its_uses) (c.uses_of-2.ensures ∙ (second_there).its_uses) (points_there)
+    (first_surface ∙ c.if-a-b.false ∙ sym (second_surface)) c.if-f-g.false _ _ _ c.glue_parts.ensures)

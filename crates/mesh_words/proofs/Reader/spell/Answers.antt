@@ -1,0 +1,11 @@
+-- A byte after a slash, the slash, a byte past the table, and one more in it.
+use mathlib.Core.Logic.{⊎_elim}
+use Rattle.mesh_words.proofs.Spelling.{spell_next, spell_over, spell_past, spell_slash}
+use borrow.Author.Rules.{rules}
+use Rattle.mesh_words.proofs.Reader.spell.Goals as goal
+
+pub returns-then-self : goal.returns-then-self
+returns-then-self c st p index f = spell_past c.args.b f c.if-self.true
+
+pub returns-then-b-eq47 : goal.returns-then-b-eq47
+returns-then-b-eq47 c st p index f = spell_slash c.args.b f c.if-self.false c.if-self-eq-WORD.true c.if-b-eq47.true

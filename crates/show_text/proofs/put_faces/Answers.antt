@@ -1,0 +1,82 @@
+use native.Mathlib.Omega.{arith}
+use Prim.Native.Nat.{◌+◌, ◌-◌, ◌≤◌, ℕ}
+use lib.ListN.{drop, length, take}
+use mathlib.Core.Path.{◌∙◌, ◌≡◌, ap}
+use mathlib.Core.List.{List}
+use Rattle.face.specs.declared.Face.{Face}
+use Rattle.store.specs.Store.{face_in}
+use Rattle.show_text.proofs.Faces.{face_next, face_ready, face_uses, face_wires_lem, facing_all, facing_start}
+use Rattle.show_text.proofs.put_faces.Goals as goal
+
+pub loop-k-init : goal.loop-k-init
+loop-k-init c = facing_start _ _ _ _
+
+pub face_in-face-requires : goal.face_in-face-requires
+face_in-face-requires c = omega (arith, c.requires.0.few)
+
+pub overflow_add-last : goal.overflow_add-last
+overflow_add-last c = let read : c.index.result ≡ (face_in c.args.t.now c.loop-k.k).wires = c.index.ensures.0 ∙ ap (λ (f : Face). f.wires) c.face_in-face.ensures in
+    let lens : List ℕ = take (c.loop-k.wire + c.index.result - c.loop-k.wire) (drop c.loop-k.wire c.wires_in-wires.result.now) in
+    let fits : (c.loop-k.wire + c.index.result ≤ length c.wires_in-wires.result.now) × (length (lens) ≡ c.index.result) × (c.loop-k.wire + c.index.result ≤ 1024) = face_wires_lem c.tables_known.ensures c.requires.0 c.loop-k.invariant c.uses_in-uses.ensures c.wires_in-wires.ensures (omega arith) (read) in
+    omega (arith, fits)
+
+pub offset_bounds-wires-wire : goal.offset_bounds-wires-wire
+offset_bounds-wires-wire c = let read : c.index.result ≡ (face_in c.args.t.now c.loop-k.k).wires = c.index.ensures.0 ∙ ap (λ (f : Face). f.wires) c.face_in-face.ensures in
+    let lens : List ℕ = take (c.loop-k.wire + c.index.result - c.loop-k.wire) (drop c.loop-k.wire c.wires_in-wires.result.now) in
+    let fits : (c.loop-k.wire + c.index.result ≤ length c.wires_in-wires.result.now) × (length (lens) ≡ c.index.result) × (c.loop-k.wire + c.index.result ≤ 1024) = face_wires_lem c.tables_known.ensures c.requires.0 c.loop-k.invariant c.uses_in-uses.ensures c.wires_in-wires.ensures (omega arith) (read) in
+    omega (arith, fits)
+
+pub slice_bounds-lens-end : goal.slice_bounds-lens-end
+slice_bounds-lens-end c = let read : c.index.result ≡ (face_in c.args.t.now c.loop-k.k).wires = c.index.ensures.0 ∙ ap (λ (f : Face). f.wires) c.face_in-face.ensures in
+    let lens : List ℕ = take (c.loop-k.wire + c.index.result - c.loop-k.wire) (drop c.loop-k.wire c.wires_in-wires.result.now) in
+    let fits : (c.loop-k.wire + c.index.result ≤ length c.wires_in-wires.result.now) × (length (lens) ≡ c.index.result) × (c.loop-k.wire + c.index.result ≤ 1024) = face_wires_lem c.tables_known.ensures c.requires.0 c.loop-k.invariant c.uses_in-uses.ensures c.wires_in-wires.ensures (omega arith) (read) in
+    (fits).0
+
+pub sum_of-m-requires : goal.sum_of-m-requires
+sum_of-m-requires c = let read : c.index.result ≡ (face_in c.args.t.now c.loop-k.k).wires = c.index.ensures.0 ∙ ap (λ (f : Face). f.wires) c.face_in-face.ensures in
+    let lens : List ℕ = take (c.loop-k.wire + c.index.result - c.loop-k.wire) (drop c.loop-k.wire c.wires_in-wires.result.now) in
+    let fits : (c.loop-k.wire + c.index.result ≤ length c.wires_in-wires.result.now) × (length (lens) ≡ c.index.result) × (c.loop-k.wire + c.index.result ≤ 1024) = face_wires_lem c.tables_known.ensures c.requires.0 c.loop-k.invariant c.uses_in-uses.ensures c.wires_in-wires.ensures (omega arith) (read) in
+    (omega (arith, (fits).1), omega (arith, (fits).2))
+
+pub overflow_add-first : goal.overflow_add-first
+overflow_add-first c = let read : c.index.result ≡ (face_in c.args.t.now c.loop-k.k).wires = c.index.ensures.0 ∙ ap (λ (f : Face). f.wires) c.face_in-face.ensures in
+    let fits_uses : (c.loop-k.first + c.sum_of-m.result ≤ length c.uses_in-uses.result.now) × (c.loop-k.first + c.sum_of-m.result ≤ 4096) = let f = face_uses c.tables_known.ensures c.requires.0 c.loop-k.invariant c.uses_in-uses.ensures c.wires_in-wires.ensures (omega arith) (read) c.sum_of-m.ensures in
+    (f.0, f.2) in
+    omega (arith, fits_uses)
+
+pub offset_bounds-uses-first : goal.offset_bounds-uses-first
+offset_bounds-uses-first c = let read : c.index.result ≡ (face_in c.args.t.now c.loop-k.k).wires = c.index.ensures.0 ∙ ap (λ (f : Face). f.wires) c.face_in-face.ensures in
+    let fits_uses : (c.loop-k.first + c.sum_of-m.result ≤ length c.uses_in-uses.result.now) × (c.loop-k.first + c.sum_of-m.result ≤ 4096) = let f = face_uses c.tables_known.ensures c.requires.0 c.loop-k.invariant c.uses_in-uses.ensures c.wires_in-wires.ensures (omega arith) (read) c.sum_of-m.ensures in
+    (f.0, f.2) in
+    omega (arith, fits_uses)
+
+pub slice_bounds-put_face-end : goal.slice_bounds-put_face-end
+slice_bounds-put_face-end c = let read : c.index.result ≡ (face_in c.args.t.now c.loop-k.k).wires = c.index.ensures.0 ∙ ap (λ (f : Face). f.wires) c.face_in-face.ensures in
+    let fits_uses : (c.loop-k.first + c.sum_of-m.result ≤ length c.uses_in-uses.result.now) × (c.loop-k.first + c.sum_of-m.result ≤ 4096) = let f = face_uses c.tables_known.ensures c.requires.0 c.loop-k.invariant c.uses_in-uses.ensures c.wires_in-wires.ensures (omega arith) (read) c.sum_of-m.ensures in
+    (f.0, f.2) in
+    (fits_uses).0
+
+pub put_face-end-requires : goal.put_face-end-requires
+put_face-end-requires c = let read : c.index.result ≡ (face_in c.args.t.now c.loop-k.k).wires = c.index.ensures.0 ∙ ap (λ (f : Face). f.wires) c.face_in-face.ensures in
+    let f = face_ready c.tables_known.ensures c.requires.0 c.loop-k.invariant c.uses_in-uses.ensures c.wires_in-wires.ensures (omega arith) (read) c.sum_of-m.ensures c.requires.1 in
+    (f.0, omega (arith, c.requires.0.few), f.1)
+
+pub overflow_add-first-in-loop-k : goal.overflow_add-first-in-loop-k
+overflow_add-first-in-loop-k c = let read : c.index.result ≡ (face_in c.args.t.now c.loop-k.k).wires = c.index.ensures.0 ∙ ap (λ (f : Face). f.wires) c.face_in-face.ensures in
+    let fits_uses : (c.loop-k.first + c.sum_of-m.result ≤ length c.uses_in-uses.result.now) × (c.loop-k.first + c.sum_of-m.result ≤ 4096) = let f = face_uses c.tables_known.ensures c.requires.0 c.loop-k.invariant c.uses_in-uses.ensures c.wires_in-wires.ensures (omega arith) (read) c.sum_of-m.ensures in
+    (f.0, f.2) in
+    omega (arith, fits_uses)
+
+pub overflow_add-k : goal.overflow_add-k
+overflow_add-k c = omega (arith, c.requires.0.few)
+
+pub loop-k-preserved : goal.loop-k-preserved
+loop-k-preserved c = let read : c.index.result ≡ (face_in c.args.t.now c.loop-k.k).wires = c.index.ensures.0 ∙ ap (λ (f : Face). f.wires) c.face_in-face.ensures in
+    face_next c.tables_known.ensures c.requires.0 c.loop-k.invariant c.uses_in-uses.ensures c.wires_in-wires.ensures (omega arith) (read) c.sum_of-m.ensures (ap (λ (f : Face). f.surface) c.face_in-face.ensures) _ _ (c.put_face-end.ensures.0, c.put_face-end.ensures.1) c.put_face-end.ensures.2
+
+pub shape_of-out : goal.shape_of-out
+shape_of-out c = c.loop-k.invariant.listing.long
+
+pub returns : goal.returns
+returns c = let e = facing_all c.tables_known.ensures c.requires.0 c.loop-k.invariant c.loop-k-test.false in
+    (e.0.0, e.0.1, e.1)
