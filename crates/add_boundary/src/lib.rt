@@ -1,6 +1,7 @@
 // Adding an outline to a face (the Rust's Face::try_add_boundary). All is judged before anything is
 // written.
 #![tactic(auto)]
+
 ghost use Rattle.std.specs.Prelude.{◌≡◌, true, [], ◌∷◌, ◌++◌, map, ◌+◌, ◌<◌, ◌≤◌, suc, length};
 ghost use Rattle.std.proofs.lemmas.List.Edits.{sets};
 ghost use Rattle.lists.specs.Lists.{disjoint, flat, no_dup};

@@ -1,5 +1,6 @@
 // A fresh point, appended (the Rust's vertex.rs, `Vertex::new`).
 #![tactic(auto)]
+
 ghost use Rattle.std.specs.Prelude.{◌≡◌, []};
 ghost use Rattle.pattern.specs.Checks.{pattern_faults};
 ghost use Rattle.shell_edits.specs.Answers.{after_vertex, vertex_answer};

@@ -1,6 +1,7 @@
 // Wires in a line, and the line of a refused job. Each function writes from `at` on, and returns the
 // place after what it wrote.
 #![tactic(auto)]
+
 ghost use Rattle.std.specs.Prelude.{◌≡◌, ◌+◌, ◌≤◌, length};
 ghost use Rattle.std.proofs.lemmas.List.Edits.{sets};
 ghost use Rattle.lists.specs.Lists.{split, sum};

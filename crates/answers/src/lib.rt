@@ -1,6 +1,7 @@
 // Answers as numbers, for callers outside the library: how a call ended, the number of the
 // refusal, and the values (docs/FORMAT.md 6.2).
 #![tactic(auto)]
+
 ghost use Rattle.std.specs.Prelude.{◌≡◌};
 ghost use Rattle.answers.specs.Values.{check_values, cut_values, done, face_values, figure_values, join_values, place_values, refused as refusedAnswer, solid_values, unread as unreadAnswer, vertex_values, written_values};
 

@@ -1,6 +1,7 @@
 // What the calls on a shell of a pattern in the store share: the reading checks come first; then the shell
 // must be there.
 #![tactic(auto)]
+
 ghost use Rattle.std.specs.Prelude.{◌≡◌};
 ghost use Rattle.store.specs.Store.{held};
 ghost use Rattle.calls.specs.Calls.{presence};

@@ -2,6 +2,7 @@
 // does the next job that waits on the garment in the file that its argument names. The file is read at each
 // turn, and replaced whole before the answer.
 #![tactic(auto)]
+
 ghost use Rattle.std.specs.Prelude.{◌≡◌};
 ghost use Rattle.clerk.specs.Settled.{settled};
 

@@ -2,6 +2,7 @@
 // wires begin, where each shell's listings begin. They are made once; the reports on shells are lent
 // them with the store.
 #![tactic(auto)]
+
 ghost use Rattle.std.specs.Prelude.{◌≡◌, ◌<◌, ◌≤◌, suc, ℕ, get_or, length, replicate, take};
 ghost use Rattle.lists.specs.Lists.{padded, sum, tabulate};
 ghost use Rattle.columns.specs.Columns.{Made};

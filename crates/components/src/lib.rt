@@ -2,6 +2,7 @@
 // shared edges. Pairs and edges are members of one forest, where each use joins its edge and its
 // pair; pairs with the same root are a component.
 #![tactic(auto)]
+
 ghost use Rattle.std.specs.Prelude.{◌≡◌, map, ◌<◌, ◌≤◌, length, take};
 ghost use Rattle.std.proofs.lemmas.List.Edits.{sets};
 ghost use Rattle.lists.specs.Lists.{flat, split};

@@ -1,5 +1,6 @@
 // Joining two uses to a new edge (the Rust's edge.rs, `Edge::concat`).
 #![tactic(auto)]
+
 ghost use Rattle.std.specs.Prelude.{◌≡◌, [], ◌<◌, get_or};
 ghost use Rattle.pattern.specs.Checks.{pattern_faults};
 ghost use Rattle.pattern.specs.Contents.{content};

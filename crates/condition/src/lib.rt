@@ -1,5 +1,6 @@
 // The condition of a shell, and the tally of its uses (shell.rs: ShellCondition, Boundaries).
 #![tactic(auto)]
+
 ghost use Rattle.std.specs.Prelude.{◌≡◌, ℕ, ◌%◌, ◌+◌, ◌-◌, ◌<◌, ◌≤◌, min, eqb, drop, length, replicate, take};
 ghost use Rattle.edge.specs.Uses.{edge_number};
 ghost use Rattle.condition.specs.Tallies.{condition_in, digit, inserted, inserted_all, least, next_state, odds_in, use_condition, with_digit};

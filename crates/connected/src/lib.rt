@@ -1,6 +1,7 @@
 // Connected (is_connected): whether the points of the uses form at most one group, where each use
 // links its ends, and each wire's first point is linked with that of the next wire of its face.
 #![tactic(auto)]
+
 ghost use Rattle.std.specs.Prelude.{◌≡◌, ◌++◌, map, get_or, length, ◌<◌, ◌≤◌, ℕ};
 ghost use Rattle.lists.specs.Lists.{flat, padded, split, sum};
 ghost use Rattle.edge.specs.Uses.{back_of, front_of};

@@ -1,5 +1,6 @@
 // Cutting a curve at a parameter, and joining two (the Rust's edge.rs, `cut` and `concat`).
 #![tactic(auto)]
+
 ghost use Rattle.std.specs.Prelude.{◌≡◌};
 ghost use Rattle.curve.specs.Curves.{cut_curve, join_curves, parameter_of, refuses};
 

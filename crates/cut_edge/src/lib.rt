@@ -1,5 +1,6 @@
 // Cutting an edge of a shell, in the store (the Rust's Shell::cut_edge).
 #![tactic(auto)]
+
 ghost use Rattle.std.specs.Prelude.{[], ◌≡◌, ◌+◌, ◌<◌, ◌≤◌, get_or, length};
 ghost use Rattle.lists.specs.Lists.{flat};
 ghost use Rattle.curve.specs.declared.Halves.TheVariants.{Both};

@@ -1,6 +1,7 @@
 // The refusals of cutting an edge. The wires of the shell are flags, one for each wire of the
 // pattern.
 #![tactic(auto)]
+
 ghost use Rattle.std.specs.Prelude.{◌&&◌, map, ◌≡◌, ◌≤◌, ltb, length, take};
 ghost use Rattle.lists.specs.Lists.{has, pick, split, sum};
 ghost use Rattle.edge.specs.Uses.{edge_number};

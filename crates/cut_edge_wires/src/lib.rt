@@ -1,5 +1,6 @@
 // Writing the wires after a cut. The wires of the shell are flags, one for each wire of the pattern.
 #![tactic(auto)]
+
 ghost use Rattle.std.specs.Prelude.{map, ◌≡◌, ◌+◌, ◌<◌, ◌≤◌, length, take};
 ghost use Rattle.std.proofs.lemmas.List.Edits.{sets};
 ghost use Rattle.lists.specs.Lists.{flat, pick, split, sum};

@@ -1,5 +1,6 @@
 // The two results of cutting an outline, judged and written.
 #![tactic(auto)]
+
 ghost use Rattle.std.specs.Prelude.{◌≡◌, ◌&&◌, [], ◌++◌, ◌∷◌, map, ◌+◌, ◌-◌, ◌*◌, ◌≤◌, drop, length, take};
 ghost use Rattle.std.proofs.lemmas.List.Edits.{sets};
 ghost use Rattle.lists.specs.Lists.{flat};

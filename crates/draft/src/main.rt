@@ -1,6 +1,7 @@
 // Reads a text on standard input, to its end, and writes the pattern file that it describes. Where the text
 // has a fault, its line and what is wrong go to standard error, and nothing is written.
 #![tactic(auto)]
+
 use draft_text::Made;
 use libc::{STDERR_FILENO, STDOUT_FILENO};
 use pattern::LONGEST;

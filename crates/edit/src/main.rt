@@ -3,6 +3,7 @@
 // replaced whole before the answer. With --stop nothing is done after the first answer that is not done; with
 // --try the file is read once, and the jobs are done in memory alone.
 #![tactic(auto)]
+
 ghost use Rattle.std.specs.Prelude.{◌≡◌, ◌<◌, ◌≤◌, length};
 ghost use Rattle.queue.specs.Queue.{chosen, ending_by};
 ghost use Rattle.queue.specs.declared.Ending.TheVariants.{Done, Unread};

@@ -1,5 +1,6 @@
 // The answers of the edits. They hold no array: the pattern stands beside them.
 #![tactic(auto)]
+
 ghost use Rattle.std.specs.Prelude.{◌≡◌};
 ghost use Rattle.edit_answers.specs.Answers.{edit_number, face_edit_number};
 

@@ -1,6 +1,7 @@
 // The tally and the openings of a shell (extract_boundaries), listing by listing: each shows a part
 // of one of two columns of uses.
 #![tactic(auto)]
+
 ghost use Rattle.std.specs.Prelude.{◌≡◌, ◌≤◌, length};
 ghost use Rattle.lists.specs.Lists.{only};
 ghost use Rattle.edge.specs.Uses.{front_of, back_of};

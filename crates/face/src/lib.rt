@@ -1,5 +1,6 @@
 // The face and the face rule (the Rust's face.rs, Face::try_new).
 #![tactic(auto)]
+
 ghost use Rattle.std.specs.Prelude.{◌≡◌, [], ◌%◌, ◌+◌, ◌<◌, ◌≤◌, length, take};
 ghost use Rattle.lists.specs.Lists.{sum, split};
 ghost use Rattle.lists.specs.Marks.{Below};

@@ -1,6 +1,7 @@
 // A face in the store: where it stands, its uses, its wires' lengths; the ends of the edges; whether
 // uses name edges.
 #![tactic(auto)]
+
 ghost use Rattle.std.specs.Prelude.{◌≡◌, ◌+◌, ◌<◌, ◌≤◌, get_or, take};
 ghost use Rattle.lists.specs.Lists.{sum};
 ghost use Rattle.store.specs.Store.{use_table, wire_table};

@@ -1,6 +1,7 @@
 // The joining of two uses as a call on a pattern file in memory: the edited file is written to a lent
 // slice, and the file stays as it is.
 #![tactic(auto)]
+
 ghost use Rattle.std.specs.Prelude.{◌≡◌, []};
 ghost use Rattle.answers.specs.Values.{join_values};
 ghost use Rattle.edge.specs.declared.EdgeID.{EdgeID};

@@ -1,6 +1,7 @@
 // The cut of an edge as a call on a pattern file in memory: the edited file is written to a lent
 // slice, and the file stays as it is.
 #![tactic(auto)]
+
 ghost use Rattle.std.specs.Prelude.{◌≡◌};
 ghost use Rattle.store.specs.Store.{held};
 ghost use Rattle.file_cut.specs.FileCut.{cut_file, cut_file_bytes, file_cut, file_cut_bytes};

@@ -1,6 +1,7 @@
 // The removal of a point as a call on a pattern file in memory: the edited file is written to a lent
 // slice, and the file stays as it is.
 #![tactic(auto)]
+
 ghost use Rattle.std.specs.Prelude.{◌≡◌};
 ghost use Rattle.file_remove.specs.FileRemove.{file_remove, file_remove_bytes};
 

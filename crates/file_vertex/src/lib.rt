@@ -1,6 +1,7 @@
 // The adding of a point as a call on a pattern file in memory: the edited file is written to a lent
 // slice, and the file stays as it is.
 #![tactic(auto)]
+
 ghost use Rattle.std.specs.Prelude.{◌≡◌};
 ghost use Rattle.store.specs.Store.{held};
 ghost use Rattle.file_vertex.specs.FileVertex.{file_vertex, file_vertex_bytes, vertex_file, vertex_file_bytes};

@@ -1,5 +1,6 @@
 // Two faces of a pattern glued along the edges that they share (glue_at_boundaries).
 #![tactic(auto)]
+
 ghost use Rattle.std.specs.Prelude.{◌≡◌, map, length};
 ghost use Rattle.std.proofs.lemmas.List.Edits.{sets};
 ghost use Rattle.lists.specs.Lists.{flat};

@@ -1,6 +1,7 @@
 // The uses of two faces, kept in an array and met one after the other; the outlines that they leave,
 // chained. The kept uses are a slice with a place for each point, 65535 where none is kept.
 #![tactic(auto)]
+
 ghost use Rattle.std.specs.Prelude.{◌≡◌, ◌&&◌, false, not, ◌<◌, eqb, get_or, length};
 ghost use Rattle.std.proofs.Math.Option.{none};
 ghost use Rattle.edge.specs.Uses.{back_of, edge_number, front_of};

@@ -1,5 +1,6 @@
 // The wires that a glue leaves, judged and written; the uses of two faces glued.
 #![tactic(auto)]
+
 ghost use Rattle.std.specs.Prelude.{◌≡◌, not, List, map, ◌≤◌, ℕ, length, replicate};
 ghost use Rattle.face_edits.specs.FaceEdits.{chained, glued, keeps_rule, left_faults, meeting, met_faults};
 ghost use Rattle.lists.specs.Lists.{flat, numbers, split, sum};

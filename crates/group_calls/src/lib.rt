@@ -1,6 +1,7 @@
 // The calls on a shell of a pattern in the store that ask for its groups: whether it is connected, its
 // components, its singular points; each report by itself.
 #![tactic(auto)]
+
 ghost use Rattle.std.specs.Prelude.{◌≡◌, map, ◌<◌, ◌≤◌, get_or, length};
 ghost use Rattle.std.proofs.lemmas.List.Edits.{sets};
 ghost use Rattle.lists.specs.Lists.{flat};

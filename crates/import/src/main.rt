@@ -1,12 +1,13 @@
 // Reads a Wavefront OBJ mesh on standard input, piece by piece, to its end, and writes the pattern file of it. Where the
 // mesh is refused, the line of the refusal goes to standard error, and nothing is written.
 #![tactic(auto)]
-use libc::{STDERR_FILENO, STDIN_FILENO, STDOUT_FILENO};
+
 use mesh::Imported;
 use mesh_edges::{INDEX, Index};
 use mesh_read::step;
 use mesh_words::Reader;
 use pattern::LONGEST;
+use std::io::Read;
 use store::{SPANS, Spans, TABLES, Tables};
 
 // A mesh as far as it was read, and whether that is all of it.
@@ -16,27 +17,33 @@ struct Taken {
     whole: bool,
 }
 
-fn take_in(piece: &mut [u8], t: &mut Tables, spans: &mut Spans, index: &mut Index) -> Taken {
+fn take_in(
+    rt: &HostRuntime,
+    piece: &mut [u8],
+    t: &mut Tables,
+    spans: &mut Spans,
+    index: &mut Index,
+) -> Taken {
     let mut reader = Reader::new();
-    let mut turn: u64 = 0;
-    while turn < 18446744073709551615 {
-        let got = libc::read(STDIN_FILENO, piece);
-        if got < 0 {
-            os::fail(b"import: standard input");
-            return Taken {
-                reader,
-                whole: false,
-            };
+    for _ in 0..u64::MAX {
+        match rt.stdin().read(piece) {
+            Ok(0) => {
+                return Taken {
+                    reader,
+                    whole: true,
+                };
+            }
+            Ok(n) => {
+                reader = step(reader, &piece[0..n], t, spans, index);
+            }
+            Err(e) => {
+                console::fail(rt, b"import: standard input", e);
+                return Taken {
+                    reader,
+                    whole: false,
+                };
+            }
         }
-        if got == 0 {
-            return Taken {
-                reader,
-                whole: true,
-            };
-        }
-        let n = io::count(got, piece);
-        reader = step(reader, &piece[0..n], t, spans, index);
-        turn += 1;
     }
     Taken {
         reader,
@@ -44,20 +51,19 @@ fn take_in(piece: &mut [u8], t: &mut Tables, spans: &mut Spans, index: &mut Inde
     }
 }
 
-fn print_file(file: &[u8; LONGEST], n: usize) {
-    let whole: &[u8] = file;
-    if !console::print_first(STDOUT_FILENO, whole, n) {
-        os::fail(b"import: standard output");
+fn print_file(rt: &HostRuntime, file: &[u8; LONGEST], n: usize) {
+    if let Err(e) = console::print_first(rt, file, n) {
+        console::fail(rt, b"import: standard output", e);
     }
 }
 
-fn print_line(line: &[u8; 96], n: usize) {
-    let whole: &[u8] = line;
-    console::print_first(STDERR_FILENO, whole, n);
+fn print_line(rt: &HostRuntime, line: &[u8; 96], n: usize) {
+    let _ = console::print_first(&rt.stderr(), line, n);
 }
 
-fn main() {
+fn main(rt: HostRuntime) {
     if !console::is_alone(
+        &rt,
         b"import: standard output",
         b"usage: import < MESH > FILE\nreads a Wavefront OBJ mesh and writes its pattern file, or says why it is refused\n",
     ) {
@@ -67,7 +73,7 @@ fn main() {
     let mut spans = [0.0; SPANS];
     let mut index = [0u16; INDEX];
     let mut piece = [0u8; 16384];
-    let taken = take_in(&mut piece, &mut t, &mut spans, &mut index);
+    let taken = take_in(&rt, &mut piece, &mut t, &mut spans, &mut index);
     if !taken.whole {
         return;
     }
@@ -77,12 +83,12 @@ fn main() {
     let answer = end.answer;
     match answer {
         Imported::Length(n) => {
-            print_file(&file, n);
+            print_file(&rt, &file, n);
         }
         other => {
             let mut line = [0u8; 96];
             let length = mesh_answers::put_import(other, &mut line);
-            print_line(&line, length);
+            print_line(&rt, &line, length);
         }
     }
 }

@@ -1,6 +1,7 @@
 // The jobs of the program `edit` as lines of text: which job a line asks for, its words, and the lines
 // of the answers.
 #![tactic(auto)]
+
 ghost use Rattle.std.specs.Prelude.{◌≡◌, ◌+◌, ◌*◌, ◌≤◌, eqb, drop, length, take};
 ghost use Rattle.std.proofs.lemmas.List.Edits.{sets};
 ghost use Rattle.lists.specs.Lists.{split, sum};

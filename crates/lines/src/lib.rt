@@ -1,6 +1,7 @@
 // The lines that `report` prints of a shell and of a solid, as bytes. Each function writes from `at`
 // on, and returns the place after what it wrote.
 #![tactic(auto)]
+
 ghost use Rattle.std.specs.Prelude.{◌≡◌, [], ◌∷◌, map, ◌+◌, ◌<◌, ◌≤◌, leb, length};
 ghost use Rattle.std.proofs.lemmas.List.Edits.{sets};
 ghost use Rattle.lists.specs.Lists.{flat, pick, split, sum};

@@ -1,6 +1,7 @@
 // The uses of a listing (Face::edge_iter): a face listed reversed shows each wire in reverse order
 // with every use turned. Both forms of all wires stand in columns, so that a listing is a part of one.
 #![tactic(auto)]
+
 ghost use Rattle.std.specs.Prelude.{◌≡◌, map, reverse, ◌+◌, ◌-◌, ◌≤◌, suc, drop, length, replicate, take};
 ghost use Rattle.std.proofs.lemmas.List.Edits.{sets};
 ghost use Rattle.lists.specs.Lists.{padded, pick, sum, tabulate};

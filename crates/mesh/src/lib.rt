@@ -1,5 +1,6 @@
 // A Wavefront OBJ mesh, as a pattern: what is wrong with one, and the answer of its import.
 #![tactic(auto)]
+
 use errors::Refusal;
 
 // What is wrong with a line: a word that is no number (30), a point that is not yet given or zero (31), under three

@@ -1,5 +1,6 @@
 // The answer of an import: as numbers, and as the line of a refusal.
 #![tactic(auto)]
+
 ghost use Rattle.std.specs.Prelude.{◌≡◌, ◌≤◌, length};
 ghost use Rattle.std.proofs.lemmas.List.Edits.{sets};
 ghost use Rattle.mesh_answers.specs.ImportLines.{import_line, import_values, line_refusal};

@@ -1,5 +1,6 @@
 // The points that the words of an `f` name, and the numbers of what is wrong with a line.
 #![tactic(auto)]
+
 ghost use Rattle.std.specs.Prelude.{◌≡◌};
 ghost use Rattle.mesh.specs.Mesh.{backward, fault_number, forward, numbered};
 

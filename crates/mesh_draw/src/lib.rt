@@ -1,5 +1,6 @@
 // The points and faces of a mesh, put into the tables of a pattern.
 #![tactic(auto)]
+
 ghost use Rattle.std.specs.Prelude.{◌≡◌, List, [], ◌++◌, ◌∷◌, ◌%◌, ◌+◌, ◌<◌, ℕ, eqb, Float};
 ghost use Rattle.lists.specs.Lists.{pick};
 ghost use Rattle.mesh.specs.Mesh.{Mesh, between, side_use, with_point, with_side};

@@ -1,5 +1,6 @@
 // The edges of a mesh, found by their two points.
 #![tactic(auto)]
+
 ghost use Rattle.std.specs.Prelude.{◌≡◌, List, [], ◌++◌, ◌∷◌, ◌<◌, ◌≤◌, length, replicate, take};
 ghost use Rattle.edge.specs.declared.Edge.{Edge};
 ghost use Rattle.mesh.specs.Mesh.{between, joins, place};

@@ -1,5 +1,6 @@
 // The pattern file of a mesh.
 #![tactic(auto)]
+
 ghost use Rattle.std.specs.Prelude.{List, [], ◌++◌, ◌∷◌, ◌≡◌, ◌≤◌, ℕ, Float};
 ghost use Rattle.mesh.specs.Mesh.{Mesh, imported, imported_in};
 ghost use Rattle.mesh.specs.Reading.{fault_at};

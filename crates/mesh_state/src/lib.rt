@@ -1,5 +1,6 @@
 // A reader of a mesh in a lent list of numbers.
 #![tactic(auto)]
+
 ghost use Rattle.std.specs.Prelude.{not, ◌≡◌, ◌%◌, eqb};
 ghost use Rattle.mesh_state.specs.State.{filled_in, reader_in};
 

@@ -1,5 +1,6 @@
 // The pattern in storage, and the reading checks from the counts on.
 #![tactic(auto)]
+
 ghost use Rattle.std.specs.Prelude.{◌≡◌, ◌+◌, ◌<◌, ◌≤◌, length, get_or, take};
 ghost use Rattle.errors.specs.Faults.{first as firstFault, each};
 ghost use Rattle.pattern.specs.Contents.{layout};

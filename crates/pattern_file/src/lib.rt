@@ -1,5 +1,6 @@
 // The layout of the pattern file: where its bodies stand.
 #![tactic(auto)]
+
 ghost use Rattle.std.specs.Prelude.{◌≡◌, []};
 ghost use Rattle.lists.specs.Lists.{tabulate};
 ghost use Rattle.pattern.specs.Checks.{count_faults};

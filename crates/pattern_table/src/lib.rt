@@ -1,5 +1,6 @@
 // The contents table of a pattern file.
 #![tactic(auto)]
+
 ghost use Rattle.std.specs.Prelude.{◌≡◌, ◌≤◌, length};
 ghost use Rattle.lists.specs.Lists.{tabulate};
 ghost use Rattle.errors.specs.Faults.{first as firstFault};

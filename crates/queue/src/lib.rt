@@ -1,6 +1,7 @@
 // The queue of the program `edit`: the words that it is started with, a job done on the file in memory, the
 // answer that is printed, and whether the queue stops there.
 #![tactic(auto)]
+
 ghost use Rattle.std.specs.Prelude.{◌≡◌, ◌&&◌, not, ◌≤◌, min, ltb, length, take};
 ghost use Rattle.std.proofs.lemmas.List.Edits.{sets};
 ghost use Rattle.jobs.specs.Jobs.{line_length, line_text};

@@ -1,5 +1,6 @@
 // Removing a vertex (the Rust's shell.rs, `remove_vertex_by_concat_edges`).
 #![tactic(auto)]
+
 ghost use Rattle.std.specs.Prelude.{◌≡◌, [], map, ◌<◌, ◌≤◌, get_or, length};
 ghost use Rattle.std.proofs.lemmas.List.Edits.{sets};
 ghost use Rattle.remove_vertex_corners.specs.Corners.{fit};

@@ -1,6 +1,7 @@
 // The wires with a use that ends at a vertex; that use and the next on its wire; the wires after the two give way
 // to one.
 #![tactic(auto)]
+
 ghost use Rattle.std.specs.Prelude.{◌≡◌, false, [], ◌∷◌, map, ◌+◌, ◌-◌, ◌≤◌, ◌<◌, ℕ, drop, get_or, length, take};
 ghost use Rattle.std.proofs.lemmas.List.Edits.{sets};
 ghost use Rattle.lists.specs.Lists.{numbers, only, padded, pick, split, sum, tabulate, flat};

@@ -2,6 +2,7 @@
 // pairs, each for a new scheduler. Prints for each pair the pattern file's name, and for each line the line and
 // its answer. recorded/README.md has the words.
 #![tactic(auto)]
+
 use libc::STDOUT_FILENO;
 use output::put_text;
 use pattern::LONGEST;

@@ -2,6 +2,7 @@
 // in pairs. Prints for each pair the pattern file's name, and for each line the line, the answer of `edit`,
 // and after a `done` what changed in the pattern as text. recorded/README.md has the words.
 #![tactic(auto)]
+
 use libc::STDOUT_FILENO;
 use pattern::LONGEST;
 use text::{line_end, name_of};

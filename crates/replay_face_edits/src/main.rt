@@ -2,6 +2,7 @@
 // Prints for each pair the pattern file's name, and for each line the line and what the library answers, in
 // the words of `edit`. recorded/README.md has the words.
 #![tactic(auto)]
+
 ghost use Rattle.std.specs.Prelude.{◌≤◌};
 
 use answer_lines::put_refused;

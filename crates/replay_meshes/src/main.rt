@@ -2,15 +2,16 @@
 // line of its refusal. Each mesh is read whole, and in pieces of 1, 2, 3 and 7 bytes; where these give another answer or
 // another file, a line says so.
 #![tactic(auto)]
+
 ghost use Rattle.std.specs.Prelude.{◌≤◌};
 
-use libc::STDOUT_FILENO;
 use mesh::Imported;
 use mesh_edges::INDEX;
 use mesh_file::{finish, import_mesh};
 use mesh_read::step;
 use mesh_words::Reader;
 use pattern::LONGEST;
+use std::io;
 use store::{SPANS, TABLES};
 
 fn least(a: usize, b: usize) -> usize
@@ -64,77 +65,73 @@ fn same(a: Imported, b: Imported, file: &[u8; LONGEST], other: &[u8; LONGEST]) -
     true
 }
 
-fn try_pieces(mesh: &[u8], size: usize, whole: Imported, file: &[u8; LONGEST]) {
+fn try_pieces(
+    rt: &HostRuntime,
+    mesh: &[u8],
+    size: usize,
+    whole: Imported,
+    file: &[u8; LONGEST],
+) -> io::Result<()> {
     let mut other = [0u8; LONGEST];
     let answer = in_pieces(mesh, size, &mut other);
     if !same(whole, answer, file, &other) {
-        io::write_all(STDOUT_FILENO, b"another answer in pieces of ");
-        io::print_decimal(STDOUT_FILENO, size as u64);
-        io::write_all(STDOUT_FILENO, b"\n");
+        println!(rt; "another answer in pieces of {size}")?;
     }
+    Ok(())
 }
 
-fn print_text(text: &[u8; 262144], n: usize) {
-    let whole: &[u8] = text;
-    console::print_first(STDOUT_FILENO, whole, n);
+fn print_text(rt: &HostRuntime, text: &[u8; 262144], n: usize) -> io::Result<()> {
+    console::print_first(rt, text, n)
 }
 
-fn print_pattern(file: &[u8; LONGEST], n: usize) {
+fn print_pattern(rt: &HostRuntime, file: &[u8; LONGEST], n: usize) -> io::Result<()> {
     let whole: &[u8] = file;
     if n > whole.len() {
-        return;
+        return Ok(());
     }
     let mut text = [0u8; 262144];
     let length = show_text::show(&whole[0..n], &mut text);
-    print_text(&text, length);
+    print_text(rt, &text, length)
 }
 
-fn print_line(line: &[u8; 96], n: usize) {
-    let whole: &[u8] = line;
-    console::print_first(STDOUT_FILENO, whole, n);
+fn print_line(rt: &HostRuntime, line: &[u8; 96], n: usize) -> io::Result<()> {
+    console::print_first(rt, line, n)
 }
 
-fn print_answer(answer: Imported, file: &[u8; LONGEST]) {
+fn print_answer(rt: &HostRuntime, answer: Imported, file: &[u8; LONGEST]) -> io::Result<()> {
     match answer {
-        Imported::Length(n) => {
-            print_pattern(file, n);
-        }
+        Imported::Length(n) => print_pattern(rt, file, n),
         other => {
             let mut line = [0u8; 96];
             let length = mesh_answers::put_import(other, &mut line);
-            print_line(&line, length);
+            print_line(rt, &line, length)
         }
     }
 }
 
-fn told(mesh: &[u8]) {
+fn told(rt: &HostRuntime, mesh: &[u8]) -> io::Result<()> {
     let mut file = [0u8; LONGEST];
     let answer = import_mesh(mesh, &mut file);
-    print_answer(answer, &file);
-    try_pieces(mesh, 1, answer, &file);
-    try_pieces(mesh, 2, answer, &file);
-    try_pieces(mesh, 3, answer, &file);
-    try_pieces(mesh, 7, answer, &file);
+    print_answer(rt, answer, &file)?;
+    try_pieces(rt, mesh, 1, answer, &file)?;
+    try_pieces(rt, mesh, 2, answer, &file)?;
+    try_pieces(rt, mesh, 3, answer, &file)?;
+    try_pieces(rt, mesh, 7, answer, &file)
 }
 
-fn replay(k: usize) {
-    console::print_file_line(STDOUT_FILENO, k);
-    let fd = console::open_argument(k);
-    if fd < 0 {
-        io::write_all(STDOUT_FILENO, b"not found\n");
-        return;
-    }
+fn replay(rt: &HostRuntime, k: usize) -> io::Result<()> {
+    console::print_file_line(rt, k)?;
+    let Ok(mut file) = console::open_argument(rt, k) else {
+        return rt.write_all(b"not found\n");
+    };
     let mut mesh = [0u8; 131072];
-    let n = io::read_full(fd, &mut mesh);
-    libc::close(fd);
-    told(&mesh[..n]);
+    let n = console::read_full(&mut file, &mut mesh);
+    told(rt, &mesh[..n])
 }
 
-fn main() {
-    let n = os::arg_count();
-    let mut k: usize = 1;
-    while k < n {
-        replay(k);
-        k += 1;
+fn main(rt: HostRuntime) -> io::Result<()> {
+    for k in 1..console::arg_count(&rt) {
+        replay(&rt, k)?;
     }
+    Ok(())
 }

@@ -2,6 +2,7 @@
 // whose text makes the same file; else what its making as a text gives: `length` and the length of the file, or
 // the line that says what is wrong and, after `answer`, the number of the refusal and the first two values.
 #![tactic(auto)]
+
 use libc::STDOUT_FILENO;
 use pattern::LONGEST;
 

@@ -1,5 +1,6 @@
 // What `report` prints, as bytes: for every file its whole text.
 #![tactic(auto)]
+
 ghost use Rattle.std.specs.Prelude.{◌≡◌, ℕ, ◌+◌, ◌<◌, ◌≤◌, get_or, length};
 ghost use Rattle.std.proofs.lemmas.List.Edits.{sets};
 ghost use Rattle.columns.specs.Columns.{Made};

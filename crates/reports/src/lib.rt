@@ -1,6 +1,7 @@
 // The figures of a shell of a pattern in the store: its condition and openings; whether it is connected,
 // its components and its singular points.
 #![tactic(auto)]
+
 ghost use Rattle.std.specs.Prelude.{◌≡◌, ◌<◌, ◌≤◌, get_or, length};
 ghost use Rattle.columns.specs.Columns.{lent, Made};
 ghost use Rattle.columns.specs.Sound.{OfTables};

@@ -1,5 +1,6 @@
 // A job's file saved: replaced whole by what the job left in memory, and how the job's line ends by that.
 #![tactic(auto)]
+
 ghost use Rattle.std.specs.Prelude.{◌≡◌};
 ghost use Rattle.saving.specs.Saved.{ending_after, is_changed};
 

@@ -1,6 +1,7 @@
 // Jobs of several clients, done in turn and each once: the clerk of document 02, whose desks are the slots here.
 // At a slot one job may wait, and the last one that was served there is held with its answer.
 #![tactic(auto)]
+
 ghost use Rattle.std.specs.Prelude.{◌&&◌, ◌≡◌};
 ghost use Rattle.scheduler.specs.Scheduler.{after_submit, due_answer, held_other, new_scheduler, next_job, queue_answer, same_job, same_place, slot_after, slot_answer, submit_answer, submit_number, waits_other};
 

@@ -1,5 +1,6 @@
 // The scheduler as calls: its state in a lent list of numbers, its answers as numbers.
 #![tactic(auto)]
+
 ghost use Rattle.std.specs.Prelude.{◌≡◌, length};
 ghost use Rattle.scheduler.specs.Scheduler.{after_submit, new_scheduler, submit_answer};
 ghost use Rattle.scheduler.specs.declared.Job.TheVariants.{Cut, Remove};

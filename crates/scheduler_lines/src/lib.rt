@@ -1,5 +1,6 @@
 // The lines of the program `clerk`: what a line asks for, and the lines of the answers.
 #![tactic(auto)]
+
 ghost use Rattle.std.specs.Prelude.{◌≡◌, ◌+◌, ◌*◌, ◌%◌, ◌≤◌, length, take};
 ghost use Rattle.std.proofs.lemmas.List.Edits.{sets};
 ghost use Rattle.forms.specs.Forms.{values};

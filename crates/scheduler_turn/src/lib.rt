@@ -1,5 +1,6 @@
 // A turn of the scheduler: the next job that waits is done on a pattern file in memory.
 #![tactic(auto)]
+
 ghost use Rattle.std.specs.Prelude.{◌≡◌, length};
 ghost use Rattle.scheduler_turn.specs.Turn.{after_turn, bits_of, job_answer, job_out, turn_answer, turn_out};
 

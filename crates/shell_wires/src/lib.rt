@@ -1,6 +1,7 @@
 // The wires of a shell, for its edits: which of the wires in storage are its own, and whether it
 // shares a face with another shell. Faces are marked first, then their wires.
 #![tactic(auto)]
+
 ghost use Rattle.std.specs.Prelude.{◌≡◌, false, map, ◌++◌, ◌+◌, ◌<◌, ◌≤◌, ℕ, drop, get_or, length, replicate, take};
 ghost use Rattle.std.proofs.lemmas.List.Edits.{sets};
 ghost use Rattle.lists.specs.Lists.{has, padded, sum, tabulate};

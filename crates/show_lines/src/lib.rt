@@ -1,6 +1,7 @@
 // The lines of the records of a pattern file. Each function writes from `at` on, and returns the place
 // after what it wrote.
 #![tactic(auto)]
+
 ghost use Rattle.std.specs.Prelude.{◌≡◌, ◌+◌, ◌*◌, ◌<◌, ◌≤◌, length};
 ghost use Rattle.std.proofs.lemmas.List.Edits.{sets};
 ghost use Rattle.lists.specs.Lists.{split, sum};

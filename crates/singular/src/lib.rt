@@ -2,6 +2,7 @@
 // there, fall into more than one group. Member 2e of the groups is edge e where it begins, 2e + 1
 // edge e where it ends.
 #![tactic(auto)]
+
 ghost use Rattle.std.specs.Prelude.{false, ◌≡◌, [], ◌∷◌, map, ◌*◌, ◌+◌, ◌<◌, ◌≤◌, ℕ, get_or, length, replicate};
 ghost use Rattle.std.proofs.lemmas.List.Edits.{sets};
 ghost use Rattle.lists.specs.Lists.{flat, numbers, only, pick, split, rotated};

@@ -1,5 +1,6 @@
 // The solid (solid.rs, Solid::try_new): what is wrong with a shell of it, and with which.
 #![tactic(auto)]
+
 ghost use Rattle.std.specs.Prelude.{◌≡◌};
 ghost use Rattle.solid.specs.Solid.{errors_of, reason_number};
 ghost use Rattle.solid.specs.Sequence.{and_then, first_error, in_solid};

@@ -1,5 +1,6 @@
 // The solid of a pattern in the store (Solid::try_new): each shell in turn, after the reading checks.
 #![tactic(auto)]
+
 ghost use Rattle.std.specs.Prelude.{◌≡◌, ◌<◌, get_or};
 ghost use Rattle.columns.specs.Columns.{Made};
 ghost use Rattle.columns.specs.Sound.{OfTables};

@@ -1,6 +1,7 @@
 // The store of a pattern: one array for all that has 16 bits, each table at its place, and the ends of
 // the curves beside it. A label stands in two places, the lower half first.
 #![tactic(auto)]
+
 ghost use Rattle.std.specs.Prelude.{◌≡◌, List, ◌+◌, ◌<◌, ◌≤◌, Float, length, set};
 ghost use Rattle.std.proofs.lemmas.List.Edits.{sets};
 ghost use Rattle.store.specs.Store.{count_table, edge_in, face_in, held, label_in, listing_table, shell_table, use_table, wire_table};

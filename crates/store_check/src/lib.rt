@@ -1,5 +1,6 @@
 // The reading checks of a pattern in the store, from the counts on.
 #![tactic(auto)]
+
 ghost use Rattle.std.specs.Prelude.{◌≡◌, [], ◌≤◌, take};
 ghost use Rattle.errors.specs.Faults.{first as firstFault, each};
 ghost use Rattle.lists.specs.Lists.{tabulate};

@@ -1,5 +1,6 @@
 // The file of a pattern in the store.
 #![tactic(auto)]
+
 ghost use Rattle.std.specs.Prelude.{◌≡◌, [], map, ◌++◌, true, ℕ, ◌+◌, ◌*◌, ◌≤◌, ◌<◌, drop, get_or, length, take};
 ghost use Rattle.std.proofs.lemmas.List.Edits.{sets};
 ghost use Rattle.lists.specs.Lists.{flat, tabulate};

@@ -1,5 +1,6 @@
 // A pattern file made from text, as a call: its answer as numbers, and the sentence that says what is wrong.
 #![tactic(auto)]
+
 ghost use Rattle.std.specs.Prelude.{◌≡◌, [], ◌∷◌};
 ghost use Rattle.std.proofs.lemmas.List.Edits.{sets};
 ghost use Rattle.answers.specs.Values.{answer};

@@ -9,7 +9,6 @@ use lib.Dec.{eqb, ltb}
 use lib.ListN.{drop, drop_of_length-le, get_or, length, length-drop, length-map, length-take, take}
 use lib.Seq.{drop-cons, get_or-drop, get_or-take}
 use borrow.Author.Tests.{eq-eqb, le-leb, lt-leb, lt-ltb, ltb-true, ne_eqb}
-use Rattle.edge.specs.Edges.{edge}
 use Rattle.edge.specs.Uses.{back_of, edge_number, front_of}
 use Rattle.errors.specs.declared.WireCheck.TheVariants.{Refused, Simple}
 use Rattle.errors.specs.declared.WireError.TheVariants.{EmptyWire, NotClosedWire, NotSimpleWire}

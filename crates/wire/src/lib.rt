@@ -1,6 +1,7 @@
 // The wire (the Rust's wire.rs). A wire is a slice of uses; `fronts` and `backs` have the ends of
 // the edges by edge number.
 #![tactic(auto)]
+
 ghost use Rattle.std.specs.Prelude.{◌≡◌, ◌+◌, ◌<◌, length};
 ghost use Rattle.lists.specs.Lists.{no_dup};
 ghost use Rattle.lists.specs.Marks.{stamped, met, Below};

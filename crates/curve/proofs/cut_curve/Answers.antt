@@ -1,5 +1,5 @@
 use mathlib.Core.Bool.{false, true}
-use mathlib.Core.Path.{◌∙◌, ◌≡◌, sym}
+use mathlib.Core.Path.{◌≡◌}
 use lib.Ieee.{Float}
 use Rattle.curve.specs.Curves.{back_half, cut_curve, front_half, refuses}
 use Rattle.curve.specs.declared.Halves.TheVariants.{Both, Refused}

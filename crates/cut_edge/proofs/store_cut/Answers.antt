@@ -85,4 +85,4 @@ returns-clause-spans_after c = let sound : Sound c.args.t.now c.args.spans.now =
     let m = made in
     let z = c.store_halves.new.spans in
     let d = edge_in c.args.t.now c.args.spans.now c.args.e.0 in cut_view (held c.args.t.now c.args.spans.now) _ _ _ _ _ (sound_fine (sound)) (get_or c.counts_in-counts.result 1 0) c.put_cut_wires-total.result (edge d.front c.args.v c.args.k) (edge c.args.v d.back c.args.l) (cut_in c.args.flags.now c.args.e.0 c.args.t.now) _ _
-          (ap (λ (ns : List ℕ). get_or ns 1 0) c.counts_in-counts.ensures) m.size m.uses m.wires (m.wired_all ∙ ap (λ (ns : List ℕ). get_or ns 3 0) c.counts_in-counts.ensures) c.store_halves.ensures (c.store_uses.ensures z) (c.store_wires.ensures z) (c.store_count.ensures z) (c.store_count-2.ensures z)
+    (ap (λ (ns : List ℕ). get_or ns 1 0) c.counts_in-counts.ensures) m.size m.uses m.wires (m.wired_all ∙ ap (λ (ns : List ℕ). get_or ns 3 0) c.counts_in-counts.ensures) c.store_halves.ensures (c.store_uses.ensures z) (c.store_wires.ensures z) (c.store_count.ensures z) (c.store_count-2.ensures z)

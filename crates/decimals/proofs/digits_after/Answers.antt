@@ -1,4 +1,4 @@
-use Rattle.std.proofs.Common.{◌-◌, refl, arith}
+use Rattle.std.proofs.Common.{refl, arith}
 use Rattle.decimals.proofs.Numerals.{inside, over, parsing_all, parsing_next, parsing_room, parsing_stop, tens, under}
 use Rattle.decimals.proofs.digits_after.Goals as goal
 

@@ -1,4 +1,4 @@
-use Rattle.std.proofs.Common.{◌≡◌, ◌-◌, length, get_or, drop, arith, length-drop, le-ltb, lt-ltb, eq-eqb, ne_eqb}
+use Rattle.std.proofs.Common.{◌≡◌, length, get_or, drop, arith, length-drop, le-ltb, lt-ltb, eq-eqb, ne_eqb}
 use Rattle.decimals.proofs.Numerals.{parsing_all, parsing_next, parsing_room, parsing_stop, sixteens}
 use Rattle.decimals.specs.Decimals.{hex_digit}
 use Rattle.decimals.proofs.hex_of.Goals as goal

@@ -1,4 +1,4 @@
-use Rattle.std.proofs.Common.{◌-◌, sym, refl, ◌∙◌, arith}
+use Rattle.std.proofs.Common.{sym, refl, ◌∙◌, arith}
 use Rattle.decimals.proofs.Places.{passed_all, passed_here, passed_next}
 use Rattle.decimals.proofs.places_of.Goals as goal
 

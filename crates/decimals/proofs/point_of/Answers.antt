@@ -1,4 +1,4 @@
-use Rattle.std.proofs.Common.{◌-◌, arith, eq-eqb, ne_eqb}
+use Rattle.std.proofs.Common.{arith, eq-eqb, ne_eqb}
 use Rattle.decimals.proofs.Point.{passed_end, passed_next, passed_start, passed_stop}
 use Rattle.decimals.specs.Decimals.{is_point}
 use Rattle.decimals.proofs.point_of.Goals as goal

@@ -1,4 +1,4 @@
-use Rattle.std.proofs.Common.{◌≡◌, ℕ, ◌-◌, ◌^◌, ap, ◌∙◌, pow-suc, add-one, arith}
+use Rattle.std.proofs.Common.{◌≡◌, ℕ, ◌^◌, ap, ◌∙◌, pow-suc, add-one, arith}
 use Rattle.decimals.proofs.Rounding.{ten_most}
 use Rattle.decimals.proofs.ten_to.Goals as goal
 

@@ -32,7 +32,7 @@ returns-in-Refused-clause-value c = let fits : c.loop-k.at + c.index-n.result �
     let is_wire : c.outline-wire.result.now ≡ wire = c.outline-wire.ensures ∙ sym (outline_part c.args.uses.now c.loop-k.at c.index-n.result (fits)) in
     let loop = c.loop-k in
     let check-wire = c.check_wire-answer in sym (outline_stop _ _ _ _ _ _ _ _ loop.invariant.1 loop.invariant.0
-          c.loop-k-test.true c.index-n.ensures.0 _ (sym (rw (is_wire) at check-wire.ensures.value) ∙ c.in-Refused.is))
+    c.loop-k-test.true c.index-n.ensures.0 _ (sym (rw (is_wire) at check-wire.ensures.value) ∙ c.in-Refused.is))
 
 pub returns-in-Refused-clause-below_2 : goal.returns-in-Refused-clause-below_2
 returns-in-Refused-clause-below_2 c = let fits : c.loop-k.at + c.index-n.result ≤ length c.args.uses.now = omega (arith, walk_fits _ _ _ _ c.loop-k.invariant.0 c.loop-k-test.true c.index-n.ensures.0) in

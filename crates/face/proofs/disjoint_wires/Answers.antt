@@ -13,10 +13,10 @@ use Rattle.face.proofs.disjoint_wires.Goals as goal
 
 pub loop-k-init : goal.loop-k-init
 loop-k-init c = (
-      walk_start _,
-      apart_start _ _ (split _ _) _ _ _ c.requires.marks_len c.requires.below,
-      below_later _ (c.args.stamp + 1) c.args.marks.now c.requires.below (omega arith),
-    )
+  walk_start _,
+  apart_start _ _ (split _ _) _ _ _ c.requires.marks_len c.requires.below,
+  below_later _ (c.args.stamp + 1) c.args.marks.now c.requires.below (omega arith),
+)
 
 pub overflow_add-start : goal.overflow_add-start
 overflow_add-start c = let fits : c.loop-k.start + c.index-n.result ≤ length c.args.uses.now = omega (arith, walk_fits _ _ _ _ c.loop-k.invariant.0 c.loop-k-test.true c.index-n.ensures.0) in
@@ -41,7 +41,7 @@ stamp_points-requires-clause-marks_len c = let loop = c.loop-k in
 pub returns-then-stamp_points-clause-value : goal.returns-then-stamp_points-clause-value
 returns-then-stamp_points-clause-value c = let loop = c.loop-k in
     let stamp-points = c.stamp_points in sym (apart_stop _ _ _ _ _ _ _ _ _ _ loop.invariant.1 loop.invariant.0
-          c.loop-k-test.true c.index-n.ensures.0 c.requires.named c.requires.uses_value (sym stamp-points.ensures.value ∙ c.if-stamp_points.true))
+    c.loop-k-test.true c.index-n.ensures.0 c.requires.named c.requires.uses_value (sym stamp-points.ensures.value ∙ c.if-stamp_points.true))
 
 pub returns-then-stamp_points-clause-below_2 : goal.returns-then-stamp_points-clause-below_2
 returns-then-stamp_points-clause-below_2 c = let loop = c.loop-k in

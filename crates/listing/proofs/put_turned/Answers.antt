@@ -11,10 +11,10 @@ use Rattle.listing.proofs.put_turned.Goals as goal
 
 pub loop-i-preserved : goal.loop-i-preserved
 loop-i-preserved c = let args = c.args in let loop = c.loop-i in (
-      omega arith,
-      simp length-set loop.invariant.1,
-      turning_one args.out.now args.at args.wire.now loop.i c.turn.result loop.out (omega arith) c.turn.ensures loop.invariant.2,
-    )
+  omega arith,
+  simp length-set loop.invariant.1,
+  turning_one args.out.now args.at args.wire.now loop.i c.turn.result loop.out (omega arith) c.turn.ensures loop.invariant.2,
+)
 
 pub returns : goal.returns
 returns c = let args = c.args in

@@ -60,7 +60,7 @@ match_pair-requires-clause-first_bound c = let pre = c.requires in
 pub returns-clause-value : goal.returns-clause-value
 returns-clause-value c = let args = c.args in
     λ p l. let near = near_are (content p) _ _ _ _ (points_are p _ _ _ _ _ _ _ _ l) (shells_are p _ _ _ _ _ _ _ _ l) (last_in p args.n args.v.0) (ending_in p args.n args.v.0) (omega (arith, c.if-n-counts.false)) (omega (arith, c.if-index-counts.false, c.index.ensures.0)) (sym (ap (λ (m : Marks). m.shared) (c.mark_wires-marks.ensures p l.listed)) ∙ c.if-marks.false) _ (c.ending_at-e.ensures p l) (positive _ c.if-e-eq0.false) (omega (arith, c.if-e-gt2.false)) in
-          pair_matched p _ _ _ _ _ _ _ _ l _ _ _ _ (c.ending_at-e.ensures p l) near c.match_pair.ensures.value
+    pair_matched p _ _ _ _ _ _ _ _ l _ _ _ _ (c.ending_at-e.ensures p l) near c.match_pair.ensures.value
 
 pub returns-clause-of_edges : goal.returns-clause-of_edges
 returns-clause-of_edges c = let args = c.args in

@@ -81,6 +81,6 @@ returns-clause-spans_after c = let P : Pattern = held c.args.t.now c.args.spans.
     let count : (b : ℕ) → get_or c.counts_in-counts.result b 0 ≡ get_or (count_table c.args.t.now) b 0 = λ b. ap (λ (ns : List ℕ). get_or ns b 0) c.counts_in-counts.ensures in
     let few : c.put_removal-used.result ≤ 4096 = omega (arith, c.put_removal-used.ensures.value.1, count 2, (good).limits.uses) in
     let spans = c.append_edge-a.new.spans in stored_written (P) (good) c.args.v.0 c.args.e (removed_in c.args.t.now c.args.v.0 c.args.e) (held_removed c.args.t.now c.args.spans.now c.tables_known-wired.ensures c.requires.spans_value c.args.v.0 c.args.e) c.args.d c.put_removal-used.result (get_or c.counts_in-counts.result 3 0)
-          c.put_removal-used.new.out c.put_removal-used.new.lens _ _ _ _
-          c.put_removal-used.ensures.value.0 (few) (count 3) c.put_removal-used.ensures.out_after c.put_removal-used.ensures.lens_after
-          c.append_edge-a.ensures.spans_after (c.store_uses.ensures spans) (c.store_wires.ensures spans) (c.store_count.ensures spans)
+    c.put_removal-used.new.out c.put_removal-used.new.lens _ _ _ _
+    c.put_removal-used.ensures.value.0 (few) (count 3) c.put_removal-used.ensures.out_after c.put_removal-used.ensures.lens_after
+    c.append_edge-a.ensures.spans_after (c.store_uses.ensures spans) (c.store_wires.ensures spans) (c.store_count.ensures spans)

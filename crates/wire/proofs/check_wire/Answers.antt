@@ -1,10 +1,8 @@
 -- The checks in sequence.
 use Prim.Native.Nat.{◌+◌}
-use mathlib.Core.Path.{◌∙◌, sym}
 use native.Mathlib.Omega.{arith}
-use borrow.Author.Tests.{not-false, not-true}
 use Rattle.lists.proofs.Marks.{below_later}
-use Rattle.wire.proofs.Laws.{empty_wire, open_wire, repeating_wire, simple_wire}
+use Rattle.wire.proofs.Laws.{empty_wire}
 use Rattle.wire.proofs.check_wire.Goals as goal
 
 pub returns-then-uses-eq0 : goal.returns-then-uses-eq0

@@ -1,4 +1,3 @@
-use Prim.Native.Nat.{◌-◌}
 use mathlib.Core.Path.{◌∙◌, sym}
 use native.Mathlib.Omega.{arith}
 use Rattle.wire.proofs.Laws.{closed_none, closed_start, named_edge, runs_next, runs_past, runs_stop}

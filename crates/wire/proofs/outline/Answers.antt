@@ -1,7 +1,6 @@
 -- The part lies inside, or would pass the end.
-use mathlib.Core.Logic.{⊎_elim}
 use native.Mathlib.Omega.{arith}
-use Rattle.wire.proofs.Laws.{outline_part, outline_past}
+use Rattle.wire.proofs.Laws.{outline_part}
 use Rattle.wire.proofs.outline.Goals as goal
 
 pub returns-then-n-uses : goal.returns-then-n-uses

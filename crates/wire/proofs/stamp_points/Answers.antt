@@ -1,5 +1,4 @@
-use Prim.Native.Nat.{◌-◌, ◌<◌, ◌≤◌}
-use mathlib.Core.Logic.{⊎_elim}
+use Prim.Native.Nat.{◌<◌, ◌≤◌}
 use mathlib.Core.Path.{◌∙◌, ◌≡◌, sym}
 use native.Mathlib.Omega.{arith}
 use lib.ListN.{get_or, length}

@@ -1,7 +1,4 @@
 -- The parts before and after the two uses, and the one between, are stored one after the other.
-use Prim.Native.Nat.{◌+◌}
-use native.Mathlib.Omega.{arith}
-use lib.ListN.{length-set}
 use Rattle.wire_swaps.proofs.Swaps.{swap_last_written, swap_pair_written}
 use Rattle.wire_swaps.proofs.swap_subwire_into_edges.Goals as goal
 
