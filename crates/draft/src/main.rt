@@ -3,23 +3,21 @@
 #![tactic(auto)]
 
 use draft_text::Made;
-use libc::{STDERR_FILENO, STDOUT_FILENO};
 use pattern::LONGEST;
 
-fn print_file(file: &[u8; LONGEST], n: usize) {
-    let whole: &[u8] = file;
-    if !console::print_first(STDOUT_FILENO, whole, n) {
-        os::fail(b"draft: standard output");
+fn print_file(rt: &HostRuntime, file: &[u8; LONGEST], n: usize) {
+    if let Err(e) = console::print_first(rt, file, n) {
+        console::fail(rt, b"draft: standard output", e);
     }
 }
 
-fn print_line(line: &[u8; 256], n: usize) {
-    let whole: &[u8] = line;
-    console::print_first(STDERR_FILENO, whole, n);
+fn print_line(rt: &HostRuntime, line: &[u8; 256], n: usize) {
+    let _ = console::print_first(&rt.stderr(), line, n);
 }
 
-fn main() {
+fn main(rt: HostRuntime) {
     if !console::is_alone(
+        &rt,
         b"draft: standard output",
         b"usage: draft < TEXT > FILE\nreads a text and writes the pattern file that it describes, or says what is wrong\n",
     ) {
@@ -27,21 +25,19 @@ fn main() {
     }
     // One byte more than the longest text.
     let mut text = [0u8; 262145];
-    let got = console::read_input(b"draft: standard input", &mut text);
-    if got < 0 {
+    let Ok(n) = console::read_input(&rt, b"draft: standard input", &mut text) else {
         return;
-    }
-    let n = io::count(got, &text);
+    };
     let mut file = [0u8; LONGEST];
     let made = draft_text::make(&text[0..n], &mut file);
     match made {
         Made::Length(length) => {
-            print_file(&file, length);
+            print_file(&rt, &file, length);
         }
         other => {
             let mut line = [0u8; 256];
             let length = draft_faults::put_made(other, &mut line);
-            print_line(&line, length);
+            print_line(&rt, &line, length);
         }
     }
 }

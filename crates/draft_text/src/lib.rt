@@ -303,10 +303,10 @@ pub fn make(text: &[u8], out: &mut [u8; LONGEST]) -> Made
         }
         Check::Accepted => {
             // `out` has room for the longest file.
-            let Written::Length(n) = put_file(&t, &spans, out) else {
-                return Made::TooLong;
-            };
-            Made::Length(n)
+            match put_file(&t, &spans, out) {
+                Written::Length(n) => Made::Length(n),
+                _ => Made::TooLong,
+            }
         }
     }
 }

@@ -3,8 +3,8 @@
 // the line that says what is wrong and, after `answer`, the number of the refusal and the first two values.
 #![tactic(auto)]
 
-use libc::STDOUT_FILENO;
 use pattern::LONGEST;
+use std::io;
 
 // Whether the first n bytes of two lists are the same.
 fn same(a: &[u8], b: &[u8; LONGEST], n: usize) -> bool {
@@ -41,56 +41,48 @@ fn makes(text: &[u8; 262144], n: usize, bytes: &[u8]) -> bool {
 }
 
 // A word, a number after it, and what ends them.
-fn print_number(word: &[u8], n: usize, end: &[u8]) {
-    io::write_all(STDOUT_FILENO, word);
-    io::print_decimal(STDOUT_FILENO, n as u64);
-    io::write_all(STDOUT_FILENO, end);
+fn print_number(rt: &HostRuntime, word: &[u8], n: usize, end: &[u8]) -> io::Result<()> {
+    rt.write_all(word)?;
+    print!(rt; "{n}")?;
+    rt.write_all(end)
 }
 
-fn told(bytes: &[u8]) {
+fn told(rt: &HostRuntime, bytes: &[u8]) -> io::Result<()> {
     let mut text = [0u8; 262144];
     let n = show_text::show(bytes, &mut text);
     if makes(&text, n, bytes) {
-        io::write_all(STDOUT_FILENO, b"back\n");
-        return;
+        return rt.write_all(b"back\n");
     }
     let mut file = [0u8; LONGEST];
     let mut line = [0u8; 256];
     let answer = text_calls::draft(bytes, &mut file, &mut line);
     if answer.outcome == 0 {
-        print_number(b"length ", answer.first, b"\n");
-        return;
+        return print_number(rt, b"length ", answer.first, b"\n");
     }
-    print(&line, answer.third);
-    print_number(b"answer ", answer.number, b" ");
-    print_number(b"", answer.first, b" ");
-    print_number(b"", answer.second, b"\n");
+    print(rt, &line, answer.third)?;
+    print_number(rt, b"answer ", answer.number, b" ")?;
+    print_number(rt, b"", answer.first, b" ")?;
+    print_number(rt, b"", answer.second, b"\n")
 }
 
-fn print(line: &[u8; 256], n: usize) {
-    let whole: &[u8] = line;
-    console::print_first(STDOUT_FILENO, whole, n);
+fn print(rt: &HostRuntime, line: &[u8; 256], n: usize) -> io::Result<()> {
+    console::print_first(rt, line, n)
 }
 
-fn replay(k: usize) {
-    console::print_file_line(STDOUT_FILENO, k);
-    let fd = console::open_argument(k);
-    if fd < 0 {
-        io::write_all(STDOUT_FILENO, b"not found\n");
-        return;
-    }
+fn replay(rt: &HostRuntime, k: usize) -> io::Result<()> {
+    console::print_file_line(rt, k)?;
+    let Ok(mut file) = console::open_argument(rt, k) else {
+        return rt.write_all(b"not found\n");
+    };
     // One byte more than the longest text.
     let mut bytes = [0u8; 262145];
-    let n = io::read_full(fd, &mut bytes);
-    libc::close(fd);
-    told(&bytes[..n]);
+    let n = console::read_full(&mut file, &mut bytes);
+    told(rt, &bytes[..n])
 }
 
-fn main() {
-    let n = os::arg_count();
-    let mut k: usize = 1;
-    while k < n {
-        replay(k);
-        k += 1;
+fn main(rt: HostRuntime) -> io::Result<()> {
+    for k in 1..console::arg_count(&rt) {
+        replay(&rt, k)?;
     }
+    Ok(())
 }

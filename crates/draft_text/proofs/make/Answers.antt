@@ -97,5 +97,4 @@ returns-in_default c = let gathered : Filed c.args.text.now c.gather-all.new.t c
       same = (c.gather-all.ensures.t_after right).1;
     } in
     let filed : Filed c.args.text.now c.gather-all.new.t c.gather-all.new.spans (judged c.args.text.now) = filed_on (gathered) _ c.counts_in.ensures _ c.is_bare-bare.ensures _ c.says_empty.ensures c.if-bare-says_empty.false in
-    absurd (miss (1 ∷ 2 ∷ []) 0 tt
-    (rw (fits (filed) (sym c.in-Accepted.is ∙ c.check_records-judged.ensures) c.args.out.now (search rules) c.put_file.result c.put_file.ensures.0) at c.in_default-own.keys2))
+    absurd (c.in_default.not-Length _ (fits (filed) (sym c.in-Accepted.is ∙ c.check_records-judged.ensures) c.args.out.now (search rules) c.put_file.result c.put_file.ensures.0))
