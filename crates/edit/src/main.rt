@@ -9,9 +9,12 @@ ghost use Rattle.queue.specs.Queue.{chosen, ending_by};
 ghost use Rattle.queue.specs.declared.Ending.TheVariants.{Done, Unread};
 ghost use Rattle.edit.specs.Saved.{ending_after, is_changed};
 
-use libc::{STDERR_FILENO, STDIN_FILENO, STDOUT_FILENO};
 use queue::{Asked, Choice, Ending, Stepped};
 use replace::{Reading, Replaced};
+use std::env::FillError;
+use std::io;
+use std::io::Read;
+use std::rt::Env;
 
 // What the queue is at: whether it is to stop after an answer that is not done, whether it only tries; with
 // --try the length of the file in memory, and whether it was read; whether it is stopped; whether there is
@@ -52,7 +55,13 @@ fn not_read() -> Worked
 }
 
 // Replaces the file by what a job left in memory, if that is edited.
-fn save(path: &[u8], file: &[u8; 41049], done: Stepped, read: Reading) -> Replaced {
+fn save(
+    rt: &HostRuntime,
+    path: &[u8],
+    file: &[u8; 41049],
+    done: Stepped,
+    read: Reading,
+) -> Replaced {
     let whole: &[u8] = file;
     let n = done.file;
     if !done.edited {
@@ -61,7 +70,7 @@ fn save(path: &[u8], file: &[u8; 41049], done: Stepped, read: Reading) -> Replac
     if n > whole.len() {
         return Replaced::Kept;
     }
-    replace::replace(path, &whole[0..n], read)
+    replace::replace(rt, path, &whole[0..n], read)
 }
 
 fn ending_of(saved: Replaced) -> Ending
@@ -87,8 +96,14 @@ fn is_changed(saved: Replaced) -> bool
 }
 
 // Reads the file, does the job of a line, and replaces the file.
-fn attempt(path: &[u8], line: &[u8], file: &mut [u8; 41049], text: &mut [u8; 65536]) -> Tried {
-    let read = replace::read_file(path, file);
+fn attempt(
+    rt: &HostRuntime,
+    path: &[u8],
+    line: &[u8],
+    file: &mut [u8; 41049],
+    text: &mut [u8; 65536],
+) -> Tried {
+    let read = replace::read_file(rt, path, file);
     if !read.read {
         return Tried {
             work: not_read(),
@@ -96,8 +111,7 @@ fn attempt(path: &[u8], line: &[u8], file: &mut [u8; 41049], text: &mut [u8; 655
         };
     }
     let done = queue::step(line, file, read.count, text);
-    let saved = save(path, file, done, read);
-    libc::close(read.fd);
+    let saved = save(rt, path, file, done, read);
     Tried {
         work: Worked {
             ending: ending_of(saved),
@@ -109,17 +123,23 @@ fn attempt(path: &[u8], line: &[u8], file: &mut [u8; 41049], text: &mut [u8; 655
 }
 
 // The same, anew as often as others have changed the file meanwhile, a hundred times at most.
-fn persist(path: &[u8], line: &[u8], file: &mut [u8; 41049], text: &mut [u8; 65536]) -> Worked {
+fn persist(
+    rt: &HostRuntime,
+    path: &[u8],
+    line: &[u8],
+    file: &mut [u8; 41049],
+    text: &mut [u8; 65536],
+) -> Worked {
     let mut turns: u64 = 100;
     while turns > 0 {
         turns -= 1;
-        let tried = attempt(path, line, file, text);
+        let tried = attempt(rt, path, line, file, text);
         if !tried.changed {
             let work = tried.work;
             return work;
         }
     }
-    replace::say(path, b"changed by others a hundred times");
+    replace::say(rt, path, b"changed by others a hundred times");
     Worked {
         ending: Ending::Kept,
         text: 0,
@@ -141,6 +161,7 @@ fn rehearse(line: &[u8], file: &mut [u8; 41049], n: usize, text: &mut [u8; 65536
 
 // Does with a line what is chosen, and ends it as that says.
 fn work(
+    rt: &HostRuntime,
     path: &[u8],
     line: &[u8],
     file: &mut [u8; 41049],
@@ -158,22 +179,30 @@ fn work(
         },
         Choice::Miss => not_read(),
         Choice::Rehearse => rehearse(line, file, q.length, text),
-        Choice::Perform => persist(path, line, file, text),
+        Choice::Perform => persist(rt, path, line, file, text),
+    }
+}
+
+// Prints an answer. Where it cannot, says why and answers false.
+fn print(rt: &HostRuntime, answer: &[u8]) -> bool {
+    match rt.write_all(answer) {
+        Ok(()) => true,
+        Err(e) => {
+            console::fail(rt, b"edit: standard output", e);
+            false
+        }
     }
 }
 
 // Does the job that a line asks for, and prints its answer.
-fn answer(path: &[u8], line: &[u8], file: &mut [u8; 41049], q: Queue) -> Queue {
+fn answer(rt: &HostRuntime, path: &[u8], line: &[u8], file: &mut [u8; 41049], q: Queue) -> Queue {
     let mut text = [0u8; 65536];
-    let done = work(path, line, file, &mut text, q);
+    let done = work(rt, path, line, file, &mut text, q);
     let ending = done.ending;
     let mut said = [0u8; 65664];
     let end = queue::finish(q.stop, ending, &text, done.text, &mut said);
     let n = end.length;
-    let printed = io::write_all(STDOUT_FILENO, &said[0..n]);
-    if !printed {
-        os::fail(b"edit: standard output");
-    }
+    let printed = print(rt, &said[0..n]);
     Queue {
         stop: q.stop,
         trial: q.trial,
@@ -207,12 +236,12 @@ fn closed(q: Queue) -> Rest
 }
 
 // Answers a line that is longer than any job, once: what is read next belongs to it.
-fn pass(path: &[u8], line: &[u8], file: &mut [u8; 41049], before: Rest) -> Rest
+fn pass(rt: &HostRuntime, path: &[u8], line: &[u8], file: &mut [u8; 41049], before: Rest) -> Rest
     ensures { result.held ≡ 0 }
 {
     let mut q = before.queue;
     if !before.passing {
-        q = answer(path, line, file, q);
+        q = answer(rt, path, line, file, q);
     }
     Rest {
         held: 0,
@@ -222,7 +251,14 @@ fn pass(path: &[u8], line: &[u8], file: &mut [u8; 41049], before: Rest) -> Rest
 }
 
 // Does the jobs of the lines that end in these bytes.
-fn lines(path: &[u8], bytes: &[u8], passing: bool, file: &mut [u8; 41049], q: Queue) -> Rest
+fn lines(
+    rt: &HostRuntime,
+    path: &[u8],
+    bytes: &[u8],
+    passing: bool,
+    file: &mut [u8; 41049],
+    q: Queue,
+) -> Rest
     ensures { result.held ≤ length bytes.now }
 {
     let mut from: usize = 0;
@@ -234,7 +270,7 @@ fn lines(path: &[u8], bytes: &[u8], passing: bool, file: &mut [u8; 41049], q: Qu
             break;
         }
         if !over {
-            now = answer(path, &bytes[from..end], file, now);
+            now = answer(rt, path, &bytes[from..end], file, now);
             if !now.open {
                 return closed(now);
             }
@@ -262,47 +298,65 @@ fn keep(bytes: &mut [u8], m: usize, n: usize)
 }
 
 // Does the jobs of the lines that are whole in the first n bytes, and moves what is left to the start.
-fn take_in(path: &[u8], buffer: &mut [u8], n: usize, file: &mut [u8; 41049], before: Rest) -> Rest
+fn take_in(
+    rt: &HostRuntime,
+    path: &[u8],
+    buffer: &mut [u8],
+    n: usize,
+    file: &mut [u8; 41049],
+    before: Rest,
+) -> Rest
     requires { (n ≤ length buffer.old) × (0 < length buffer.old) }
     ensures { result.held < length buffer.new }
 {
     let q = before.queue;
-    let rest = lines(path, &buffer[0..n], before.passing, file, q);
+    let rest = lines(rt, path, &buffer[0..n], before.passing, file, q);
     let left = rest.held;
     keep(buffer, n, left);
     if left < buffer.len() {
         return rest;
     }
-    pass(path, buffer, file, rest)
+    pass(rt, path, buffer, file, rest)
 }
 
 // Reads once, and does the jobs of the lines that are then whole.
-fn turn(path: &[u8], buffer: &mut [u8], file: &mut [u8; 41049], before: Rest) -> Rest
+fn turn(
+    rt: &HostRuntime,
+    path: &[u8],
+    buffer: &mut [u8],
+    file: &mut [u8; 41049],
+    before: Rest,
+) -> Rest
     requires { before.held < length buffer.old }
     ensures { result.held < length buffer.new }
 {
     let held = before.held;
     let q = before.queue;
-    let got = libc::read(STDIN_FILENO, &mut buffer[held..]);
-    if got < 0 {
-        os::fail(b"edit: standard input");
-        return closed(q);
-    }
-    let more = io::count(got, &buffer[held..]);
-    if more == 0 {
-        // An empty rest at the end is no line.
-        if held > 0 {
-            if !before.passing {
-                return closed(answer(path, &buffer[0..held], file, q));
-            }
+    match rt.stdin().read(&mut buffer[held..]) {
+        Ok(0) => last(rt, path, &buffer[0..held], file, before),
+        Ok(more) => take_in(rt, path, buffer, held + more, file, before),
+        Err(e) => {
+            console::fail(rt, b"edit: standard input", e);
+            closed(q)
         }
-        return closed(q);
     }
-    take_in(path, buffer, held + more, file, before)
+}
+
+// Does the job of what is left at the end of the input. An empty rest there is no line.
+fn last(rt: &HostRuntime, path: &[u8], line: &[u8], file: &mut [u8; 41049], before: Rest) -> Rest
+    ensures { result.held ≡ 0 }
+{
+    let q = before.queue;
+    if line.len() > 0 {
+        if !before.passing {
+            return closed(answer(rt, path, line, file, q));
+        }
+    }
+    closed(q)
 }
 
 // Does all jobs of standard input.
-fn serve(path: &[u8], stop: bool, trial: bool) {
+fn serve(rt: &HostRuntime, path: &[u8], stop: bool, trial: bool) {
     // One byte more than the longest file.
     let mut file = [0u8; 41049];
     // The longest line that can be a job, and its line feed.
@@ -310,12 +364,12 @@ fn serve(path: &[u8], stop: bool, trial: bool) {
     let mut rest = Rest {
         held: 0,
         passing: false,
-        queue: begin(path, &mut file, stop, trial),
+        queue: begin(rt, path, &mut file, stop, trial),
     };
     let mut turns: u64 = 18446744073709551615;
     while turns > 0 {
         turns -= 1;
-        rest = turn(path, &mut buffer, &mut file, rest);
+        rest = turn(rt, path, &mut buffer, &mut file, rest);
         let q = rest.queue;
         if !q.open {
             return;
@@ -324,16 +378,13 @@ fn serve(path: &[u8], stop: bool, trial: bool) {
 }
 
 // The queue at its start: with --try the file is read.
-fn begin(path: &[u8], file: &mut [u8; 41049], stop: bool, trial: bool) -> Queue {
+fn begin(rt: &HostRuntime, path: &[u8], file: &mut [u8; 41049], stop: bool, trial: bool) -> Queue {
     let mut length: usize = 0;
     let mut known = false;
     if trial {
-        let read = replace::read_file(path, file);
+        let read = replace::read_file(rt, path, file);
         length = read.count;
         known = read.read;
-        if known {
-            libc::close(read.fd);
-        }
     }
     Queue {
         stop: stop,
@@ -345,45 +396,54 @@ fn begin(path: &[u8], file: &mut [u8; 41049], stop: bool, trial: bool) -> Queue 
     }
 }
 
-// Whether the usage was written.
-fn say_usage(fd: i32) -> bool {
-    io::write_all(
-        fd,
+// Writes the usage.
+fn say_usage(to: &impl Print) -> io::Result<()> {
+    to.write_all(
         b"usage: edit [--stop] [--try] FILE\n--stop  does nothing more after the first answer that is not done\n--try   answers, and leaves the file as it is\n",
     )
 }
 
-fn main() {
-    let count = os::arg_count();
+// Why a word of the command line was not taken.
+fn say_word(rt: &HostRuntime, why: FillError) {
+    match why {
+        FillError::TooLong => console::say(rt, b"edit", b"File name too long"),
+        FillError::NotPresent => console::say(rt, b"edit", b"Invalid argument"),
+    }
+}
+
+fn main(rt: HostRuntime) {
+    let count = console::arg_count(&rt);
     let mut name = [0u8; 4096];
     let mut n: usize = 0;
     let mut asked = Asked::Options(false, false);
     let mut k: usize = 1;
     while k < count {
-        n = os::arg(k, &mut name);
-        if os::errno() != 0 {
-            os::fail(b"edit");
-            return;
+        match rt.arg(k, &mut name) {
+            Ok(length) => n = length,
+            Err(e) => {
+                say_word(&rt, e);
+                return;
+            }
         }
         asked = queue::next(asked, queue::word_of(&name[..n]));
         k += 1;
     }
     match asked {
         Asked::File(stop, trial) => {
-            if replace::is_regular(&name[..n]) {
-                serve(&name[..n], stop, trial);
+            if replace::is_regular(&rt, &name[..n]) {
+                serve(&rt, &name[..n], stop, trial);
             }
         }
         Asked::Usage => {
-            if !say_usage(STDOUT_FILENO) {
-                os::fail(b"edit: standard output");
+            if let Err(e) = say_usage(&rt) {
+                console::fail(&rt, b"edit: standard output", e);
             }
         }
         Asked::Options(_, _) => {
-            say_usage(STDERR_FILENO);
+            let _ = say_usage(&rt.stderr());
         }
         Asked::Misused => {
-            say_usage(STDERR_FILENO);
+            let _ = say_usage(&rt.stderr());
         }
     }
 }

@@ -3,8 +3,8 @@
 // and after a `done` what changed in the pattern as text. recorded/README.md has the words.
 #![tactic(auto)]
 
-use libc::STDOUT_FILENO;
 use pattern::LONGEST;
+use std::io;
 use text::{line_end, name_of};
 
 // The words of the lines that are no job, as `text::name_of` has them.
@@ -19,10 +19,10 @@ struct File {
     length: usize,
 }
 
-fn print_line(mark: &[u8], line: &[u8]) {
-    io::write_all(STDOUT_FILENO, mark);
-    io::write_all(STDOUT_FILENO, line);
-    io::write_all(STDOUT_FILENO, b"\n");
+fn print_line(rt: &HostRuntime, mark: &[u8], line: &[u8]) -> io::Result<()> {
+    rt.write_all(mark)?;
+    rt.write_all(line)?;
+    rt.write_all(b"\n")
 }
 
 // Whether a text has this line.
@@ -30,7 +30,7 @@ fn has_line(text: &[u8], line: &[u8]) -> bool {
     let mut from: usize = 0;
     while from < text.len() {
         let end = line_end(text, from);
-        if check::same(&text[from..end], line) {
+        if &text[from..end] == line {
             return true;
         }
         from = end + 1;
@@ -39,29 +39,36 @@ fn has_line(text: &[u8], line: &[u8]) -> bool {
 }
 
 // Prints each line of one text that the other has not, after a mark.
-fn print_missing(one: &[u8], other: &[u8], mark: &[u8]) {
+fn print_missing(rt: &HostRuntime, one: &[u8], other: &[u8], mark: &[u8]) -> io::Result<()> {
     let mut from: usize = 0;
     while from < one.len() {
         let end = line_end(one, from);
         if !has_line(other, &one[from..end]) {
-            print_line(mark, &one[from..end]);
+            print_line(rt, mark, &one[from..end])?;
         }
         from = end + 1;
     }
+    Ok(())
 }
 
 // Prints the lines that only one of two texts has, of which the first n and m bytes count.
-fn print_differences(before: &[u8; 262144], n: usize, after: &[u8; 262144], m: usize) {
+fn print_differences(
+    rt: &HostRuntime,
+    before: &[u8; 262144],
+    n: usize,
+    after: &[u8; 262144],
+    m: usize,
+) -> io::Result<()> {
     let old: &[u8] = before;
     let new: &[u8] = after;
     if n > old.len() {
-        return;
+        return Ok(());
     }
     if m > new.len() {
-        return;
+        return Ok(());
     }
-    print_missing(&old[0..n], &new[0..m], b"- ");
-    print_missing(&new[0..m], &old[0..n], b"+ ");
+    print_missing(rt, &old[0..n], &new[0..m], b"- ")?;
+    print_missing(rt, &new[0..m], &old[0..n], b"+ ")
 }
 
 // Writes the text of the pattern file in the first n bytes, and returns its length.
@@ -74,101 +81,115 @@ fn show(bytes: &[u8; LONGEST], n: usize, text: &mut [u8; 262144]) -> usize {
 }
 
 // Prints what changed from one pattern file to another, of which the first n and m bytes count.
-fn print_changes(old: &[u8; LONGEST], n: usize, new: &[u8; LONGEST], m: usize) {
+fn print_changes(
+    rt: &HostRuntime,
+    old: &[u8; LONGEST],
+    n: usize,
+    new: &[u8; LONGEST],
+    m: usize,
+) -> io::Result<()> {
     let mut before = [0u8; 262144];
     let mut after = [0u8; 262144];
     let b = show(old, n, &mut before);
     let a = show(new, m, &mut after);
-    print_differences(&before, b, &after, a);
+    print_differences(rt, &before, b, &after, a)
 }
 
 // Applies the job of a line to the pattern file in the first n bytes, and prints the answer. Returns the
 // length of the edited file; 0 where there is none.
-fn run_job(line: &[u8], bytes: &[u8; LONGEST], n: usize, out: &mut [u8; LONGEST]) -> usize {
+fn run_job(
+    rt: &HostRuntime,
+    line: &[u8],
+    bytes: &[u8; LONGEST],
+    n: usize,
+    out: &mut [u8; LONGEST],
+) -> io::Result<usize> {
     let file: &[u8] = bytes;
     if n > file.len() {
-        return 0;
+        return Ok(0);
     }
     let mut text = [0u8; 65536];
     let done = jobs::run(line, &file[0..n], out, &mut text);
-    console::print_answer(STDOUT_FILENO, &text, done.text);
-    done.file
+    console::print_answer(rt, &text, done.text)?;
+    Ok(done.file)
 }
 
 // The file after the job of a line.
-fn replay_job(file: File, line: &[u8]) -> File {
+fn replay_job(rt: &HostRuntime, file: File, line: &[u8]) -> io::Result<File> {
     let bytes = file.bytes;
     let n = file.length;
     let mut out = [0u8; LONGEST];
-    let m = run_job(line, &bytes, n, &mut out);
+    let m = run_job(rt, line, &bytes, n, &mut out)?;
     if m == 0 {
-        return file;
+        return Ok(file);
     }
-    print_changes(&bytes, n, &out, m);
-    File {
+    print_changes(rt, &bytes, n, &out, m)?;
+    Ok(File {
         bytes: out,
         length: m,
-    }
+    })
 }
 
 // Prints the report of the pattern file in the first n bytes.
-fn print_report(bytes: &[u8; LONGEST], n: usize) {
+fn print_report(rt: &HostRuntime, bytes: &[u8; LONGEST], n: usize) -> io::Result<()> {
     let file: &[u8] = bytes;
     if n > file.len() {
-        return;
+        return Ok(());
     }
     let mut text = [0u8; 1126400];
     let length = report_text::report(&file[0..n], &mut text);
-    console::print_report(STDOUT_FILENO, &text, length);
+    console::print_report(rt, &text, length)
 }
 
 // The file after one line; `read` is the file as it was read.
-fn replay_line(file: File, read: File, line: &[u8]) -> File {
-    print_line(b"", line);
+fn replay_line(rt: &HostRuntime, file: File, read: File, line: &[u8]) -> io::Result<File> {
+    print_line(rt, b"", line)?;
     let name = name_of(line);
     if name == FRESH {
-        return read;
+        return Ok(read);
     }
     if name == REPORT {
         let bytes = file.bytes;
-        print_report(&bytes, file.length);
-        return file;
+        print_report(rt, &bytes, file.length)?;
+        return Ok(file);
     }
-    replay_job(file, line)
+    replay_job(rt, file, line)
 }
 
-fn replay_lines(read: File, lines: &[u8]) {
+fn replay_lines(rt: &HostRuntime, read: File, lines: &[u8]) -> io::Result<()> {
     let mut file = read;
     let mut from: usize = 0;
     while from < lines.len() {
         let end = line_end(lines, from);
-        file = replay_line(file, read, &lines[from..end]);
+        file = replay_line(rt, file, read, &lines[from..end])?;
         from = end + 1;
     }
+    Ok(())
 }
 
 // Replays the lines of the file that argument `e` names on the pattern file that argument `k` names.
-fn replay(k: usize, e: usize) {
-    console::print_file_line(STDOUT_FILENO, k);
+fn replay(rt: &HostRuntime, k: usize, e: usize) -> io::Result<()> {
+    console::print_file_line(rt, k)?;
     let mut bytes = [0u8; LONGEST];
     let mut lines = [0u8; 16384];
-    let n = console::read_argument(k, &mut bytes);
-    let m = console::read_argument(e, &mut lines);
+    let n = console::read_argument(rt, k, &mut bytes);
+    let m = console::read_argument(rt, e, &mut lines);
     let read = File {
         bytes: bytes,
         length: n,
     };
-    replay_lines(read, &lines[..m]);
+    replay_lines(rt, read, &lines[..m])
 }
 
-fn main() {
-    let n = os::arg_count();
+fn main(rt: HostRuntime) -> io::Result<()> {
+    let n = console::arg_count(&rt);
     let mut k: usize = 1;
     while k < n {
         if n - k < 2 {
-            return;
+            break;
         }
-        replay(k, k + 1);
+        replay(&rt, k, k + 1)?;
         k += 2;
     }
+    Ok(())
 }

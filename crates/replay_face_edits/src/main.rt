@@ -9,7 +9,7 @@ use answer_lines::put_refused;
 use answers::Answer;
 use forms::{Matched, NUMBER, SIGNED, put_values};
 use job_lines::put_done;
-use libc::STDOUT_FILENO;
+use std::io;
 use text::{line_end, name_of, word_end};
 use words::{index, put_saturated, sum_of};
 use wuzsanget::{
@@ -105,7 +105,15 @@ fn lent(n: u16) -> usize
 }
 
 // Replays an edit with lent lists of m uses and k lengths.
-fn replay_edit(name: u64, v: &[u16; 2048], wire: &[u16], file: &[u8], m: u16, k: u16) {
+fn replay_edit(
+    rt: &HostRuntime,
+    name: u64,
+    v: &[u16; 2048],
+    wire: &[u16],
+    file: &[u8],
+    m: u16,
+    k: u16,
+) -> io::Result<()> {
     let mut uses = [0u16; 4096];
     let mut lens = [0u16; 4096];
     let mut text = [0u8; 65536];
@@ -113,30 +121,35 @@ fn replay_edit(name: u64, v: &[u16; 2048], wire: &[u16], file: &[u8], m: u16, k:
     let w = lent(k);
     let a = apply(name, v, wire, file, &mut uses[0..u], &mut lens[0..w]);
     let n = put_answer(a, &uses, &lens, &mut text);
-    console::print_answer(STDOUT_FILENO, &text, n);
+    console::print_answer(rt, &text, n)
 }
 
 // Replays an edit with n values.
-fn replay_values(name: u64, v: &[u16; 2048], n: usize, file: &[u8]) {
+fn replay_values(
+    rt: &HostRuntime,
+    name: u64,
+    v: &[u16; 2048],
+    n: usize,
+    file: &[u8],
+) -> io::Result<()> {
     let all: &[u16] = v;
     if n < 3 {
-        return;
+        return Ok(());
     }
     if n > all.len() {
-        return;
+        return Ok(());
     }
     if name == GLUE {
-        replay_edit(name, v, &all[3..n], file, v[2], v[3]);
-        return;
+        return replay_edit(rt, name, v, &all[3..n], file, v[2], v[3]);
     }
-    replay_edit(name, v, &all[3..n], file, v[1], v[2]);
+    replay_edit(rt, name, v, &all[3..n], file, v[1], v[2])
 }
 
-fn replay_line(file: &[u8], line: &[u8]) {
-    io::write_all(STDOUT_FILENO, line);
-    io::write_all(STDOUT_FILENO, b"\n");
+fn replay_line(rt: &HostRuntime, file: &[u8], line: &[u8]) -> io::Result<()> {
+    rt.write_all(line)?;
+    rt.write_all(b"\n")?;
     if line.len() > 4096 {
-        return;
+        return Ok(());
     }
     let end = word_end(line, 0);
     let name = name_of(&line[0..end]);
@@ -146,38 +159,41 @@ fn replay_line(file: &[u8], line: &[u8]) {
     let m = put_values(line, end, &kinds, SIGNED, &mut values);
     if is_edit(name, m) {
         put_saturated(&values, &mut small, 0);
-        replay_values(name, &small, m.words, file);
+        replay_values(rt, name, &small, m.words, file)?;
     }
+    Ok(())
 }
 
-fn replay_lines(file: &[u8], lines: &[u8]) {
+fn replay_lines(rt: &HostRuntime, file: &[u8], lines: &[u8]) -> io::Result<()> {
     let mut from: usize = 0;
     while from < lines.len() {
         let end = line_end(lines, from);
-        replay_line(file, &lines[from..end]);
+        replay_line(rt, file, &lines[from..end])?;
         from = end + 1;
     }
+    Ok(())
 }
 
 // Replays the lines of the file that argument `e` names on the pattern file that argument `k` names.
-fn replay(k: usize, e: usize) {
-    console::print_file_line(STDOUT_FILENO, k);
+fn replay(rt: &HostRuntime, k: usize, e: usize) -> io::Result<()> {
+    console::print_file_line(rt, k)?;
     // One byte more than the longest file.
     let mut bytes = [0u8; 41049];
     let mut lines = [0u8; 16384];
-    let n = console::read_argument(k, &mut bytes);
-    let m = console::read_argument(e, &mut lines);
-    replay_lines(&bytes[..n], &lines[..m]);
+    let n = console::read_argument(rt, k, &mut bytes);
+    let m = console::read_argument(rt, e, &mut lines);
+    replay_lines(rt, &bytes[..n], &lines[..m])
 }
 
-fn main() {
-    let n = os::arg_count();
+fn main(rt: HostRuntime) -> io::Result<()> {
+    let n = console::arg_count(&rt);
     let mut k: usize = 1;
     while k < n {
         if n - k < 2 {
-            return;
+            break;
         }
-        replay(k, k + 1);
+        replay(&rt, k, k + 1)?;
         k += 2;
     }
+    Ok(())
 }

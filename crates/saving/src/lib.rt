@@ -8,14 +8,14 @@ use queue::Ending;
 use replace::{Reading, Replaced};
 
 // Replaces the file at path, which was read, by the first n bytes. Where n is 0 there is nothing to save.
-pub fn save(path: &[u8], bytes: &[u8], n: usize, read: Reading) -> Replaced {
+pub fn save(rt: &HostRuntime, path: &[u8], bytes: &[u8], n: usize, read: Reading) -> Replaced {
     if n == 0 {
         return Replaced::Done;
     }
     if n > bytes.len() {
         return Replaced::Kept;
     }
-    replace::replace(path, &bytes[0..n], read)
+    replace::replace(rt, path, &bytes[0..n], read)
 }
 
 pub fn ending_of(saved: Replaced) -> Ending

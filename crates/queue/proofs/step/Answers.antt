@@ -1,0 +1,15 @@
+-- The job, on the bytes that are there; and the file after it.
+use Rattle.queue.proofs.Texts.{stepped}
+use borrow.Author.Rules.{rules}
+use Rattle.queue.proofs.step.Goals as goal
+
+pair : {A B : Type 0} → A → B → A × B
+pair a b = (a, b)
+
+-- a record from the pairs that a law gives
+split2 : {A B R : Type 0} → (A → B → R) → A × B → R
+split2 f p = f p.0 p.1
+
+pub returns : goal.returns
+returns c = let args = c.args in
+    split2 (λ x y. record { text_after = x; file_after = y }) (stepped args.line.now args.file.now _ _ _ _ (search rules) c.least-m.ensures args.text.now _ _ _ _ (pair c.run-job.ensures.text_after c.run-job.ensures.out_after) c.put_edited.ensures)
