@@ -1,5 +1,5 @@
-"""A client of the program clerk, which `tools/build clerk` makes, that sends a job again whenever its answer is late: the job
-is done once.
+"""A client of the program clerk, which is begun and not built today, that sends a job again whenever its answer is late: the
+job is done once.
 
     python3 clients/resend.py FILE
 """
