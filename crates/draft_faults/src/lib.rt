@@ -1,5 +1,6 @@
 // The line that says what is wrong with a text.
 #![tactic(auto)]
+
 ghost use Rattle.std.specs.Prelude.{◌≡◌, ◌+◌, ◌≤◌, length};
 ghost use Rattle.std.proofs.lemmas.List.Edits.{sets};
 ghost use Rattle.draft_faults.specs.FaultLines.{fault_text, line_form, line_word, made_text, meaning};

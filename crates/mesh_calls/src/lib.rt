@@ -1,5 +1,6 @@
 // The import of a mesh as calls, whole or piece by piece, with its answer in numbers.
 #![tactic(auto)]
+
 ghost use Rattle.std.specs.Prelude.{List, [], ◌++◌, ◌∷◌, ◌≡◌, ℕ};
 ghost use Rattle.mesh.specs.Mesh.{imported, imported_in};
 ghost use Rattle.mesh_answers.specs.ImportLines.{import_values};
