@@ -171,7 +171,7 @@ fn remove(rt: &HostRuntime, name: &[u8]) {
     }
 }
 
-// Stores the new file and closes it. Where a call fails, says why and answers false.
+// Stores the new file, which is closed after it. Where a call fails, says why and answers false; of the closing std tells nothing, and the device holds the file by then.
 fn fill(rt: &HostRuntime, path: &[u8], file: File, bytes: &[u8], old: Found) -> bool {
     store(rt, path, &file, bytes, old)
 }
