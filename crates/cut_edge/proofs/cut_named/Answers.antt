@@ -16,120 +16,104 @@ use Rattle.shell_wires.specs.ShellWires.{marks_of}
 use Rattle.store.specs.Store.{edge_in, held}
 use borrow.Author.Rules.{rules}
 use Rattle.cut_edge.proofs.cut_named.Goals as goal
+use Rattle.cut_edge.proofs.cut_named.Goals.{After-counts_in-counts, After-edge_in-d, After-judge_cut-judged, After-listings_in, After-mark_wires-marks, Start}
 
 -- a record from the pairs that a law gives
 split3 : {A B C R : Type 0} → (A → B → C → R) → A × (B × C) → R
 split3 f p = f p.0 p.1.0 p.1.1
 
-pub mark_wires-marks-requires-clause-listed : goal.mark_wires-marks-requires-clause-listed
-mark_wires-marks-requires-clause-listed c = let P : Pattern = held c.args.t.now c.args.spans.now in
+abbrev P : Start → Pattern
+P c = held c.args.t.now c.args.spans.now
+
+sound : (c : After-counts_in-counts) → Sound c.args.t.now c.args.spans.now
+sound c =
+    record { long = c.tables_known.ensures; ok = c.requires.spans_value }
+
+here : (c : Start) → Here c.args.t.now c.args.n c.args.e.0 c.args.v.0
+here c =
+    record { shell = c.requires.n_bound.0; edge = c.requires.n_bound.1; vertex = c.requires.n_bound.2 }
+
+listed : (c : After-listings_in) → Listed (held c.args.t.now c.args.spans.now) c.counts_in-counts.result c.faces_in.result.now c.shells_in.result.now c.listings_in.result.now
+listed c =
     let sound : Sound c.args.t.now c.args.spans.now = record { long = c.tables_known.ensures; ok = c.requires.spans_value } in
-    let listed : Listed (P) c.counts_in-counts.result c.faces_in.result.now c.shells_in.result.now c.listings_in.result.now = rw (c.counts_in-counts.ensures, c.faces_in.ensures, c.shells_in.ensures, c.listings_in.ensures) (sound_listed (sound)) in
-    (P, listed)
+    rw (c.counts_in-counts.ensures, c.faces_in.ensures, c.shells_in.ensures, c.listings_in.ensures) (sound_listed sound)
+
+marked : (c : After-mark_wires-marks) → c.mark_wires-marks.result ≡ marks_of (held c.args.t.now c.args.spans.now) c.args.n
+marked c =
+    let P : Pattern = held c.args.t.now c.args.spans.now in
+    let sound : Sound c.args.t.now c.args.spans.now = record { long = c.tables_known.ensures; ok = c.requires.spans_value } in
+    let listed : Listed P c.counts_in-counts.result c.faces_in.result.now c.shells_in.result.now c.listings_in.result.now = rw (c.counts_in-counts.ensures, c.faces_in.ensures, c.shells_in.ensures, c.listings_in.ensures) (sound_listed sound) in
+    c.mark_wires-marks.ensures P listed
+
+marks_long : (c : After-mark_wires-marks) → length c.mark_wires-marks.result.wires ≡ 1024
+marks_long c =
+    search rules
+
+edge_is : (c : After-edge_in-d) → c.edge_in-d.result ≡ edge_at (content (held c.args.t.now c.args.spans.now)) c.args.e.0
+edge_is c =
+    let sound : Sound c.args.t.now c.args.spans.now = record { long = c.tables_known.ensures; ok = c.requires.spans_value } in
+    c.edge_in-d.ensures ∙ ap (edge_in c.args.t.now c.args.spans.now) c.index.ensures.0 ∙ held_edge_at sound c.args.e.0 c.requires.n_bound.1
+
+judged_is : (c : After-judge_cut-judged) → c.judge_cut-judged.result ≡ judgement (cut_faults (content (held c.args.t.now c.args.spans.now)) c.args.n c.args.e.0 c.args.v.0 c.args.at) (cut_curve (edge_at (content (held c.args.t.now c.args.spans.now)) c.args.e.0).curve c.args.at)
+judged_is c =
+    let P : Pattern = held c.args.t.now c.args.spans.now in
+    let sound : Sound c.args.t.now c.args.spans.now = record { long = c.tables_known.ensures; ok = c.requires.spans_value } in
+    let here : Here c.args.t.now c.args.n c.args.e.0 c.args.v.0 = record { shell = c.requires.n_bound.0; edge = c.requires.n_bound.1; vertex = c.requires.n_bound.2 } in
+    let listed : Listed P c.counts_in-counts.result c.faces_in.result.now c.shells_in.result.now c.listings_in.result.now = rw (c.counts_in-counts.ensures, c.faces_in.ensures, c.shells_in.ensures, c.listings_in.ensures) (sound_listed sound) in
+    let marked : c.mark_wires-marks.result ≡ marks_of P c.args.n = c.mark_wires-marks.ensures P listed in
+    let edge_is : c.edge_in-d.result ≡ edge_at (content P) c.args.e.0 = c.edge_in-d.ensures ∙ ap (edge_in c.args.t.now c.args.spans.now) c.index.ensures.0 ∙ held_edge_at sound c.args.e.0 c.requires.n_bound.1 in
+    held_judged sound c.args.at here marked c.counts_in-counts.ensures c.uses_in.ensures c.wires_in.ensures c.fronts_in.ensures c.backs_in.ensures edge_is c.cut_curve.ensures c.judge_cut-judged.ensures
+
+pub mark_wires-marks-requires-clause-listed : goal.mark_wires-marks-requires-clause-listed
+mark_wires-marks-requires-clause-listed c =
+    ((P (goal.at.mark_wires-marks-requires-clause-listed c).Start), (listed (goal.at.mark_wires-marks-requires-clause-listed c).After-listings_in))
 
 pub mark_wires-marks-requires-clause-n_bound : goal.mark_wires-marks-requires-clause-n_bound
-mark_wires-marks-requires-clause-n_bound c = let P : Pattern = held c.args.t.now c.args.spans.now in
-    let sound : Sound c.args.t.now c.args.spans.now = record { long = c.tables_known.ensures; ok = c.requires.spans_value } in
-    let listed : Listed (P) c.counts_in-counts.result c.faces_in.result.now c.shells_in.result.now c.listings_in.result.now = rw (c.counts_in-counts.ensures, c.faces_in.ensures, c.shells_in.ensures, c.listings_in.ensures) (sound_listed (sound)) in
+mark_wires-marks-requires-clause-n_bound c =
     rw c.counts_in-counts.ensures c.requires.n_bound.0
 
 pub edge_in-d-requires : goal.edge_in-d-requires
-edge_in-d-requires c = let sound : Sound c.args.t.now c.args.spans.now = record { long = c.tables_known.ensures; ok = c.requires.spans_value } in
-    omega (arith, c.index.ensures.0, c.requires.n_bound.1, (held_rooms (sound)).6)
+edge_in-d-requires c =
+    omega (arith, c.index.ensures.0, c.requires.n_bound.1, (held_rooms (sound (goal.at.edge_in-d-requires c).After-counts_in-counts)).6)
 
 pub judge_cut-judged-requires : goal.judge_cut-judged-requires
-judge_cut-judged-requires c = let P : Pattern = held c.args.t.now c.args.spans.now in
-    let sound : Sound c.args.t.now c.args.spans.now = record { long = c.tables_known.ensures; ok = c.requires.spans_value } in
-    let here : Here c.args.t.now c.args.n c.args.e.0 c.args.v.0 = record { shell = c.requires.n_bound.0; edge = c.requires.n_bound.1; vertex = c.requires.n_bound.2 } in
-    let listed : Listed (P) c.counts_in-counts.result c.faces_in.result.now c.shells_in.result.now c.listings_in.result.now = rw (c.counts_in-counts.ensures, c.faces_in.ensures, c.shells_in.ensures, c.listings_in.ensures) (sound_listed (sound)) in
-    let marked : c.mark_wires-marks.result ≡ marks_of (P) c.args.n = c.mark_wires-marks.ensures (P) (listed) in
-    let marks_long : length c.mark_wires-marks.result.wires ≡ 1024 = search rules in
-    split3 (λ x y z. record { ucount_in_bounds = x; named = y; wires_value = z }) (judge_ready (sound) c.args.at (here) (marked) c.counts_in-counts.ensures c.uses_in.ensures c.wires_in.ensures c.fronts_in.ensures c.backs_in.ensures (marks_long))
+judge_cut-judged-requires c =
+    split3 (λ x y z. record { ucount_in_bounds = x; named = y; wires_value = z }) (judge_ready (sound (goal.at.judge_cut-judged-requires c).After-counts_in-counts) c.args.at (here (goal.at.judge_cut-judged-requires c).Start) (marked (goal.at.judge_cut-judged-requires c).After-mark_wires-marks) c.counts_in-counts.ensures c.uses_in.ensures c.wires_in.ensures c.fronts_in.ensures c.backs_in.ensures (marks_long (goal.at.judge_cut-judged-requires c).After-mark_wires-marks))
 
 pub store_cut-requires-clause-spans_value : goal.store_cut-requires-clause-spans_value
-store_cut-requires-clause-spans_value c = let P : Pattern = held c.args.t.now c.args.spans.now in
-    let sound : Sound c.args.t.now c.args.spans.now = record { long = c.tables_known.ensures; ok = c.requires.spans_value } in
-    let here : Here c.args.t.now c.args.n c.args.e.0 c.args.v.0 = record { shell = c.requires.n_bound.0; edge = c.requires.n_bound.1; vertex = c.requires.n_bound.2 } in
-    let listed : Listed (P) c.counts_in-counts.result c.faces_in.result.now c.shells_in.result.now c.listings_in.result.now = rw (c.counts_in-counts.ensures, c.faces_in.ensures, c.shells_in.ensures, c.listings_in.ensures) (sound_listed (sound)) in
-    let marked : c.mark_wires-marks.result ≡ marks_of (P) c.args.n = c.mark_wires-marks.ensures (P) (listed) in
-    let marks_long : length c.mark_wires-marks.result.wires ≡ 1024 = search rules in
-    let edge_is : c.edge_in-d.result ≡ edge_at (content (P)) c.args.e.0 = c.edge_in-d.ensures ∙ ap (edge_in c.args.t.now c.args.spans.now) c.index.ensures.0 ∙ held_edge_at (sound) c.args.e.0 c.requires.n_bound.1 in
-    let judged_is : c.judge_cut-judged.result ≡ judgement (cut_faults (content (P)) c.args.n c.args.e.0 c.args.v.0 c.args.at) (cut_curve (edge_at (content (P)) c.args.e.0).curve c.args.at) = held_judged (sound) c.args.at (here) (marked) c.counts_in-counts.ensures c.uses_in.ensures c.wires_in.ensures c.fronts_in.ensures c.backs_in.ensures (edge_is) c.cut_curve.ensures c.judge_cut-judged.ensures in
-    (c.requires.spans_value, c.requires.n_bound.1, c.requires.n_bound.2, marks_long)
+store_cut-requires-clause-spans_value c =
+    (c.requires.spans_value, c.requires.n_bound.1, c.requires.n_bound.2, (marks_long (goal.at.store_cut-requires-clause-spans_value c).After-mark_wires-marks))
 
 pub store_cut-requires-clause-t_bound : goal.store_cut-requires-clause-t_bound
-store_cut-requires-clause-t_bound c = let P : Pattern = held c.args.t.now c.args.spans.now in
-    let sound : Sound c.args.t.now c.args.spans.now = record { long = c.tables_known.ensures; ok = c.requires.spans_value } in
-    let here : Here c.args.t.now c.args.n c.args.e.0 c.args.v.0 = record { shell = c.requires.n_bound.0; edge = c.requires.n_bound.1; vertex = c.requires.n_bound.2 } in
-    let listed : Listed (P) c.counts_in-counts.result c.faces_in.result.now c.shells_in.result.now c.listings_in.result.now = rw (c.counts_in-counts.ensures, c.faces_in.ensures, c.shells_in.ensures, c.listings_in.ensures) (sound_listed (sound)) in
-    let marked : c.mark_wires-marks.result ≡ marks_of (P) c.args.n = c.mark_wires-marks.ensures (P) (listed) in
-    let marks_long : length c.mark_wires-marks.result.wires ≡ 1024 = search rules in
-    let edge_is : c.edge_in-d.result ≡ edge_at (content (P)) c.args.e.0 = c.edge_in-d.ensures ∙ ap (edge_in c.args.t.now c.args.spans.now) c.index.ensures.0 ∙ held_edge_at (sound) c.args.e.0 c.requires.n_bound.1 in
-    let judged_is : c.judge_cut-judged.result ≡ judgement (cut_faults (content (P)) c.args.n c.args.e.0 c.args.v.0 c.args.at) (cut_curve (edge_at (content (P)) c.args.e.0).curve c.args.at) = held_judged (sound) c.args.at (here) (marked) c.counts_in-counts.ensures c.uses_in.ensures c.wires_in.ensures c.fronts_in.ensures c.backs_in.ensures (edge_is) c.cut_curve.ensures c.judge_cut-judged.ensures in
-    accepted_room (sound) c.args.at (here) (marked) (sym (judged_is) ∙ c.in-Accepted.is)
+store_cut-requires-clause-t_bound c =
+    accepted_room (sound (goal.at.store_cut-requires-clause-t_bound c).After-counts_in-counts) c.args.at (here (goal.at.store_cut-requires-clause-t_bound c).Start) (marked (goal.at.store_cut-requires-clause-t_bound c).After-mark_wires-marks) (sym (judged_is (goal.at.store_cut-requires-clause-t_bound c).After-judge_cut-judged) ∙ c.in-Accepted.is)
 
 pub returns-in-Not-clause-value : goal.returns-in-Not-clause-value
-returns-in-Not-clause-value c = let P : Pattern = held c.args.t.now c.args.spans.now in
-    let sound : Sound c.args.t.now c.args.spans.now = record { long = c.tables_known.ensures; ok = c.requires.spans_value } in
-    let here : Here c.args.t.now c.args.n c.args.e.0 c.args.v.0 = record { shell = c.requires.n_bound.0; edge = c.requires.n_bound.1; vertex = c.requires.n_bound.2 } in
-    let listed : Listed (P) c.counts_in-counts.result c.faces_in.result.now c.shells_in.result.now c.listings_in.result.now = rw (c.counts_in-counts.ensures, c.faces_in.ensures, c.shells_in.ensures, c.listings_in.ensures) (sound_listed (sound)) in
-    let marked : c.mark_wires-marks.result ≡ marks_of (P) c.args.n = c.mark_wires-marks.ensures (P) (listed) in
-    let edge_is : c.edge_in-d.result ≡ edge_at (content (P)) c.args.e.0 = c.edge_in-d.ensures ∙ ap (edge_in c.args.t.now c.args.spans.now) c.index.ensures.0 ∙ held_edge_at (sound) c.args.e.0 c.requires.n_bound.1 in
-    let judged_is : c.judge_cut-judged.result ≡ judgement (cut_faults (content (P)) c.args.n c.args.e.0 c.args.v.0 c.args.at) (cut_curve (edge_at (content (P)) c.args.e.0).curve c.args.at) = held_judged (sound) c.args.at (here) (marked) c.counts_in-counts.ensures c.uses_in.ensures c.wires_in.ensures c.fronts_in.ensures c.backs_in.ensures (edge_is) c.cut_curve.ensures c.judge_cut-judged.ensures in
-    let no = sym (judged_is) ∙ c.in-Not.is in held_refused (sound) c.args.at (here) Refused Not (Cut (next_edge (P) 0) (next_edge (P) 1)) no
+returns-in-Not-clause-value c =
+    let no = sym (judged_is (goal.at.returns-in-Not-clause-value c).After-judge_cut-judged) ∙ c.in-Not.is in held_refused (sound (goal.at.returns-in-Not-clause-value c).After-counts_in-counts) c.args.at (here (goal.at.returns-in-Not-clause-value c).Start) Refused Not (Cut (next_edge (P (goal.at.returns-in-Not-clause-value c).Start) 0) (next_edge (P (goal.at.returns-in-Not-clause-value c).Start) 1)) no
 
 pub returns-in-Not-clause-spans_after : goal.returns-in-Not-clause-spans_after
-returns-in-Not-clause-spans_after c = let P : Pattern = held c.args.t.now c.args.spans.now in
-    let sound : Sound c.args.t.now c.args.spans.now = record { long = c.tables_known.ensures; ok = c.requires.spans_value } in
-    let here : Here c.args.t.now c.args.n c.args.e.0 c.args.v.0 = record { shell = c.requires.n_bound.0; edge = c.requires.n_bound.1; vertex = c.requires.n_bound.2 } in
-    let listed : Listed (P) c.counts_in-counts.result c.faces_in.result.now c.shells_in.result.now c.listings_in.result.now = rw (c.counts_in-counts.ensures, c.faces_in.ensures, c.shells_in.ensures, c.listings_in.ensures) (sound_listed (sound)) in
-    let marked : c.mark_wires-marks.result ≡ marks_of (P) c.args.n = c.mark_wires-marks.ensures (P) (listed) in
-    let edge_is : c.edge_in-d.result ≡ edge_at (content (P)) c.args.e.0 = c.edge_in-d.ensures ∙ ap (edge_in c.args.t.now c.args.spans.now) c.index.ensures.0 ∙ held_edge_at (sound) c.args.e.0 c.requires.n_bound.1 in
-    let judged_is : c.judge_cut-judged.result ≡ judgement (cut_faults (content (P)) c.args.n c.args.e.0 c.args.v.0 c.args.at) (cut_curve (edge_at (content (P)) c.args.e.0).curve c.args.at) = held_judged (sound) c.args.at (here) (marked) c.counts_in-counts.ensures c.uses_in.ensures c.wires_in.ensures c.fronts_in.ensures c.backs_in.ensures (edge_is) c.cut_curve.ensures c.judge_cut-judged.ensures in
-    let no = sym (judged_is) ∙ c.in-Not.is in held_refused (sound) c.args.at (here) (λ (f : Refusal). P) (λ (x : EditError). P) (stored_in (P) (cut_content (content (P)) c.args.n c.args.e.0 c.args.v.0 c.args.at)) no
+returns-in-Not-clause-spans_after c =
+    let no = sym (judged_is (goal.at.returns-in-Not-clause-spans_after c).After-judge_cut-judged) ∙ c.in-Not.is in held_refused (sound (goal.at.returns-in-Not-clause-spans_after c).After-counts_in-counts) c.args.at (here (goal.at.returns-in-Not-clause-spans_after c).Start) (λ (f : Refusal). (P (goal.at.returns-in-Not-clause-spans_after c).Start)) (λ (x : EditError). (P (goal.at.returns-in-Not-clause-spans_after c).Start)) (stored_in (P (goal.at.returns-in-Not-clause-spans_after c).Start) (cut_content (content (P (goal.at.returns-in-Not-clause-spans_after c).Start)) c.args.n c.args.e.0 c.args.v.0 c.args.at)) no
 
 pub returns-in-Not-clause-spans_after_2 : goal.returns-in-Not-clause-spans_after_2
-returns-in-Not-clause-spans_after_2 c = let P : Pattern = held c.args.t.now c.args.spans.now in
-    let sound : Sound c.args.t.now c.args.spans.now = record { long = c.tables_known.ensures; ok = c.requires.spans_value } in
-    let here : Here c.args.t.now c.args.n c.args.e.0 c.args.v.0 = record { shell = c.requires.n_bound.0; edge = c.requires.n_bound.1; vertex = c.requires.n_bound.2 } in
-    let listed : Listed (P) c.counts_in-counts.result c.faces_in.result.now c.shells_in.result.now c.listings_in.result.now = rw (c.counts_in-counts.ensures, c.faces_in.ensures, c.shells_in.ensures, c.listings_in.ensures) (sound_listed (sound)) in
-    let marked : c.mark_wires-marks.result ≡ marks_of (P) c.args.n = c.mark_wires-marks.ensures (P) (listed) in
-    let edge_is : c.edge_in-d.result ≡ edge_at (content (P)) c.args.e.0 = c.edge_in-d.ensures ∙ ap (edge_in c.args.t.now c.args.spans.now) c.index.ensures.0 ∙ held_edge_at (sound) c.args.e.0 c.requires.n_bound.1 in
-    let judged_is : c.judge_cut-judged.result ≡ judgement (cut_faults (content (P)) c.args.n c.args.e.0 c.args.v.0 c.args.at) (cut_curve (edge_at (content (P)) c.args.e.0).curve c.args.at) = held_judged (sound) c.args.at (here) (marked) c.counts_in-counts.ensures c.uses_in.ensures c.wires_in.ensures c.fronts_in.ensures c.backs_in.ensures (edge_is) c.cut_curve.ensures c.judge_cut-judged.ensures in
-    let no = sym (judged_is) ∙ c.in-Not.is in c.requires.spans_value
+returns-in-Not-clause-spans_after_2 c =
+    let no = sym (judged_is (goal.at.returns-in-Not-clause-spans_after_2 c).After-judge_cut-judged) ∙ c.in-Not.is in c.requires.spans_value
 
 pub returns-in-Accepted-clause-value : goal.returns-in-Accepted-clause-value
-returns-in-Accepted-clause-value c = let P : Pattern = held c.args.t.now c.args.spans.now in
-    let sound : Sound c.args.t.now c.args.spans.now = record { long = c.tables_known.ensures; ok = c.requires.spans_value } in
-    let here : Here c.args.t.now c.args.n c.args.e.0 c.args.v.0 = record { shell = c.requires.n_bound.0; edge = c.requires.n_bound.1; vertex = c.requires.n_bound.2 } in
-    let listed : Listed (P) c.counts_in-counts.result c.faces_in.result.now c.shells_in.result.now c.listings_in.result.now = rw (c.counts_in-counts.ensures, c.faces_in.ensures, c.shells_in.ensures, c.listings_in.ensures) (sound_listed (sound)) in
-    let marked : c.mark_wires-marks.result ≡ marks_of (P) c.args.n = c.mark_wires-marks.ensures (P) (listed) in
-    let edge_is : c.edge_in-d.result ≡ edge_at (content (P)) c.args.e.0 = c.edge_in-d.ensures ∙ ap (edge_in c.args.t.now c.args.spans.now) c.index.ensures.0 ∙ held_edge_at (sound) c.args.e.0 c.requires.n_bound.1 in
-    let judged_is : c.judge_cut-judged.result ≡ judgement (cut_faults (content (P)) c.args.n c.args.e.0 c.args.v.0 c.args.at) (cut_curve (edge_at (content (P)) c.args.e.0).curve c.args.at) = held_judged (sound) c.args.at (here) (marked) c.counts_in-counts.ensures c.uses_in.ensures c.wires_in.ensures c.fronts_in.ensures c.backs_in.ensures (edge_is) c.cut_curve.ensures c.judge_cut-judged.ensures in
-    let m = marked in
-    let yes = sym (judged_is) ∙ c.in-Accepted.is in
-    let after = c.store_cut.ensures.spans_after ∙ accepted_pattern (sound) c.args.at (here) m yes in c.store_cut.ensures.value ∙ accepted_answer (sound) c.args.at (here) m yes
+returns-in-Accepted-clause-value c =
+    let m = (marked (goal.at.returns-in-Accepted-clause-value c).After-mark_wires-marks) in
+    let yes = sym (judged_is (goal.at.returns-in-Accepted-clause-value c).After-judge_cut-judged) ∙ c.in-Accepted.is in
+    let after = c.store_cut.ensures.spans_after ∙ accepted_pattern (sound (goal.at.returns-in-Accepted-clause-value c).After-counts_in-counts) c.args.at (here (goal.at.returns-in-Accepted-clause-value c).Start) m yes in c.store_cut.ensures.value ∙ accepted_answer (sound (goal.at.returns-in-Accepted-clause-value c).After-counts_in-counts) c.args.at (here (goal.at.returns-in-Accepted-clause-value c).Start) m yes
 
 pub returns-in-Accepted-clause-spans_after : goal.returns-in-Accepted-clause-spans_after
-returns-in-Accepted-clause-spans_after c = let P : Pattern = held c.args.t.now c.args.spans.now in
-    let sound : Sound c.args.t.now c.args.spans.now = record { long = c.tables_known.ensures; ok = c.requires.spans_value } in
-    let here : Here c.args.t.now c.args.n c.args.e.0 c.args.v.0 = record { shell = c.requires.n_bound.0; edge = c.requires.n_bound.1; vertex = c.requires.n_bound.2 } in
-    let listed : Listed (P) c.counts_in-counts.result c.faces_in.result.now c.shells_in.result.now c.listings_in.result.now = rw (c.counts_in-counts.ensures, c.faces_in.ensures, c.shells_in.ensures, c.listings_in.ensures) (sound_listed (sound)) in
-    let marked : c.mark_wires-marks.result ≡ marks_of (P) c.args.n = c.mark_wires-marks.ensures (P) (listed) in
-    let edge_is : c.edge_in-d.result ≡ edge_at (content (P)) c.args.e.0 = c.edge_in-d.ensures ∙ ap (edge_in c.args.t.now c.args.spans.now) c.index.ensures.0 ∙ held_edge_at (sound) c.args.e.0 c.requires.n_bound.1 in
-    let judged_is : c.judge_cut-judged.result ≡ judgement (cut_faults (content (P)) c.args.n c.args.e.0 c.args.v.0 c.args.at) (cut_curve (edge_at (content (P)) c.args.e.0).curve c.args.at) = held_judged (sound) c.args.at (here) (marked) c.counts_in-counts.ensures c.uses_in.ensures c.wires_in.ensures c.fronts_in.ensures c.backs_in.ensures (edge_is) c.cut_curve.ensures c.judge_cut-judged.ensures in
-    let m = marked in
-    let yes = sym (judged_is) ∙ c.in-Accepted.is in
-    let after = c.store_cut.ensures.spans_after ∙ accepted_pattern (sound) c.args.at (here) m yes in after
+returns-in-Accepted-clause-spans_after c =
+    let m = (marked (goal.at.returns-in-Accepted-clause-spans_after c).After-mark_wires-marks) in
+    let yes = sym (judged_is (goal.at.returns-in-Accepted-clause-spans_after c).After-judge_cut-judged) ∙ c.in-Accepted.is in
+    let after = c.store_cut.ensures.spans_after ∙ accepted_pattern (sound (goal.at.returns-in-Accepted-clause-spans_after c).After-counts_in-counts) c.args.at (here (goal.at.returns-in-Accepted-clause-spans_after c).Start) m yes in after
 
 pub returns-in-Accepted-clause-spans_after_2 : goal.returns-in-Accepted-clause-spans_after_2
-returns-in-Accepted-clause-spans_after_2 c = let P : Pattern = held c.args.t.now c.args.spans.now in
-    let sound : Sound c.args.t.now c.args.spans.now = record { long = c.tables_known.ensures; ok = c.requires.spans_value } in
-    let here : Here c.args.t.now c.args.n c.args.e.0 c.args.v.0 = record { shell = c.requires.n_bound.0; edge = c.requires.n_bound.1; vertex = c.requires.n_bound.2 } in
-    let listed : Listed (P) c.counts_in-counts.result c.faces_in.result.now c.shells_in.result.now c.listings_in.result.now = rw (c.counts_in-counts.ensures, c.faces_in.ensures, c.shells_in.ensures, c.listings_in.ensures) (sound_listed (sound)) in
-    let marked : c.mark_wires-marks.result ≡ marks_of (P) c.args.n = c.mark_wires-marks.ensures (P) (listed) in
-    let edge_is : c.edge_in-d.result ≡ edge_at (content (P)) c.args.e.0 = c.edge_in-d.ensures ∙ ap (edge_in c.args.t.now c.args.spans.now) c.index.ensures.0 ∙ held_edge_at (sound) c.args.e.0 c.requires.n_bound.1 in
-    let judged_is : c.judge_cut-judged.result ≡ judgement (cut_faults (content (P)) c.args.n c.args.e.0 c.args.v.0 c.args.at) (cut_curve (edge_at (content (P)) c.args.e.0).curve c.args.at) = held_judged (sound) c.args.at (here) (marked) c.counts_in-counts.ensures c.uses_in.ensures c.wires_in.ensures c.fronts_in.ensures c.backs_in.ensures (edge_is) c.cut_curve.ensures c.judge_cut-judged.ensures in
-    let m = marked in
-    let yes = sym (judged_is) ∙ c.in-Accepted.is in
-    let after = c.store_cut.ensures.spans_after ∙ accepted_pattern (sound) c.args.at (here) m yes in ap pattern_faults after ∙ held_after (sound) c.args.at (here)
+returns-in-Accepted-clause-spans_after_2 c =
+    let m = (marked (goal.at.returns-in-Accepted-clause-spans_after_2 c).After-mark_wires-marks) in
+    let yes = sym (judged_is (goal.at.returns-in-Accepted-clause-spans_after_2 c).After-judge_cut-judged) ∙ c.in-Accepted.is in
+    let after = c.store_cut.ensures.spans_after ∙ accepted_pattern (sound (goal.at.returns-in-Accepted-clause-spans_after_2 c).After-counts_in-counts) c.args.at (here (goal.at.returns-in-Accepted-clause-spans_after_2 c).Start) m yes in ap pattern_faults after ∙ held_after (sound (goal.at.returns-in-Accepted-clause-spans_after_2 c).After-counts_in-counts) c.args.at (here (goal.at.returns-in-Accepted-clause-spans_after_2 c).Start)

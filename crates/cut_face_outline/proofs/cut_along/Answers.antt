@@ -11,73 +11,76 @@ use Rattle.face_edits.specs.FaceEdits.{first_point}
 use Rattle.wire.specs.Wires.{end_from}
 use Rattle.wire.specs.declared.Found.TheVariants.{At}
 use Rattle.cut_face_outline.proofs.cut_along.Goals as goal
+use Rattle.cut_face_outline.proofs.cut_along.Goals.{In-At, Start}
 
 -- a record from the pairs that a law gives
 split3 : {A B C R : Type 0} → (A → B → C → R) → A × (B × C) → R
 split3 f p = f p.0 p.1.0 p.1.1
 
+-- the uses of the outline
+part_long : (c : Start) → length (take (c.args.n - 0) c.args.along.now) ≡ c.args.n
+part_long c =
+    ap (λ (n : ℕ). length (take n c.args.along.now)) (sub-zero c.args.n) ∙ length-take-le c.args.n c.args.along.now c.requires.n_in_bounds.0
+
+-- where the front is
+place : (c : In-At) → end_from c.args.fronts.now c.args.backs.now 0 (first_point c.args.fronts.now c.args.backs.now c.args.wire.now) (take (c.args.n - 0) c.args.along.now) ≡ At c.in-At.j
+place c =
+    let args = c.args in
+    ap (λ (v : ℕ). end_from args.fronts.now args.backs.now 0 v (take (args.n - 0) args.along.now)) (sym c.first_point-front.ensures) ∙ sym c.find_end-found.ensures ∙ c.in-At.is
+
+inside : (c : In-At) → c.in-At.j < c.args.n
+inside c =
+    let part_long : length (take (c.args.n - 0) c.args.along.now) ≡ c.args.n = ap (λ (n : ℕ). length (take n c.args.along.now)) (sub-zero c.args.n) ∙ length-take-le c.args.n c.args.along.now c.requires.n_in_bounds.0 in
+    omega (arith, (end_some c.args.fronts.now c.args.backs.now 0 (first_point c.args.fronts.now c.args.backs.now c.args.wire.now) (take (c.args.n - 0) c.args.along.now) c.in-At.j (place c)).1, part_long)
+
 pub first_point-front-requires-clause-wire_nonzero : goal.first_point-front-requires-clause-wire_nonzero
-first_point-front-requires-clause-wire_nonzero c = c.requires.n_in_bounds.2
+first_point-front-requires-clause-wire_nonzero c =
+    c.requires.n_in_bounds.2
 
 pub first_point-front-requires-clause-named : goal.first_point-front-requires-clause-named
-first_point-front-requires-clause-named c = named_of _ _ _ c.requires.point_ends c.requires.edges_below_2
+first_point-front-requires-clause-named c =
+    named_of _ _ _ c.requires.point_ends c.requires.edges_below_2
 
 pub find_end-found-requires : goal.find_end-found-requires
-find_end-found-requires c = part_named _ _ c.args.along.now c.args.wire.now c.args.n c.requires.point_ends c.requires.edges_below
+find_end-found-requires c =
+    part_named _ _ c.args.along.now c.args.wire.now c.args.n c.requires.point_ends c.requires.edges_below
 
 pub overflow_add-j : goal.overflow_add-j
-overflow_add-j c = let part_long : length (take (c.args.n - 0) c.args.along.now) ≡ c.args.n = ap (λ (n : ℕ). length (take n c.args.along.now)) (sub-zero c.args.n) ∙ length-take-le c.args.n c.args.along.now c.requires.n_in_bounds.0 in
-    let place : end_from c.args.fronts.now c.args.backs.now 0 (first_point c.args.fronts.now c.args.backs.now c.args.wire.now) (take (c.args.n - 0) c.args.along.now) ≡ At c.in-At.j = let args = c.args in
-    ap (λ (v : ℕ). end_from args.fronts.now args.backs.now 0 v (take (args.n - 0) args.along.now)) (sym c.first_point-front.ensures) ∙ sym c.find_end-found.ensures ∙ c.in-At.is in
-    let inside : c.in-At.j < c.args.n = omega (arith, (end_some c.args.fronts.now c.args.backs.now 0 (first_point c.args.fronts.now c.args.backs.now c.args.wire.now) (take (c.args.n - 0) c.args.along.now) c.in-At.j (place)).1, part_long) in
-    omega (arith, inside, c.requires.n_in_bounds.1)
+overflow_add-j c =
+    omega (arith, (inside (goal.at.overflow_add-j c).In-At), c.requires.n_in_bounds.1)
 
 pub cut_after-requires-clause-k_in_bounds : goal.cut_after-requires-clause-k_in_bounds
-cut_after-requires-clause-k_in_bounds c = let part_long : length (take (c.args.n - 0) c.args.along.now) ≡ c.args.n = ap (λ (n : ℕ). length (take n c.args.along.now)) (sub-zero c.args.n) ∙ length-take-le c.args.n c.args.along.now c.requires.n_in_bounds.0 in
-    let place : end_from c.args.fronts.now c.args.backs.now 0 (first_point c.args.fronts.now c.args.backs.now c.args.wire.now) (take (c.args.n - 0) c.args.along.now) ≡ At c.in-At.j = let args = c.args in
-    ap (λ (v : ℕ). end_from args.fronts.now args.backs.now 0 v (take (args.n - 0) args.along.now)) (sym c.first_point-front.ensures) ∙ sym c.find_end-found.ensures ∙ c.in-At.is in
-    let inside : c.in-At.j < c.args.n = omega (arith, (end_some c.args.fronts.now c.args.backs.now 0 (first_point c.args.fronts.now c.args.backs.now c.args.wire.now) (take (c.args.n - 0) c.args.along.now) c.in-At.j (place)).1, part_long) in
-    (omega (arith, inside, part_long), omega (arith, part_long, c.requires.n_in_bounds.1))
+cut_after-requires-clause-k_in_bounds c =
+    (omega (arith, (inside (goal.at.cut_after-requires-clause-k_in_bounds c).In-At), (part_long (goal.at.cut_after-requires-clause-k_in_bounds c).Start)), omega (arith, (part_long (goal.at.cut_after-requires-clause-k_in_bounds c).Start), c.requires.n_in_bounds.1))
 
 pub cut_after-requires-clause-point_ends : goal.cut_after-requires-clause-point_ends
-cut_after-requires-clause-point_ends c = let part_long : length (take (c.args.n - 0) c.args.along.now) ≡ c.args.n = ap (λ (n : ℕ). length (take n c.args.along.now)) (sub-zero c.args.n) ∙ length-take-le c.args.n c.args.along.now c.requires.n_in_bounds.0 in
-    let place : end_from c.args.fronts.now c.args.backs.now 0 (first_point c.args.fronts.now c.args.backs.now c.args.wire.now) (take (c.args.n - 0) c.args.along.now) ≡ At c.in-At.j = let args = c.args in
-    ap (λ (v : ℕ). end_from args.fronts.now args.backs.now 0 v (take (args.n - 0) args.along.now)) (sym c.first_point-front.ensures) ∙ sym c.find_end-found.ensures ∙ c.in-At.is in
-    let inside : c.in-At.j < c.args.n = omega (arith, (end_some c.args.fronts.now c.args.backs.now 0 (first_point c.args.fronts.now c.args.backs.now c.args.wire.now) (take (c.args.n - 0) c.args.along.now) c.in-At.j (place)).1, part_long) in
+cut_after-requires-clause-point_ends c =
     c.requires.point_ends
 
 pub cut_after-requires-clause-edges_below : goal.cut_after-requires-clause-edges_below
-cut_after-requires-clause-edges_below c = let part_long : length (take (c.args.n - 0) c.args.along.now) ≡ c.args.n = ap (λ (n : ℕ). length (take n c.args.along.now)) (sub-zero c.args.n) ∙ length-take-le c.args.n c.args.along.now c.requires.n_in_bounds.0 in
-    let place : end_from c.args.fronts.now c.args.backs.now 0 (first_point c.args.fronts.now c.args.backs.now c.args.wire.now) (take (c.args.n - 0) c.args.along.now) ≡ At c.in-At.j = let args = c.args in
-    ap (λ (v : ℕ). end_from args.fronts.now args.backs.now 0 v (take (args.n - 0) args.along.now)) (sym c.first_point-front.ensures) ∙ sym c.find_end-found.ensures ∙ c.in-At.is in
-    let inside : c.in-At.j < c.args.n = omega (arith, (end_some c.args.fronts.now c.args.backs.now 0 (first_point c.args.fronts.now c.args.backs.now c.args.wire.now) (take (c.args.n - 0) c.args.along.now) c.in-At.j (place)).1, part_long) in
+cut_after-requires-clause-edges_below c =
     rw (sub-zero c.args.n) c.requires.edges_below
 
 pub cut_after-requires-clause-edges_below_2 : goal.cut_after-requires-clause-edges_below_2
-cut_after-requires-clause-edges_below_2 c = let part_long : length (take (c.args.n - 0) c.args.along.now) ≡ c.args.n = ap (λ (n : ℕ). length (take n c.args.along.now)) (sub-zero c.args.n) ∙ length-take-le c.args.n c.args.along.now c.requires.n_in_bounds.0 in
-    let place : end_from c.args.fronts.now c.args.backs.now 0 (first_point c.args.fronts.now c.args.backs.now c.args.wire.now) (take (c.args.n - 0) c.args.along.now) ≡ At c.in-At.j = let args = c.args in
-    ap (λ (v : ℕ). end_from args.fronts.now args.backs.now 0 v (take (args.n - 0) args.along.now)) (sym c.first_point-front.ensures) ∙ sym c.find_end-found.ensures ∙ c.in-At.is in
-    let inside : c.in-At.j < c.args.n = omega (arith, (end_some c.args.fronts.now c.args.backs.now 0 (first_point c.args.fronts.now c.args.backs.now c.args.wire.now) (take (c.args.n - 0) c.args.along.now) c.in-At.j (place)).1, part_long) in
+cut_after-requires-clause-edges_below_2 c =
     c.requires.edges_below_2
 
 pub returns-in-Nothing : goal.returns-in-Nothing
-returns-in-Nothing c = let args = c.args in
+returns-in-Nothing c =
+    let args = c.args in
     split3 (λ x y z. record { value = x; uses_after = y; lens_after = z }) (part_none args.fronts.now args.backs.now args.along.now args.wire.now args.n args.uses.now args.lens.now (ap (λ (v : ℕ). end_from args.fronts.now args.backs.now 0 v (take (args.n - 0) args.along.now)) (sym c.first_point-front.ensures) ∙ sym c.find_end-found.ensures ∙ c.in-Nothing.is))
 
 pub returns-in-At-clause-value : goal.returns-in-At-clause-value
-returns-in-At-clause-value c = let place : end_from c.args.fronts.now c.args.backs.now 0 (first_point c.args.fronts.now c.args.backs.now c.args.wire.now) (take (c.args.n - 0) c.args.along.now) ≡ At c.in-At.j = let args = c.args in
-    ap (λ (v : ℕ). end_from args.fronts.now args.backs.now 0 v (take (args.n - 0) args.along.now)) (sym c.first_point-front.ensures) ∙ sym c.find_end-found.ensures ∙ c.in-At.is in
+returns-in-At-clause-value c =
     let args = c.args in
-    rw (← part_some args.fronts.now args.backs.now args.along.now args.wire.now args.n (length args.uses.now) (length args.lens.now) c.in-At.j (place)) c.cut_after.ensures.value
+    rw (← part_some args.fronts.now args.backs.now args.along.now args.wire.now args.n (length args.uses.now) (length args.lens.now) c.in-At.j (place (goal.at.returns-in-At-clause-value c).In-At)) c.cut_after.ensures.value
 
 pub returns-in-At-clause-uses_after : goal.returns-in-At-clause-uses_after
-returns-in-At-clause-uses_after c = let place : end_from c.args.fronts.now c.args.backs.now 0 (first_point c.args.fronts.now c.args.backs.now c.args.wire.now) (take (c.args.n - 0) c.args.along.now) ≡ At c.in-At.j = let args = c.args in
-    ap (λ (v : ℕ). end_from args.fronts.now args.backs.now 0 v (take (args.n - 0) args.along.now)) (sym c.first_point-front.ensures) ∙ sym c.find_end-found.ensures ∙ c.in-At.is in
+returns-in-At-clause-uses_after c =
     let args = c.args in
-    rw (← part_some args.fronts.now args.backs.now args.along.now args.wire.now args.n (length args.uses.now) (length args.lens.now) c.in-At.j (place)) c.cut_after.ensures.uses_after
+    rw (← part_some args.fronts.now args.backs.now args.along.now args.wire.now args.n (length args.uses.now) (length args.lens.now) c.in-At.j (place (goal.at.returns-in-At-clause-uses_after c).In-At)) c.cut_after.ensures.uses_after
 
 pub returns-in-At-clause-lens_after : goal.returns-in-At-clause-lens_after
-returns-in-At-clause-lens_after c = let place : end_from c.args.fronts.now c.args.backs.now 0 (first_point c.args.fronts.now c.args.backs.now c.args.wire.now) (take (c.args.n - 0) c.args.along.now) ≡ At c.in-At.j = let args = c.args in
-    ap (λ (v : ℕ). end_from args.fronts.now args.backs.now 0 v (take (args.n - 0) args.along.now)) (sym c.first_point-front.ensures) ∙ sym c.find_end-found.ensures ∙ c.in-At.is in
+returns-in-At-clause-lens_after c =
     let args = c.args in
-    rw (← part_some args.fronts.now args.backs.now args.along.now args.wire.now args.n (length args.uses.now) (length args.lens.now) c.in-At.j (place)) c.cut_after.ensures.lens_after
+    rw (← part_some args.fronts.now args.backs.now args.along.now args.wire.now args.n (length args.uses.now) (length args.lens.now) c.in-At.j (place (goal.at.returns-in-At-clause-lens_after c).In-At)) c.cut_after.ensures.lens_after

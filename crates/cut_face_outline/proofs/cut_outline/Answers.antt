@@ -9,65 +9,69 @@ use Rattle.face_edits.specs.FaceEdits.{last_point}
 use Rattle.wire.specs.Wires.{end_from}
 use Rattle.wire.specs.declared.Found.TheVariants.{At}
 use Rattle.cut_face_outline.proofs.cut_outline.Goals as goal
+use Rattle.cut_face_outline.proofs.cut_outline.Goals.{In-At}
 
 -- a record from the pairs that a law gives
 split3 : {A B C R : Type 0} → (A → B → C → R) → A × (B × C) → R
 split3 f p = f p.0 p.1.0 p.1.1
 
+-- where the back is
+place : (c : In-At) → end_from c.args.backs.now c.args.fronts.now 0 (last_point c.args.fronts.now c.args.backs.now c.args.wire.now) c.args.outline.now ≡ At c.in-At.i
+place c =
+    let args = c.args in
+    ap (λ (v : ℕ). end_from args.backs.now args.fronts.now 0 v args.outline.now) (sym c.last_point-back.ensures) ∙ sym c.find_begin-found.ensures ∙ c.in-At.is
+
 pub returns-then-wire-eq0 : goal.returns-then-wire-eq0
-returns-then-wire-eq0 c = split3 (λ x y z. record { value = x; uses_after = y; lens_after = z }) (outline_empty _ _ _ _ _ _ c.if-wire-eq0.true)
+returns-then-wire-eq0 c =
+    split3 (λ x y z. record { value = x; uses_after = y; lens_after = z }) (outline_empty _ _ _ _ _ _ c.if-wire-eq0.true)
 
 pub last_point-back-requires-clause-wire_nonzero : goal.last_point-back-requires-clause-wire_nonzero
-last_point-back-requires-clause-wire_nonzero c = omega arith
+last_point-back-requires-clause-wire_nonzero c =
+    omega arith
 
 pub last_point-back-requires-clause-named : goal.last_point-back-requires-clause-named
-last_point-back-requires-clause-named c = named_of _ _ _ c.requires.point_ends c.requires.edges_below_2
+last_point-back-requires-clause-named c =
+    named_of _ _ _ c.requires.point_ends c.requires.edges_below_2
 
 pub find_begin-found-requires : goal.find_begin-found-requires
-find_begin-found-requires c = named_flipped _ _ _ c.requires.point_ends c.requires.edges_below
+find_begin-found-requires c =
+    named_flipped _ _ _ c.requires.point_ends c.requires.edges_below
 
 pub rotate_to-requires : goal.rotate_to-requires
-rotate_to-requires c = let place : end_from c.args.backs.now c.args.fronts.now 0 (last_point c.args.fronts.now c.args.backs.now c.args.wire.now) c.args.outline.now ≡ At c.in-At.i = let args = c.args in
-    ap (λ (v : ℕ). end_from args.backs.now args.fronts.now 0 v args.outline.now) (sym c.last_point-back.ensures) ∙ sym c.find_begin-found.ensures ∙ c.in-At.is in
+rotate_to-requires c =
     let inside : c.in-At.i < length c.args.outline.now = let args = c.args in
-    omega (arith, (end_some args.backs.now args.fronts.now 0 (last_point args.fronts.now args.backs.now args.wire.now) args.outline.now c.in-At.i (place)).1) in
+    omega (arith, (end_some args.backs.now args.fronts.now 0 (last_point args.fronts.now args.backs.now args.wire.now) args.outline.now c.in-At.i (place (goal.at.rotate_to-requires c).In-At)).1) in
     (omega (arith, inside), omega (arith, c.requires.outline_len_bound))
 
 pub cut_along-requires-clause-n_in_bounds : goal.cut_along-requires-clause-n_in_bounds
-cut_along-requires-clause-n_in_bounds c = let place : end_from c.args.backs.now c.args.fronts.now 0 (last_point c.args.fronts.now c.args.backs.now c.args.wire.now) c.args.outline.now ≡ At c.in-At.i = let args = c.args in
-    ap (λ (v : ℕ). end_from args.backs.now args.fronts.now 0 v args.outline.now) (sym c.last_point-back.ensures) ∙ sym c.find_begin-found.ensures ∙ c.in-At.is in
+cut_along-requires-clause-n_in_bounds c =
     (omega (arith, c.requires.outline_len_bound), c.requires.outline_len_bound, omega arith)
 
 pub cut_along-requires-clause-point_ends : goal.cut_along-requires-clause-point_ends
-cut_along-requires-clause-point_ends c = let place : end_from c.args.backs.now c.args.fronts.now 0 (last_point c.args.fronts.now c.args.backs.now c.args.wire.now) c.args.outline.now ≡ At c.in-At.i = let args = c.args in
-    ap (λ (v : ℕ). end_from args.backs.now args.fronts.now 0 v args.outline.now) (sym c.last_point-back.ensures) ∙ sym c.find_begin-found.ensures ∙ c.in-At.is in
+cut_along-requires-clause-point_ends c =
     c.requires.point_ends
 
 pub cut_along-requires-clause-edges_below : goal.cut_along-requires-clause-edges_below
-cut_along-requires-clause-edges_below c = let place : end_from c.args.backs.now c.args.fronts.now 0 (last_point c.args.fronts.now c.args.backs.now c.args.wire.now) c.args.outline.now ≡ At c.in-At.i = let args = c.args in
-    ap (λ (v : ℕ). end_from args.backs.now args.fronts.now 0 v args.outline.now) (sym c.last_point-back.ensures) ∙ sym c.find_begin-found.ensures ∙ c.in-At.is in
-    rw (rotated_part c.args.fronts.now c.args.backs.now c.args.outline.now c.args.wire.now (omega arith) (replicate {A = ℕ} 4096 0) _ c.in-At.i (place) (omega (arith, c.requires.outline_len_bound)) c.rotate_to.ensures) (rotated_uses (length c.args.fronts.now) c.args.outline.now c.requires.edges_below c.in-At.i)
+cut_along-requires-clause-edges_below c =
+    rw (rotated_part c.args.fronts.now c.args.backs.now c.args.outline.now c.args.wire.now (omega arith) (replicate {A = ℕ} 4096 0) _ c.in-At.i (place (goal.at.cut_along-requires-clause-edges_below c).In-At) (omega (arith, c.requires.outline_len_bound)) c.rotate_to.ensures) (rotated_uses (length c.args.fronts.now) c.args.outline.now c.requires.edges_below c.in-At.i)
 
 pub cut_along-requires-clause-edges_below_2 : goal.cut_along-requires-clause-edges_below_2
-cut_along-requires-clause-edges_below_2 c = let place : end_from c.args.backs.now c.args.fronts.now 0 (last_point c.args.fronts.now c.args.backs.now c.args.wire.now) c.args.outline.now ≡ At c.in-At.i = let args = c.args in
-    ap (λ (v : ℕ). end_from args.backs.now args.fronts.now 0 v args.outline.now) (sym c.last_point-back.ensures) ∙ sym c.find_begin-found.ensures ∙ c.in-At.is in
+cut_along-requires-clause-edges_below_2 c =
     c.requires.edges_below_2
 
 pub returns-in-Nothing : goal.returns-in-Nothing
-returns-in-Nothing c = let args = c.args in
+returns-in-Nothing c =
+    let args = c.args in
     split3 (λ x y z. record { value = x; uses_after = y; lens_after = z }) (outline_none args.fronts.now args.backs.now args.outline.now args.wire.now (omega arith) args.uses.now args.lens.now (ap (λ (v : ℕ). end_from args.backs.now args.fronts.now 0 v args.outline.now) (sym c.last_point-back.ensures) ∙ sym c.find_begin-found.ensures ∙ c.in-Nothing.is))
 
 pub returns-in-At-clause-value : goal.returns-in-At-clause-value
-returns-in-At-clause-value c = let place : end_from c.args.backs.now c.args.fronts.now 0 (last_point c.args.fronts.now c.args.backs.now c.args.wire.now) c.args.outline.now ≡ At c.in-At.i = let args = c.args in
-    ap (λ (v : ℕ). end_from args.backs.now args.fronts.now 0 v args.outline.now) (sym c.last_point-back.ensures) ∙ sym c.find_begin-found.ensures ∙ c.in-At.is in
-    rw (← outline_some c.args.fronts.now c.args.backs.now c.args.outline.now c.args.wire.now (omega arith) (replicate {A = ℕ} 4096 0) _ c.in-At.i (length c.args.uses.now) (length c.args.lens.now) (place) (omega (arith, c.requires.outline_len_bound)) c.rotate_to.ensures) c.cut_along.ensures.value
+returns-in-At-clause-value c =
+    rw (← outline_some c.args.fronts.now c.args.backs.now c.args.outline.now c.args.wire.now (omega arith) (replicate {A = ℕ} 4096 0) _ c.in-At.i (length c.args.uses.now) (length c.args.lens.now) (place (goal.at.returns-in-At-clause-value c).In-At) (omega (arith, c.requires.outline_len_bound)) c.rotate_to.ensures) c.cut_along.ensures.value
 
 pub returns-in-At-clause-uses_after : goal.returns-in-At-clause-uses_after
-returns-in-At-clause-uses_after c = let place : end_from c.args.backs.now c.args.fronts.now 0 (last_point c.args.fronts.now c.args.backs.now c.args.wire.now) c.args.outline.now ≡ At c.in-At.i = let args = c.args in
-    ap (λ (v : ℕ). end_from args.backs.now args.fronts.now 0 v args.outline.now) (sym c.last_point-back.ensures) ∙ sym c.find_begin-found.ensures ∙ c.in-At.is in
-    rw (← outline_some c.args.fronts.now c.args.backs.now c.args.outline.now c.args.wire.now (omega arith) (replicate {A = ℕ} 4096 0) _ c.in-At.i (length c.args.uses.now) (length c.args.lens.now) (place) (omega (arith, c.requires.outline_len_bound)) c.rotate_to.ensures) c.cut_along.ensures.uses_after
+returns-in-At-clause-uses_after c =
+    rw (← outline_some c.args.fronts.now c.args.backs.now c.args.outline.now c.args.wire.now (omega arith) (replicate {A = ℕ} 4096 0) _ c.in-At.i (length c.args.uses.now) (length c.args.lens.now) (place (goal.at.returns-in-At-clause-uses_after c).In-At) (omega (arith, c.requires.outline_len_bound)) c.rotate_to.ensures) c.cut_along.ensures.uses_after
 
 pub returns-in-At-clause-lens_after : goal.returns-in-At-clause-lens_after
-returns-in-At-clause-lens_after c = let place : end_from c.args.backs.now c.args.fronts.now 0 (last_point c.args.fronts.now c.args.backs.now c.args.wire.now) c.args.outline.now ≡ At c.in-At.i = let args = c.args in
-    ap (λ (v : ℕ). end_from args.backs.now args.fronts.now 0 v args.outline.now) (sym c.last_point-back.ensures) ∙ sym c.find_begin-found.ensures ∙ c.in-At.is in
-    rw (← outline_some c.args.fronts.now c.args.backs.now c.args.outline.now c.args.wire.now (omega arith) (replicate {A = ℕ} 4096 0) _ c.in-At.i (length c.args.uses.now) (length c.args.lens.now) (place) (omega (arith, c.requires.outline_len_bound)) c.rotate_to.ensures) c.cut_along.ensures.lens_after
+returns-in-At-clause-lens_after c =
+    rw (← outline_some c.args.fronts.now c.args.backs.now c.args.outline.now c.args.wire.now (omega arith) (replicate {A = ℕ} 4096 0) _ c.in-At.i (length c.args.uses.now) (length c.args.lens.now) (place (goal.at.returns-in-At-clause-lens_after c).In-At) (omega (arith, c.requires.outline_len_bound)) c.rotate_to.ensures) c.cut_along.ensures.lens_after

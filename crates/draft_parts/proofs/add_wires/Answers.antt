@@ -5,70 +5,77 @@ use lib.ListN.{length}
 use mathlib.Core.Path.{◌≡◌}
 use borrow.Author.Rules.{rules}
 use Rattle.draft_parts.proofs.add_wires.Goals as goal
-use Rattle.draft_parts.proofs.add_wires.Goals.{then-v-i-eq65536, else-v-i-eq65536+then-w-wired, else-v-i-eq65536+else-w-wired}
+use Rattle.draft_parts.proofs.add_wires.Goals.{Then-v-i-eq65536, Then-w-wired, else-v-i-eq65536+else-w-wired, else-v-i-eq65536+then-w-wired, then-v-i-eq65536}
+
+-- there is room for a wire more, and for a use more
+for_wire : (c : Then-v-i-eq65536) → (c.loop-i.w < 1024) × (length c.loop-i.t ≡ 12312)
+for_wire c =
+    (fill_wire c.loop-i.invariant c.loop-i-test.true c.requires c.if-v-i-eq65536.true, filling_long c.loop-i.invariant)
+
+for_use : (c : Then-w-wired) → (c.loop-i.u < 4096) × (c.loop-i.w - 1 < 1024) × (length c.loop-i.t ≡ 12312)
+for_use c =
+    let i = c.loop-i.invariant in let l = c.loop-i-test.true in
+    (fill_use i l c.requires c.if-v-i-eq65536.false c.if-w-wired.true, fill_last i l c.requires c.if-v-i-eq65536.false c.if-w-wired.true, filling_long i)
 
 pub loop-i-init : goal.loop-i-init
-loop-i-init c = filling_start _ _ _ _ c.tables_known.ensures
+loop-i-init c =
+    filling_start _ _ _ _ c.tables_known.ensures
 
 pub overflow_add-t : goal.overflow_add-t
-overflow_add-t c = let for_wire : (c.loop-i.w < 1024) × (length c.loop-i.t ≡ 12312) = (fill_wire c.loop-i.invariant c.loop-i-test.true c.requires c.if-v-i-eq65536.true, filling_long c.loop-i.invariant) in
-    let r = for_wire in search rules
+overflow_add-t c =
+    let r = (for_wire (goal.at.overflow_add-t c).Then-v-i-eq65536) in search rules
 
 pub offset_bounds-t-w : goal.offset_bounds-t-w
-offset_bounds-t-w c = let for_wire : (c.loop-i.w < 1024) × (length c.loop-i.t ≡ 12312) = (fill_wire c.loop-i.invariant c.loop-i-test.true c.requires c.if-v-i-eq65536.true, filling_long c.loop-i.invariant) in
-    let r = for_wire in search rules
+offset_bounds-t-w c =
+    let r = (for_wire (goal.at.offset_bounds-t-w c).Then-v-i-eq65536) in search rules
 
 pub bounds-t-w : goal.bounds-t-w
-bounds-t-w c = let for_wire : (c.loop-i.w < 1024) × (length c.loop-i.t ≡ 12312) = (fill_wire c.loop-i.invariant c.loop-i-test.true c.requires c.if-v-i-eq65536.true, filling_long c.loop-i.invariant) in
-    let r = for_wire in search rules
+bounds-t-w c =
+    let r = (for_wire (goal.at.bounds-t-w c).Then-v-i-eq65536) in search rules
 
 pub overflow_add-w : goal.overflow_add-w
-overflow_add-w c = let for_wire : (c.loop-i.w < 1024) × (length c.loop-i.t ≡ 12312) = (fill_wire c.loop-i.invariant c.loop-i-test.true c.requires c.if-v-i-eq65536.true, filling_long c.loop-i.invariant) in
-    let r = for_wire in search rules
+overflow_add-w c =
+    let r = (for_wire (goal.at.overflow_add-w c).Then-v-i-eq65536) in search rules
 
 pub overflow_add-t-then-w-wired : goal.overflow_add-t-then-w-wired
-overflow_add-t-then-w-wired c = let for_use : (c.loop-i.u < 4096) × (c.loop-i.w - 1 < 1024) × (length c.loop-i.t ≡ 12312) = let i = c.loop-i.invariant in let l = c.loop-i-test.true in
-    (fill_use i l c.requires c.if-v-i-eq65536.false c.if-w-wired.true, fill_last i l c.requires c.if-v-i-eq65536.false c.if-w-wired.true, filling_long i) in
-    let r = for_use in search rules
+overflow_add-t-then-w-wired c =
+    let r = (for_use (goal.at.overflow_add-t-then-w-wired c).Then-w-wired) in search rules
 
 pub offset_bounds-t-u : goal.offset_bounds-t-u
-offset_bounds-t-u c = let for_use : (c.loop-i.u < 4096) × (c.loop-i.w - 1 < 1024) × (length c.loop-i.t ≡ 12312) = let i = c.loop-i.invariant in let l = c.loop-i-test.true in
-    (fill_use i l c.requires c.if-v-i-eq65536.false c.if-w-wired.true, fill_last i l c.requires c.if-v-i-eq65536.false c.if-w-wired.true, filling_long i) in
-    let r = for_use in search rules
+offset_bounds-t-u c =
+    let r = (for_use (goal.at.offset_bounds-t-u c).Then-w-wired) in search rules
 
 pub bounds-t-u : goal.bounds-t-u
-bounds-t-u c = let for_use : (c.loop-i.u < 4096) × (c.loop-i.w - 1 < 1024) × (length c.loop-i.t ≡ 12312) = let i = c.loop-i.invariant in let l = c.loop-i-test.true in
-    (fill_use i l c.requires c.if-v-i-eq65536.false c.if-w-wired.true, fill_last i l c.requires c.if-v-i-eq65536.false c.if-w-wired.true, filling_long i) in
-    let r = for_use in search rules
+bounds-t-u c =
+    let r = (for_use (goal.at.bounds-t-u c).Then-w-wired) in search rules
 
 pub overflow_add-u : goal.overflow_add-u
-overflow_add-u c = let for_use : (c.loop-i.u < 4096) × (c.loop-i.w - 1 < 1024) × (length c.loop-i.t ≡ 12312) = let i = c.loop-i.invariant in let l = c.loop-i-test.true in
-    (fill_use i l c.requires c.if-v-i-eq65536.false c.if-w-wired.true, fill_last i l c.requires c.if-v-i-eq65536.false c.if-w-wired.true, filling_long i) in
-    let r = for_use in search rules
+overflow_add-u c =
+    let r = (for_use (goal.at.overflow_add-u c).Then-w-wired) in search rules
 
 pub overflow_add-size : goal.overflow_add-size
-overflow_add-size c = let r = c.loop-i.invariant.laid.few in search rules
+overflow_add-size c =
+    let r = c.loop-i.invariant.laid.few in search rules
 
 pub overflow_add-t-then-w-wired-2 : goal.overflow_add-t-then-w-wired-2
-overflow_add-t-then-w-wired-2 c = let for_use : (c.loop-i.u < 4096) × (c.loop-i.w - 1 < 1024) × (length c.loop-i.t ≡ 12312) = let i = c.loop-i.invariant in let l = c.loop-i-test.true in
-    (fill_use i l c.requires c.if-v-i-eq65536.false c.if-w-wired.true, fill_last i l c.requires c.if-v-i-eq65536.false c.if-w-wired.true, filling_long i) in
-    let r = for_use in search rules
+overflow_add-t-then-w-wired-2 c =
+    let r = (for_use (goal.at.overflow_add-t-then-w-wired-2 c).Then-w-wired) in search rules
 
 pub offset_bounds-t-w-then-w-wired : goal.offset_bounds-t-w-then-w-wired
-offset_bounds-t-w-then-w-wired c = let for_use : (c.loop-i.u < 4096) × (c.loop-i.w - 1 < 1024) × (length c.loop-i.t ≡ 12312) = let i = c.loop-i.invariant in let l = c.loop-i-test.true in
-    (fill_use i l c.requires c.if-v-i-eq65536.false c.if-w-wired.true, fill_last i l c.requires c.if-v-i-eq65536.false c.if-w-wired.true, filling_long i) in
-    let r = for_use in search rules
+offset_bounds-t-w-then-w-wired c =
+    let r = (for_use (goal.at.offset_bounds-t-w-then-w-wired c).Then-w-wired) in search rules
 
 pub bounds-t-w-then-w-wired : goal.bounds-t-w-then-w-wired
-bounds-t-w-then-w-wired c = let for_use : (c.loop-i.u < 4096) × (c.loop-i.w - 1 < 1024) × (length c.loop-i.t ≡ 12312) = let i = c.loop-i.invariant in let l = c.loop-i-test.true in
-    (fill_use i l c.requires c.if-v-i-eq65536.false c.if-w-wired.true, fill_last i l c.requires c.if-v-i-eq65536.false c.if-w-wired.true, filling_long i) in
-    let r = for_use in search rules
+bounds-t-w-then-w-wired c =
+    let r = (for_use (goal.at.bounds-t-w-then-w-wired c).Then-w-wired) in search rules
 
 pub returns : goal.returns
-returns c = filling_all c.loop-i.invariant c.loop-i-test.false
+returns c =
+    filling_all c.loop-i.invariant c.loop-i-test.false
 
 pub loop-i-preserved : goal.loop-i-preserved
-loop-i-preserved c = let pre = c.requires in
+loop-i-preserved c =
+    let pre = c.requires in
     elim c.if-v-i-eq65536.branch [
       | then-v-i-eq65536 w ↦ rw (w.t-is, w.u-is, w.w-is, w.size-is) (filling_mark c.loop-i.invariant c.loop-i-test.true pre w.if-v-i-eq65536.true)
       | else-v-i-eq65536+then-w-wired w ↦ rw (w.t-is, w.u-is, w.w-is, w.size-is) (filling_use c.loop-i.invariant c.loop-i-test.true pre w.if-v-i-eq65536.false w.if-w-wired.true _ _ w.saturated.ensures w.small_length.ensures)

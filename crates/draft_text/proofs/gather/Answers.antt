@@ -4,104 +4,64 @@ use Rattle.draft_text.proofs.Turns.{Here, gathering_all, gathering_right, gather
 use Prim.Native.Nat.{◌-◌}
 use borrow.Author.Rules.{rules}
 use Rattle.draft_text.proofs.gather.Goals as goal
+use Rattle.draft_text.proofs.gather.Goals.{After-trimmed_length}
 
 -- a record from the pairs that a law gives
 split2 : {A B R : Type 0} → (A → B → R) → A × B → R
 split2 f p = f p.0 p.1
 
+-- the line that begins here
+here : (c : After-trimmed_length) → Here c.args.text.now c.loop-at.at c.line_end-end.result c.trimmed_length.result
+here c =
+    record {
+      begins = c.loop-at-test.true;
+      ends = c.line_end-end.ensures.0;
+      within = c.line_end-end.ensures.1;
+      short = c.trimmed_length.ensures.0;
+      cut = c.trimmed_length.ensures.1;
+    }
+
 pub loop-at-init : goal.loop-at-init
-loop-at-init c = (refl, gathering_start _ _ _ c.requires.1)
+loop-at-init c =
+    (refl, gathering_start _ _ _ c.requires.1)
 
 pub overflow_add-last : goal.overflow_add-last
-overflow_add-last c = let here : Here c.args.text.now c.loop-at.at c.line_end-end.result c.trimmed_length.result = record {
-  begins = c.loop-at-test.true;
-  ends = c.line_end-end.ensures.0;
-  within = c.line_end-end.ensures.1;
-  short = c.trimmed_length.ensures.0;
-  cut = c.trimmed_length.ensures.1;
-} in
-    let s = line_short (here) in search rules
+overflow_add-last c =
+    let s = line_short (here (goal.at.overflow_add-last c).After-trimmed_length) in search rules
 
 pub slice_bounds-add_line-count : goal.slice_bounds-add_line-count
-slice_bounds-add_line-count c = let here : Here c.args.text.now c.loop-at.at c.line_end-end.result c.trimmed_length.result = record {
-  begins = c.loop-at-test.true;
-  ends = c.line_end-end.ensures.0;
-  within = c.line_end-end.ensures.1;
-  short = c.trimmed_length.ensures.0;
-  cut = c.trimmed_length.ensures.1;
-} in
-    let s = line_short (here) in search rules
+slice_bounds-add_line-count c =
+    let s = line_short (here (goal.at.slice_bounds-add_line-count c).After-trimmed_length) in search rules
 
 pub slice_bounds-add_line-start : goal.slice_bounds-add_line-start
-slice_bounds-add_line-start c = let here : Here c.args.text.now c.loop-at.at c.line_end-end.result c.trimmed_length.result = record {
-  begins = c.loop-at-test.true;
-  ends = c.line_end-end.ensures.0;
-  within = c.line_end-end.ensures.1;
-  short = c.trimmed_length.ensures.0;
-  cut = c.trimmed_length.ensures.1;
-} in
-    let s = line_short (here) in search rules
+slice_bounds-add_line-start c =
+    let s = line_short (here (goal.at.slice_bounds-add_line-start c).After-trimmed_length) in search rules
 
 pub slice_bounds-add_line-end : goal.slice_bounds-add_line-end
-slice_bounds-add_line-end c = let here : Here c.args.text.now c.loop-at.at c.line_end-end.result c.trimmed_length.result = record {
-  begins = c.loop-at-test.true;
-  ends = c.line_end-end.ensures.0;
-  within = c.line_end-end.ensures.1;
-  short = c.trimmed_length.ensures.0;
-  cut = c.trimmed_length.ensures.1;
-} in
-    let s = line_short (here) in search rules
+slice_bounds-add_line-end c =
+    let s = line_short (here (goal.at.slice_bounds-add_line-end c).After-trimmed_length) in search rules
 
 pub add_line-check-requires : goal.add_line-check-requires
-add_line-check-requires c = let here : Here c.args.text.now c.loop-at.at c.line_end-end.result c.trimmed_length.result = record {
-  begins = c.loop-at-test.true;
-  ends = c.line_end-end.ensures.0;
-  within = c.line_end-end.ensures.1;
-  short = c.trimmed_length.ensures.0;
-  cut = c.trimmed_length.ensures.1;
-} in
-    let s = line_long (here) in (search rules, c.loop-at.invariant.1.few)
+add_line-check-requires c =
+    let s = line_long (here (goal.at.add_line-check-requires c).After-trimmed_length) in (search rules, c.loop-at.invariant.1.few)
 
 pub returns-in-Wrong-clause-m_value : goal.returns-in-Wrong-clause-m_value
-returns-in-Wrong-clause-m_value c = let here : Here c.args.text.now c.loop-at.at c.line_end-end.result c.trimmed_length.result = record {
-  begins = c.loop-at-test.true;
-  ends = c.line_end-end.ensures.0;
-  within = c.line_end-end.ensures.1;
-  short = c.trimmed_length.ensures.0;
-  cut = c.trimmed_length.ensures.1;
-} in
-    gathering_wrong c.loop-at.invariant.1 (here) _ (sym c.in-Wrong.is ∙ c.add_line-check.ensures.value)
+returns-in-Wrong-clause-m_value c =
+    gathering_wrong c.loop-at.invariant.1 (here (goal.at.returns-in-Wrong-clause-m_value c).After-trimmed_length) _ (sym c.in-Wrong.is ∙ c.add_line-check.ensures.value)
 
 pub returns-in-Wrong-clause-t_after : goal.returns-in-Wrong-clause-t_after
-returns-in-Wrong-clause-t_after c = let here : Here c.args.text.now c.loop-at.at c.line_end-end.result c.trimmed_length.result = record {
-  begins = c.loop-at-test.true;
-  ends = c.line_end-end.ensures.0;
-  within = c.line_end-end.ensures.1;
-  short = c.trimmed_length.ensures.0;
-  cut = c.trimmed_length.ensures.1;
-} in
+returns-in-Wrong-clause-t_after c =
     wrong_right _
 
 pub loop-at-smaller : goal.loop-at-smaller
-loop-at-smaller c = let here : Here c.args.text.now c.loop-at.at c.line_end-end.result c.trimmed_length.result = record {
-  begins = c.loop-at-test.true;
-  ends = c.line_end-end.ensures.0;
-  within = c.line_end-end.ensures.1;
-  short = c.trimmed_length.ensures.0;
-  cut = c.trimmed_length.ensures.1;
-} in
-    let s = here in search rules
+loop-at-smaller c =
+    let s = (here (goal.at.loop-at-smaller c).After-trimmed_length) in search rules
 
 pub loop-at-preserved : goal.loop-at-preserved
-loop-at-preserved c = let here : Here c.args.text.now c.loop-at.at c.line_end-end.result c.trimmed_length.result = record {
-  begins = c.loop-at-test.true;
-  ends = c.line_end-end.ensures.0;
-  within = c.line_end-end.ensures.1;
-  short = c.trimmed_length.ensures.0;
-  cut = c.trimmed_length.ensures.1;
-} in
+loop-at-preserved c =
     let e = c.add_line-check.ensures.t_after c.in-Right.is in
-    (search rules, gathering_right c.loop-at.invariant.1 (here) _ _ (sym c.in-Right.is ∙ c.add_line-check.ensures.value) e.0 e.1)
+    (search rules, gathering_right c.loop-at.invariant.1 (here (goal.at.loop-at-preserved c).After-trimmed_length) _ _ (sym c.in-Right.is ∙ c.add_line-check.ensures.value) e.0 e.1)
 
 pub returns : goal.returns
-returns c = split2 (λ x y. record { m_value = x; t_after = y }) (gathering_all c.loop-at.invariant.1 c.loop-at-test.false)
+returns c =
+    split2 (λ x y. record { m_value = x; t_after = y }) (gathering_all c.loop-at.invariant.1 c.loop-at-test.false)

@@ -10,54 +10,54 @@ use Rattle.output.specs.Text.{ascii, decimal, field}
 use Rattle.show_lines.proofs.Bounds.{five}
 use Rattle.show_lines.specs.PatternLines.{edge_line}
 use Rattle.show_lines.proofs.put_edge.Goals as goal
+use Rattle.show_lines.proofs.put_edge.Goals.{After-put_field-end-3}
+
+-- the number and the ends have at most 30 bytes, and there is room for the span
+ends : (c : After-put_field-end-3) → (c.put_field-end-3.result ≤ c.args.at + 30) × (c.put_field-end-3.result + 66 ≤ length c.put_field-end-3.new.out)
+ends c =
+    let short : c.put_field-end-3.result ≤ c.args.at + 30 =
+    omega (arith, five _ c.requires.1, five _ c.index.ensures.1, five _ c.index-2.ensures.1) in
+    (short, omega (arith, c.requires.0, c.put_field-end-3.auto.out, c.put_field-end-2.auto.out, c.put_field-end.auto.out))
 
 pub put_field-end-requires : goal.put_field-end-requires
-put_field-end-requires c = omega (arith, five _ c.requires.1)
+put_field-end-requires c =
+    omega (arith, five _ c.requires.1)
 
 pub put_field-end-requires-2 : goal.put_field-end-requires-2
-put_field-end-requires-2 c = omega (arith, five _ c.requires.1, five _ c.index.ensures.1)
+put_field-end-requires-2 c =
+    omega (arith, five _ c.requires.1, five _ c.index.ensures.1)
 
 pub put_field-end-requires-3 : goal.put_field-end-requires-3
-put_field-end-requires-3 c = omega (arith, five _ c.requires.1, five _ c.index.ensures.1, five _ c.index-2.ensures.1)
+put_field-end-requires-3 c =
+    omega (arith, five _ c.requires.1, five _ c.index.ensures.1, five _ c.index-2.ensures.1)
 
 pub put_text-end-requires : goal.put_text-end-requires
-put_text-end-requires c = let ends : (c.put_field-end-3.result ≤ c.args.at + 30) × (c.put_field-end-3.result + 66 ≤ length c.put_field-end-3.new.out) = let short : c.put_field-end-3.result ≤ c.args.at + 30 =
-    omega (arith, five _ c.requires.1, five _ c.index.ensures.1, five _ c.index-2.ensures.1) in
-    (short, omega (arith, c.requires.0, c.put_field-end-3.auto.out, c.put_field-end-2.auto.out, c.put_field-end.auto.out)) in
-    omega (arith, ends)
+put_text-end-requires c =
+    omega (arith, (ends (goal.at.put_text-end-requires c).After-put_field-end-3))
 
 pub put_real-end-requires : goal.put_real-end-requires
-put_real-end-requires c = let ends : (c.put_field-end-3.result ≤ c.args.at + 30) × (c.put_field-end-3.result + 66 ≤ length c.put_field-end-3.new.out) = let short : c.put_field-end-3.result ≤ c.args.at + 30 =
-    omega (arith, five _ c.requires.1, five _ c.index.ensures.1, five _ c.index-2.ensures.1) in
-    (short, omega (arith, c.requires.0, c.put_field-end-3.auto.out, c.put_field-end-2.auto.out, c.put_field-end.auto.out)) in
-    omega (arith, ends)
+put_real-end-requires c =
+    omega (arith, (ends (goal.at.put_real-end-requires c).After-put_field-end-3))
 
 pub put_text-end-requires-2 : goal.put_text-end-requires-2
-put_text-end-requires-2 c = let ends : (c.put_field-end-3.result ≤ c.args.at + 30) × (c.put_field-end-3.result + 66 ≤ length c.put_field-end-3.new.out) = let short : c.put_field-end-3.result ≤ c.args.at + 30 =
-    omega (arith, five _ c.requires.1, five _ c.index.ensures.1, five _ c.index-2.ensures.1) in
-    (short, omega (arith, c.requires.0, c.put_field-end-3.auto.out, c.put_field-end-2.auto.out, c.put_field-end.auto.out)) in
-    omega (arith, ends)
+put_text-end-requires-2 c =
+    omega (arith, (ends (goal.at.put_text-end-requires-2 c).After-put_field-end-3))
 
 pub put_real-end-requires-2 : goal.put_real-end-requires-2
-put_real-end-requires-2 c = let ends : (c.put_field-end-3.result ≤ c.args.at + 30) × (c.put_field-end-3.result + 66 ≤ length c.put_field-end-3.new.out) = let short : c.put_field-end-3.result ≤ c.args.at + 30 =
-    omega (arith, five _ c.requires.1, five _ c.index.ensures.1, five _ c.index-2.ensures.1) in
-    (short, omega (arith, c.requires.0, c.put_field-end-3.auto.out, c.put_field-end-2.auto.out, c.put_field-end.auto.out)) in
-    omega (arith, ends, c.put_text-end-2.auto.out, c.put_real-end.auto.out, c.put_text-end.auto.out)
+put_real-end-requires-2 c =
+    omega (arith, (ends (goal.at.put_real-end-requires-2 c).After-put_field-end-3), c.put_text-end-2.auto.out, c.put_real-end.auto.out, c.put_text-end.auto.out)
 
 pub put_text-requires : goal.put_text-requires
-put_text-requires c = let ends : (c.put_field-end-3.result ≤ c.args.at + 30) × (c.put_field-end-3.result + 66 ≤ length c.put_field-end-3.new.out) = let short : c.put_field-end-3.result ≤ c.args.at + 30 =
-    omega (arith, five _ c.requires.1, five _ c.index.ensures.1, five _ c.index-2.ensures.1) in
-    (short, omega (arith, c.requires.0, c.put_field-end-3.auto.out, c.put_field-end-2.auto.out, c.put_field-end.auto.out)) in
-    omega (arith, ends, c.put_real-end-2.auto.out, c.put_text-end-2.auto.out, c.put_real-end.auto.out, c.put_text-end.auto.out)
+put_text-requires c =
+    omega (arith, (ends (goal.at.put_text-requires c).After-put_field-end-3), c.put_real-end-2.auto.out, c.put_text-end-2.auto.out, c.put_real-end.auto.out, c.put_text-end.auto.out)
 
 pub shape_of-out : goal.shape_of-out
-shape_of-out c = c.put_text.auto.out ∙ c.put_real-end-2.auto.out ∙ c.put_text-end-2.auto.out ∙ c.put_real-end.auto.out ∙ c.put_text-end.auto.out ∙ c.put_field-end-3.auto.out ∙ c.put_field-end-2.auto.out ∙ c.put_field-end.auto.out
+shape_of-out c =
+    c.put_text.auto.out ∙ c.put_real-end-2.auto.out ∙ c.put_text-end-2.auto.out ∙ c.put_real-end.auto.out ∙ c.put_text-end.auto.out ∙ c.put_field-end-3.auto.out ∙ c.put_field-end-2.auto.out ∙ c.put_field-end.auto.out
 
 pub returns : goal.returns
 unfolding edge_line field
-returns c = let ends : (c.put_field-end-3.result ≤ c.args.at + 30) × (c.put_field-end-3.result + 66 ≤ length c.put_field-end-3.new.out) = let short : c.put_field-end-3.result ≤ c.args.at + 30 =
-    omega (arith, five _ c.requires.1, five _ c.index.ensures.1, five _ c.index-2.ensures.1) in
-    (short, omega (arith, c.requires.0, c.put_field-end-3.auto.out, c.put_field-end-2.auto.out, c.put_field-end.auto.out)) in
+returns c =
     let a = c.args in
     let s1 = ascii "edge " ++ decimal a.k in
     let s2 = s1 ++ (ascii " from " ++ decimal c.index.result) in
@@ -72,4 +72,4 @@ returns c = let ends : (c.put_field-end-3.result ≤ c.args.at + 30) × (c.put_f
     let p6 = put_then a.out.now a.at s5 (ascii " ") _ _ _ _ p5 c.put_text-end-2.ensures in
     let p7 = put_then a.out.now a.at s6 (real_text a.t1) _ _ _ _ p6 (c.put_real-end-2.ensures.0, c.put_real-end-2.ensures.1) in
     let p8 = put_then a.out.now a.at (s6 ++ real_text a.t1) (ascii "\n") _ _ _ _ p7 c.put_text.ensures in
-    rw (← c.index.ensures.0, ← c.index-2.ensures.0) (p8.0, p8.1, omega (arith, ends))
+    rw (← c.index.ensures.0, ← c.index-2.ensures.0) (p8.0, p8.1, omega (arith, (ends (goal.at.returns c).After-put_field-end-3)))
