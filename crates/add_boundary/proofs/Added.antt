@@ -8,19 +8,20 @@ use lib.Dec.{leb}
 use lib.ListN.{length, length-append, length-map}
 use lib.Seq.{sets}
 use Rattle.edit_answers.specs.Answers.{judged}
-use Rattle.edit_answers.specs.declared.FaceAnswer.{FaceAnswer}
-use Rattle.edit_answers.specs.declared.FaceAnswer.TheVariants.{Not}
 use Rattle.edit_answers.specs.declared.FaceEditError.{FaceEditError}
 use Rattle.edit_answers.specs.declared.FaceEditError.TheVariants.{Unnamed}
+use Rattle.errors.specs.declared.CallError.{CallError}
+use Rattle.errors.specs.declared.CallError.TheVariants.{Refused}
 use Rattle.errors.specs.declared.Refusal.{Refusal}
 use Rattle.face_edits.specs.FaceEdits.{add_faults, added, are_uses, backs_in, boundaries, fronts_in, is_face}
-use Rattle.face_parts.proofs.Owed.{Owed}
+use Rattle.face_parts.proofs.Owed.{Owed, handed, handed_answer}
 use Rattle.listing.proofs.Laws.{shown_keeps}
 use Rattle.lists.proofs.Laws.{flat_append}
 use Rattle.lists.proofs.Parts.{flat_one}
 use Rattle.lists.specs.Lists.{flat}
 use Rattle.pattern.specs.Checks.{pattern_faults}
 use Rattle.pattern.specs.Contents.{Content, Pattern, content}
+use Rattle.std.specs.Prelude.{Err, Result}
 use Rattle.add_boundary.specs.Boundary.{boundary_answer, new_faults, stored_as, written_of}
 
 -- what is written of a list of wires
@@ -49,7 +50,7 @@ module _ (p : Pattern) (f : ℕ) (us uses lens : List ℕ) (ok : pattern_faults 
   abbrev es : List FaceEditError
   es = add_faults c f us m k
 
-  pub unnamed : (is_face c f && are_uses c us) ≡ false → Owed p es (added c f us) uses lens (Not Unnamed) uses lens
+  pub unnamed : (is_face c f && are_uses c us) ≡ false → Owed p es (added c f us) uses lens (Err (Refused Unnamed)) uses lens
   unfolding flat
   unnamed e = rw (ok, e) (refl, (refl, refl))
 
@@ -84,15 +85,15 @@ module _ (p : Pattern) (f : ℕ) (us uses lens : List ℕ) (ok : pattern_faults 
     faults_are : es ≡ rest
     faults_are = rw (named, added_uses, added_wires)
 
-    pub add_owed : (fronts backs own' sizes' : List ℕ) (r : FaceAnswer) (uses' lens' : List ℕ) → fronts ≡ fronts_in c → backs ≡ backs_in c → own' ≡ own → sizes' ≡ sizes
-        → (r ≡ boundary_answer fronts backs own' (length sizes') us m k)
+    pub add_owed : (fronts backs own' sizes' : List ℕ) (a : Result (ℕ × ℕ) FaceEditError) (uses' lens' : List ℕ) → fronts ≡ fronts_in c → backs ≡ backs_in c → own' ≡ own → sizes' ≡ sizes
+        → (a ≡ boundary_answer fronts backs own' (length sizes') us m k)
         × ((uses' ≡ sets uses 0 (written_of fronts backs own' (length sizes') us m k (own' ++ new)))
         × (lens' ≡ sets lens 0 (written_of fronts backs own' (length sizes') us m k (sizes' ++ (length us ∷ [])))))
-        → Owed p es (added c f us) uses lens r uses' lens'
-    add_owed fronts backs own' sizes' r uses' lens' ef eb eo ez h =
+        → (r : Result (ℕ × ℕ) (CallError FaceEditError)) → r ≡ handed a → Owed p es (added c f us) uses lens r uses' lens'
+    add_owed fronts backs own' sizes' a uses' lens' ef eb eo ez h r is =
         let g = rw (ef, eb, eo, ez) at h in
         rw (ok, faults_are) (
-          g.0 ∙ rw (added_uses, added_wires),
+          handed_answer rest _ a r g.0 is ∙ rw (added_uses, added_wires),
           (
             g.1.0 ∙ ap (sets uses 0) (sym (flat_out rest (added c f us) ∙ ap (out rest) flat_added)),
             g.1.1 ∙ ap (sets lens 0) (sym (lengths_out rest (added c f us) ∙ ap (out rest) added_lengths)),

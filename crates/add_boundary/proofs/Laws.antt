@@ -1,5 +1,5 @@
 -- Laws of a wire added to a face: the first fault, what is written, the marks.
-use Prim.Native.Nat.{◌+◌, ◌-◌, ◌<◌, ◌≤◌, suc, ℕ}
+use Prim.Native.Nat.{◌+◌, ◌<◌, ◌≤◌, suc, ℕ}
 use mathlib.Core.Bool.{Bool, ◌&&◌, false, not, true}
 use mathlib.Core.List.{List, [], ◌++◌, ◌∷◌, map, reverse}
 use mathlib.Core.Path.{◌∙◌, ◌≡◌, refl}
@@ -9,13 +9,11 @@ use lib.Seq.{sets}
 use borrow.Author.Tests.{le-leb, leb-true, lt-leb}
 use Rattle.edge.specs.Uses.{turned}
 use Rattle.edit_answers.specs.Answers.{judged}
-use Rattle.edit_answers.specs.declared.FaceAnswer.{FaceAnswer}
-use Rattle.edit_answers.specs.declared.FaceAnswer.TheVariants.{Not, Refused}
 use Rattle.edit_answers.specs.declared.FaceEditError.{FaceEditError}
 use Rattle.edit_answers.specs.declared.FaceEditError.TheVariants.{NoSpace, NotDisjointWires, Wire}
 use Rattle.errors.specs.declared.Refusal.{Refusal}
-use Rattle.errors.specs.declared.WireCheck.TheVariants.{Simple, Refused as WireRefused}
 use Rattle.errors.specs.declared.WireError.{WireError}
+use Rattle.face_edits.specs.FaceAnswers.{own_answer}
 use Rattle.face_parts.proofs.Laws.{simple_short}
 use Rattle.lists.proofs.Laws.{left_true, right_true}
 use Rattle.lists.proofs.Marks.{holds_fresh, holds_stamped, met_seen}
@@ -25,7 +23,7 @@ use Rattle.wire.proofs.Laws.{faultless_no_dup, points_below}
 use Rattle.wire.specs.Named.{Named}
 use Rattle.wire.specs.Wires.{points, wire_faults}
 use Rattle.add_boundary.specs.Boundary.{first_of, new_faults, stored_as}
-use Rattle.add_boundary.specs.declared.Judged.TheVariants.{Fine, Unfit}
+use Rattle.std.specs.Prelude.{Err, Ok}
 use Rattle.errors.specs.Sequence.{first_of_wire}
 
 -- ---- the marks
@@ -51,23 +49,23 @@ apart_says fronts backs wire own marks marks' s again nw own-named once long low
 abbrev row : List WireError → Bool → Bool → List FaceEditError
 row ws d s = map Wire ws ++ unless d NotDisjointWires ++ unless s NoSpace
 
-row_wire : (ws : List WireError) (d s : Bool) (e : WireError) → first_of_wire ws ≡ WireRefused e → Unfit (Wire e) ≡ first_of (row ws d s)
+row_wire : (ws : List WireError) (d s : Bool) (e : WireError) → first_of_wire ws ≡ Err e → Err (Wire e) ≡ first_of (row ws d s)
 row_wire [] d s e h = cc
 row_wire (w ∷ ws) d s e h = let same : w ≡ e = cc in rw same
 
-row_shared : (ws : List WireError) (d s : Bool) → first_of_wire ws ≡ Simple → d ≡ false → Unfit NotDisjointWires ≡ first_of (row ws d s)
+row_shared : (ws : List WireError) (d s : Bool) → first_of_wire ws ≡ Ok tt → d ≡ false → Err NotDisjointWires ≡ first_of (row ws d s)
 row_shared [] d s h e = rw e
 row_shared (w ∷ ws) d s h e = cc
 
-row_space : (ws : List WireError) (d s : Bool) → first_of_wire ws ≡ Simple → d ≡ true → s ≡ false → Unfit NoSpace ≡ first_of (row ws d s)
+row_space : (ws : List WireError) (d s : Bool) → first_of_wire ws ≡ Ok tt → d ≡ true → s ≡ false → Err NoSpace ≡ first_of (row ws d s)
 row_space [] d s h e i = rw (e, i)
 row_space (w ∷ ws) d s h e i = cc
 
-row_none : (ws : List WireError) (d s : Bool) → first_of_wire ws ≡ Simple → d ≡ true → s ≡ true → Fine ≡ first_of (row ws d s)
+row_none : (ws : List WireError) (d s : Bool) → first_of_wire ws ≡ Ok tt → d ≡ true → s ≡ true → Ok tt ≡ first_of (row ws d s)
 row_none [] d s h e i = rw (e, i)
 row_none (w ∷ ws) d s h e i = cc
 
-row_fine : (ws : List WireError) (d s : Bool) → first_of (row ws d s) ≡ Fine → (ws ≡ []) × (s ≡ true)
+row_fine : (ws : List WireError) (d s : Bool) → first_of (row ws d s) ≡ Ok tt → (ws ≡ []) × (s ≡ true)
 row_fine [] true true h = (refl, refl)
 row_fine [] true false h = (refl, cc)
 row_fine [] false s h = (refl, cc)
@@ -83,26 +81,26 @@ module _ (fronts backs own : List ℕ) (n : ℕ) (us : List ℕ) (m k : ℕ) whe
   abbrev room : Bool
   room = leb (length own + length us) m && leb (suc n) k
 
-  pub unfit_wire : (e : WireError) → first_of_wire faults ≡ WireRefused e → Unfit (Wire e) ≡ first_of (new_faults fronts backs own n us m k)
+  pub unfit_wire : (e : WireError) → first_of_wire faults ≡ Err e → Err (Wire e) ≡ first_of (new_faults fronts backs own n us m k)
   unfit_wire e h = row_wire faults apart room e h
 
-  module _ (simple : first_of_wire faults ≡ Simple) where
-    pub unfit_shared : apart ≡ false → Unfit NotDisjointWires ≡ first_of (new_faults fronts backs own n us m k)
+  module _ (simple : first_of_wire faults ≡ Ok tt) where
+    pub unfit_shared : apart ≡ false → Err NotDisjointWires ≡ first_of (new_faults fronts backs own n us m k)
     unfit_shared d = row_shared faults apart room simple d
 
     module _ (off : apart ≡ true) where
-      pub unfit_uses : m < length own + length us → Unfit NoSpace ≡ first_of (new_faults fronts backs own n us m k)
+      pub unfit_uses : m < length own + length us → Err NoSpace ≡ first_of (new_faults fronts backs own n us m k)
       unfit_uses h = row_space faults apart room simple off (rw (lt-leb (length own + length us) m h))
 
       module _ (uses : length own + length us ≤ m) where
-        pub unfit_wires : k < suc n → Unfit NoSpace ≡ first_of (new_faults fronts backs own n us m k)
+        pub unfit_wires : k < suc n → Err NoSpace ≡ first_of (new_faults fronts backs own n us m k)
         unfit_wires h = row_space faults apart room simple off (rw (le-leb (length own + length us) m uses, lt-leb (suc n) k h))
 
-        pub is_fine : suc n ≤ k → Fine ≡ first_of (new_faults fronts backs own n us m k)
+        pub is_fine : suc n ≤ k → Ok tt ≡ first_of (new_faults fronts backs own n us m k)
         is_fine h = row_none faults apart room simple off (rw (le-leb (length own + length us) m uses, le-leb (suc n) k h))
 
   -- what a wire without fault has
-  module _ (fine : first_of (new_faults fronts backs own n us m k) ≡ Fine) where
+  module _ (fine : first_of (new_faults fronts backs own n us m k) ≡ Ok tt) where
     pub uses_fit : length own + length us ≤ m
     uses_fit = leb-true (length own + length us) m (left_true (leb (length own + length us) m) (leb (suc n) k) (row_fine faults apart room fine).1)
 
@@ -114,34 +112,21 @@ module _ (fronts backs own : List ℕ) (n : ℕ) (us : List ℕ) (m k : ℕ) whe
 
 -- ---- what is answered and written
 
-module _ (es : List FaceEditError) where
-  pub unfit_answer : (e : FaceEditError) (x : FaceAnswer) → first_of es ≡ Unfit e → Not e ≡ judged [] es Refused Not x
-  unfit_answer e x h = go es h
-    where
-      go : (gs : List FaceEditError) → first_of gs ≡ Unfit e → Not e ≡ judged [] gs Refused Not x
-      go [] i = cc
-      go (g ∷ gs) i = let same : g ≡ e = cc in rw same
+pub unfit_answer : {T : Type 0} (es : List FaceEditError) (e : FaceEditError) (x : T) → first_of es ≡ Err e → Err e ≡ own_answer es x
+unfit_answer [] e x h = cc
+unfit_answer (g ∷ es) e x h = let same : g ≡ e = cc in rw same
 
-  pub unfit_out : {A : Type 0} (e : FaceEditError) (xs : List A) → first_of es ≡ Unfit e → judged [] es (λ (f : Refusal). []) (λ (g : FaceEditError). []) xs ≡ []
-  unfit_out e xs h = go es h
-    where
-      go : (gs : List FaceEditError) → first_of gs ≡ Unfit e → judged [] gs (λ (f : Refusal). []) (λ (g : FaceEditError). []) xs ≡ []
-      go [] i = cc
-      go (g ∷ gs) i = refl
+pub unfit_out : {A : Type 0} (es : List FaceEditError) (e : FaceEditError) (xs : List A) → first_of es ≡ Err e → judged [] es (λ (f : Refusal). []) (λ (g : FaceEditError). []) xs ≡ []
+unfit_out [] e xs h = cc
+unfit_out (g ∷ es) e xs h = refl
 
-  pub fine_answer : (x : FaceAnswer) → first_of es ≡ Fine → x ≡ judged [] es Refused Not x
-  fine_answer x h = go es h
-    where
-      go : (gs : List FaceEditError) → first_of gs ≡ Fine → x ≡ judged [] gs Refused Not x
-      go [] i = refl
-      go (g ∷ gs) i = cc
+pub fine_answer : {T : Type 0} (es : List FaceEditError) (x : T) → first_of es ≡ Ok tt → Ok x ≡ own_answer es x
+fine_answer [] x h = refl
+fine_answer (g ∷ es) x h = cc
 
-  pub fine_out : {A : Type 0} (xs : List A) → first_of es ≡ Fine → judged [] es (λ (f : Refusal). []) (λ (g : FaceEditError). []) xs ≡ xs
-  fine_out xs h = go es h
-    where
-      go : (gs : List FaceEditError) → first_of gs ≡ Fine → judged [] gs (λ (f : Refusal). []) (λ (g : FaceEditError). []) xs ≡ xs
-      go [] i = refl
-      go (g ∷ gs) i = cc
+pub fine_out : {A : Type 0} (es : List FaceEditError) (xs : List A) → first_of es ≡ Ok tt → judged [] es (λ (f : Refusal). []) (λ (g : FaceEditError). []) xs ≡ xs
+fine_out [] xs h = refl
+fine_out (g ∷ es) xs h = cc
 
 -- a list in which nothing is written
 pub sets_nothing : (l xs : List ℕ) → xs ≡ [] → l ≡ sets l 0 xs

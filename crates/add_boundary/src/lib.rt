@@ -12,21 +12,14 @@ ghost use Rattle.store.specs.Store.{held};
 ghost use Rattle.face_edits.specs.FaceAnswers.{add_answer, add_out};
 ghost use Rattle.add_boundary.specs.Boundary.{boundary_answer, first_of, new_faults, stored_as, written_of};
 
-use edit_answers::{FaceAnswer, FaceEditError};
-use errors::{Check, WireCheck};
+use edit_answers::FaceEditError;
+use errors::CallError;
 use face_parts::{are_uses, face_part, first_backs, first_fronts, sizes_of, uses_of};
 use listing::put_turned;
 use store::{Spans, Tables, counts_in, tables_known};
 use store_check::check;
 use wire::{check_wire, stamp_points};
 use words::{copy_u16s, index};
-
-// What is wrong with a wire that is to be added, if anything.
-#[derive(Clone, Copy)]
-pub enum Judged {
-    Fine,
-    Unfit(FaceEditError),
-}
 
 // Whether a wire that meets no point twice shares none with the uses `own`. The stamp is above all
 // marks.
@@ -59,30 +52,26 @@ fn judge_wire(
     backs: &[u16],
     m: usize,
     k: usize,
-) -> Judged
+) -> Result<(), FaceEditError>
     requires named { Named fronts.now backs.now wire.now }
     requires named_2 { Named fronts.now backs.now own.now }
     requires own_len_bound { (length own.now ≤ 4096) × (n ≤ 1024) }
     ensures { result ≡ first_of (new_faults fronts.now backs.now own.now n wire.now m k) }
 {
     let mut marks = [0u16; 2048];
-    let answer = check_wire(wire, fronts, backs, &mut marks, 1);
-    match answer {
-        WireCheck::Refused(e) => {
-            return Judged::Unfit(FaceEditError::Wire(e));
-        }
-        WireCheck::Simple => {}
+    if let Err(e) = check_wire(wire, fronts, backs, &mut marks, 1) {
+        return Err(FaceEditError::Wire(e));
     }
     if !disjoint_from(wire, own, fronts, backs, &mut marks, 2) {
-        return Judged::Unfit(FaceEditError::NotDisjointWires);
+        return Err(FaceEditError::NotDisjointWires);
     }
     if own.len() + wire.len() > m {
-        return Judged::Unfit(FaceEditError::NoSpace);
+        return Err(FaceEditError::NoSpace);
     }
     if n + 1 > k {
-        return Judged::Unfit(FaceEditError::NoSpace);
+        return Err(FaceEditError::NoSpace);
     }
-    Judged::Fine
+    Ok(())
 }
 
 // Writes a wire from `at` on, as a face with this sign stores it.
@@ -125,7 +114,7 @@ fn add_wire(
     backs: &[u16],
     uses: &mut [u16],
     lens: &mut [u16],
-) -> FaceAnswer
+) -> Result<(usize, usize), FaceEditError>
     requires named { Named fronts.now backs.now wire.now }
     requires named_2 { Named fronts.now backs.now own.now }
     requires own_len_bound { (length own.now ≤ 4096) × (length sizes.now ≤ 1024) }
@@ -134,16 +123,10 @@ fn add_wire(
     ensures lens_after { lens.new ≡ sets lens.old 0 (written_of fronts.now backs.now own.now (length sizes.now) wire.now (length uses.old) (length lens.old) (sizes.now ++ (length wire.now ∷ []))) }
 {
     let n = sizes.len();
-    let judged = judge_wire(wire, own, n, fronts, backs, uses.len(), lens.len());
-    match judged {
-        Judged::Unfit(e) => {
-            return FaceAnswer::Not(e);
-        }
-        Judged::Fine => {}
-    }
+    judge_wire(wire, own, n, fronts, backs, uses.len(), lens.len())?;
     put_boundary(own, wire, reversed, uses);
     put_length(sizes, wire.len(), lens);
-    FaceAnswer::Written(own.len() + wire.len(), n + 1)
+    Ok((own.len() + wire.len(), n + 1))
 }
 
 // Writes the wires of face f of a pattern, given with a sign, and one more; refused, it writes
@@ -155,27 +138,21 @@ pub fn try_add_boundary(
     wire: &[u16],
     uses: &mut [u16],
     lens: &mut [u16],
-) -> FaceAnswer
+) -> Result<(usize, usize), CallError<FaceEditError>>
     ensures value { result ≡ add_answer (held t.now spans.now) f wire.now (length uses.old) (length lens.old) }
     ensures uses_after { uses.new ≡ sets uses.old 0 (flat (add_out (held t.now spans.now) f wire.now (length uses.old) (length lens.old))) }
     ensures lens_after { lens.new ≡ sets lens.old 0 (map length (add_out (held t.now spans.now) f wire.now (length uses.old) (length lens.old))) }
 {
     tables_known(t);
-    let answer = check(t, spans);
-    match answer {
-        Check::Refused(r) => {
-            return FaceAnswer::Refused(r);
-        }
-        Check::Accepted => {}
-    }
+    check(t, spans)?;
     let counts = counts_in(t);
     let face = index(f % 32768);
     if face >= counts[4] {
-        return FaceAnswer::Not(FaceEditError::Unnamed);
+        return Err(CallError::Refused(FaceEditError::Unnamed));
     }
     let edges = counts[1];
     if !are_uses(wire, edges) {
-        return FaceAnswer::Not(FaceEditError::Unnamed);
+        return Err(CallError::Refused(FaceEditError::Unnamed));
     }
     let part = face_part(t, face);
     add_wire(
@@ -188,4 +165,5 @@ pub fn try_add_boundary(
         uses,
         lens,
     )
+    .map_err(CallError::Refused)
 }

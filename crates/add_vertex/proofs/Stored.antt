@@ -1,4 +1,7 @@
 -- A pattern with one more point: what its storage holds, and the answer, case by case.
+use Rattle.errors.specs.declared.CallError.{CallError}
+use Rattle.errors.specs.declared.CallError.TheVariants.{Refused, Unread}
+use Rattle.std.specs.Prelude.{Err, Ok, Result}
 use Prim.Native.Nat.{◌+◌, ◌<◌, ◌≤◌, ℕ}
 use mathlib.Core.List.{List, [], ◌++◌, ◌∷◌}
 use mathlib.Core.Path.{◌∙◌, ◌≡◌, ap, sym}
@@ -9,10 +12,7 @@ use borrow.Author.Tests.{le-leb, le-ltb, lt-leb, lt-ltb}
 use Rattle.edit_answers.specs.Answers.{judged}
 use Rattle.edit_answers.specs.declared.EditError.{EditError}
 use Rattle.edit_answers.specs.declared.EditError.TheVariants.{NoSpace, Unnamed}
-use Rattle.edit_answers.specs.declared.VertexAnswer.{VertexAnswer}
-use Rattle.edit_answers.specs.declared.VertexAnswer.TheVariants.{Added, Not, Refused}
 use Rattle.errors.specs.Faults.{first}
-use Rattle.errors.specs.declared.Check.TheVariants.{Refused as Check-as-Refused}
 use Rattle.errors.specs.declared.Refusal.{Refusal}
 use Rattle.pattern.proofs.Counts.{edges_counted, faces_counted, listings_counted, points_counted, shells_counted, uses_counted, wires_counted}
 use Rattle.pattern.specs.Checks.{pattern_faults}
@@ -26,7 +26,7 @@ use Rattle.store.specs.Columns.{with_counts, with_points}
 use Rattle.vertex.specs.declared.VertexID.{VertexID}
 
 -- what the call promises of its answer and of the pattern then
-abbrev pub Done : Pattern → ℕ → VertexAnswer → Pattern → Type 0
+abbrev pub Done : Pattern → ℕ → Result VertexID (CallError EditError) → Pattern → Type 0
 Done p label a q = (a ≡ vertex_answer p label) × ((q ≡ after_vertex p label) × (pattern_faults p ≡ [] → pattern_faults q ≡ []))
 
 -- seven counts with the first changed
@@ -34,14 +34,14 @@ first_set : (ns : List ℕ) (a : ℕ) → length ns ≡ 7 → a ∷ get_or ns 1 
 first_set ns a l = ap (λ (ms : List ℕ). set ms 0 a) (seven_are ns l)
 
 -- refused by the reading checks
-refused_both {ℓ} : {A : Type ℓ} (fs : List Refusal) (es : List EditError) (r : Refusal → A) (n : EditError → A) (d : A) {f : Refusal} → first fs ≡ Check-as-Refused f → r f ≡ judged fs es r n d
+refused_both {ℓ} : {A : Type ℓ} (fs : List Refusal) (es : List EditError) (r : Refusal → A) (n : EditError → A) (d : A) {f : Refusal} → first fs ≡ Err f → r f ≡ judged fs es r n d
 refused_both [] es r n d h = cc
 refused_both (g ∷ fs) es r n d {f} h = let e : f ≡ g = cc in ap r e
 
-pub vertex_unread : (p : Pattern) (label : ℕ) {f : Refusal} → first (pattern_faults p) ≡ Check-as-Refused f → Done p label (Refused f) p
+pub vertex_unread : (p : Pattern) (label : ℕ) {f : Refusal} → first (pattern_faults p) ≡ Err f → Done p label (Err (Unread f)) p
 vertex_unread p label h =
     let es = vertex_faults (content p) label in (
-      refused_both (pattern_faults p) es Refused Not _ h,
+      refused_both (pattern_faults p) es (λ x. Err (Unread x)) (λ x. Err (Refused x)) _ h,
       (refused_both (pattern_faults p) es (λ (f : Refusal). p) (λ (e : EditError). p) _ h, λ fine. fine),
     )
 
@@ -52,23 +52,23 @@ module _ (p : Pattern) (s : Fine p) (label : ℕ) where
   counted : length (content p).points ≡ points
   counted = points_counted p s.limits s.full
 
-  pub vertex_unnamed : 4294967296 ≤ label → Done p label (Not Unnamed) p
+  pub vertex_unnamed : 4294967296 ≤ label → Done p label (Err (Refused Unnamed)) p
   vertex_unnamed h = (rw (s.ok, le-ltb label 4294967296 h), (rw (s.ok, le-ltb label 4294967296 h), λ fine. fine))
 
   module _ (h : label < 4294967296) where
-    pub vertex_full : 2048 ≤ points → Done p label (Not NoSpace) p
+    pub vertex_full : 2048 ≤ points → Done p label (Err (Refused NoSpace)) p
     vertex_full l =
         let no = lt-leb (length (content p).points + 1) 2048 (omega (arith, counted)) in
         (rw (s.ok, lt-ltb label 4294967296 h, no), (rw (s.ok, lt-ltb label 4294967296 h, no), λ fine. fine))
 
     -- the label after the others, then their count
     pub vertex_added : points < 2048 → (v : VertexID) (n : ℕ) (q r : Pattern) → n ≡ points → v.0 ≡ n → q ≡ with_points p (set p.points n label) → r ≡ with_counts q (set q.counts 0 (n + 1))
-        → Done p label (Added v) r
+        → Done p label (Ok v) r
     vertex_added l v n q r en ev eq er =
         let yes = le-leb (length (content p).points + 1) 2048 (omega (arith, counted)) in
         let id : ℕ → VertexID = λ (k : ℕ). record { 0 = k } in
         let stored : r ≡ after_vertex p label = er ∙ rw (eq, en, s.ok, lt-ltb label 4294967296 h, yes) (sym stored_more) in (
-          rw (s.ok, lt-ltb label 4294967296 h, yes) (ap (λ (k : ℕ). Added (id k)) (ev ∙ en ∙ sym counted)),
+          rw (s.ok, lt-ltb label 4294967296 h, yes) (ap (λ (k : ℕ). Ok (id k)) (ev ∙ en ∙ sym counted)),
           (stored, λ fine. ap pattern_faults stored ∙ vertex_pattern_accepted p s.full label fine),
         )
       where

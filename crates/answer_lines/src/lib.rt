@@ -27,12 +27,10 @@ pub fn put_wires(out: &mut [u8], at: usize, us: &[u16], lens: &[u16]) -> usize
 {
     let mut end = at;
     let mut start: usize = 0;
-    let mut k: usize = 0;
-    while k < lens.len() {
-        let n = index(lens[k]);
+    for len in lens {
+        let n = index(*len);
         end = put_wire(out, end, &us[start..start + n]);
         start += n;
-        k += 1;
     }
     end
 }

@@ -2,18 +2,21 @@
 // refusal, and the values (docs/FORMAT.md 6.2).
 #![tactic(auto)]
 
-ghost use Rattle.std.specs.Prelude.{◌≡◌};
-ghost use Rattle.answers.specs.Values.{check_values, cut_values, done, face_values, figure_values, join_values, place_values, refused as refusedAnswer, solid_values, unread as unreadAnswer, vertex_values, written_values};
+ghost use Rattle.std.specs.Prelude.{◌≡◌, ℕ, List, [], ◌∷◌, Err};
+ghost use Rattle.answers.specs.Values.{answer, check_values, done, refused as refusedAnswer, unread as unreadAnswer, with_file};
+ghost use Rattle.calls.specs.Calls.{figure_of};
+ghost use Rattle.edit_answers.specs.Answers.{edit_number, face_edit_number};
+ghost use Rattle.errors.specs.Numbers.{Reply, call_reply, done as doneReply, not_there_reply, refused as refusedReply};
+ghost use Rattle.solid.specs.Solid.{solid_reply};
+ghost use Rattle.store_write.specs.Writing.{written_reply};
 
-use calls::{FigureAnswer, ShellFigure};
-use edit_answers::{
-    CutAnswer, FaceAnswer, JoinAnswer, VertexAnswer, edit_number, face_edit_number,
-};
-use errors::{Check, Refusal, body_of, number_of, record_of};
-use pattern::WirePlace;
-use solid::reason_number;
-use solid_calls::SolidAnswer;
-use store_write::Written;
+use calls::ShellFigure;
+use edge::EdgeID;
+use edit_answers::{EditError, FaceEditError};
+use errors::{CallError, NotThere, Refusal};
+use solid::SolidError;
+use store_write::NoSpace;
+use vertex::VertexID;
 use words::index;
 
 // An answer. `outcome` is 0 done, 1 refused by the reading checks, 2 refused by the call. `fourth` is
@@ -49,9 +52,9 @@ pub fn unread(f: Refusal) -> Answer
 {
     Answer {
         outcome: 1,
-        number: number_of(f),
-        first: body_of(f),
-        second: record_of(f),
+        number: f.number(),
+        first: f.body(),
+        second: f.record(),
         third: 0,
         fourth: 0,
     }
@@ -73,126 +76,161 @@ pub fn refused(number: usize, first: usize) -> Answer
 }
 
 // The answer of the reading checks.
-pub fn check_values(a: Check) -> Answer
+pub fn check_values(a: Result<(), Refusal>) -> Answer
     ensures { result ≡ check_values a }
 {
     match a {
-        Check::Accepted => done_with(0, 0, 0),
-        Check::Refused(f) => unread(f),
+        Ok(()) => done_with(0, 0, 0),
+        Err(f) => unread(f),
     }
 }
 
-// The place of a wire: its start and its number of uses.
-pub fn place_values(a: WirePlace) -> Answer
-    ensures { result ≡ place_values a }
+// What a call that is done gives, in numbers.
+pub trait Values {
+    ghost values: { Self → List ℕ };
+
+    fn done(self) -> Answer
+        ensures { result ≡ answer (doneReply (values self)) };
+}
+
+// Why a call is refused by itself, in numbers.
+pub trait Reason {
+    ghost reply: { Self → Reply };
+
+    fn refused(self) -> Answer
+        ensures { result ≡ answer (reply self) };
+}
+
+// The answer of a call.
+pub fn call_values<T: Values, E: Reason>(a: Result<T, CallError<E>>) -> Answer
+    ensures { result ≡ answer (call_reply T.values E.reply a) }
 {
     match a {
-        WirePlace::At(start, n) => done_with(start, n, 0),
-        WirePlace::Refused(f) => unread(f),
-        WirePlace::NoWire => refused(3, 0),
+        Ok(x) => x.done(),
+        Err(CallError::Unread(f)) => unread(f),
+        Err(CallError::Refused(e)) => e.refused(),
     }
 }
 
-// A written file: its length.
-pub fn written_values(a: Written) -> Answer
-    ensures { result ≡ written_values a }
+// The answer of an edit whose file is written: what it gives as two numbers, then the length of the file.
+pub fn edit_values<T: Values, E: Reason>(
+    a: Result<T, CallError<E>>,
+    file: Result<usize, CallError<NoSpace>>,
+) -> Answer
+    ensures { result ≡ answer (with_file (call_reply T.values E.reply a) (written_reply file)) }
 {
-    match a {
-        Written::Length(n) => done_with(n, 0, 0),
-        Written::Refused(f) => unread(f),
-        Written::NoSpace(n) => refused(17, n),
+    let edit = call_values(a);
+    let written = call_values(file);
+    if edit.outcome != 0 {
+        return edit;
+    }
+    if written.outcome != 0 {
+        return written;
+    }
+    done_with(edit.first, edit.second, written.first)
+}
+
+impl Values for () {
+    ghost values = { λ x. [] };
+
+    fn done(self) -> Answer {
+        done_with(0, 0, 0)
     }
 }
 
-// The figure of a shell that a call asks for.
-pub fn figure_values(a: FigureAnswer) -> Answer
-    ensures { result ≡ figure_values a }
-{
-    match a {
-        FigureAnswer::Found(g) => match g {
+impl Values for usize {
+    ghost values = { λ n. n ∷ [] };
+
+    fn done(self) -> Answer {
+        done_with(self, 0, 0)
+    }
+}
+
+impl Values for (usize, usize) {
+    ghost values = { λ p. p.0 ∷ p.1 ∷ [] };
+
+    fn done(self) -> Answer {
+        done_with(self.0, self.1, 0)
+    }
+}
+
+impl Values for EdgeID {
+    ghost values = { λ a. a.0 ∷ [] };
+
+    fn done(self) -> Answer {
+        done_with(index(self.0), 0, 0)
+    }
+}
+
+impl Values for (EdgeID, EdgeID) {
+    ghost values = { λ p. p.0.0 ∷ p.1.0 ∷ [] };
+
+    fn done(self) -> Answer {
+        let (a, b) = self;
+        done_with(index(a.0), index(b.0), 0)
+    }
+}
+
+impl Values for VertexID {
+    ghost values = { λ v. v.0 ∷ [] };
+
+    fn done(self) -> Answer {
+        done_with(index(self.0), 0, 0)
+    }
+}
+
+impl Values for ShellFigure {
+    ghost values = { figure_of };
+
+    fn done(self) -> Answer {
+        match self {
             ShellFigure::Condition(w) => done_with(w.0 as usize, 0, 0),
             ShellFigure::Openings(k, m, l) => done_with(k, m, l),
-            ShellFigure::Connected(b) => {
-                if b {
-                    done_with(1, 0, 0)
-                } else {
-                    done_with(0, 0, 0)
-                }
-            }
+            ShellFigure::Connected(b) => done_with(b as usize, 0, 0),
             ShellFigure::Components(k, m) => done_with(k, m, 0),
             ShellFigure::Singular(k) => done_with(k, 0, 0),
-        },
-        FigureAnswer::Refused(f) => unread(f),
-        FigureAnswer::NoShell => refused(3, 0),
-    }
-}
-
-// Refused: the shell's own reason, and the shell.
-pub fn solid_values(a: SolidAnswer) -> Answer
-    ensures { result ≡ solid_values a }
-{
-    match a {
-        SolidAnswer::Accepted => done_with(0, 0, 0),
-        SolidAnswer::Refused(e) => {
-            let reason = e.reason;
-            refused(reason_number(reason), e.shell)
         }
-        SolidAnswer::Unread(f) => unread(f),
     }
 }
 
-// The new edges of a cut, and the length of the edited file as it was written.
-pub fn cut_values(a: CutAnswer, w: Written) -> Answer
-    ensures { result ≡ cut_values a w }
-{
-    match a {
-        CutAnswer::Cut(e, g) => match w {
-            Written::Length(n) => done_with(index(e.0), index(g.0), n),
-            Written::Refused(f) => unread(f),
-            Written::NoSpace(n) => refused(17, n),
-        },
-        CutAnswer::Refused(f) => unread(f),
-        CutAnswer::Not(e) => refused(edit_number(e), 0),
+impl Reason for NotThere {
+    ghost reply = { not_there_reply };
+
+    fn refused(self) -> Answer {
+        refused(3, 0)
     }
 }
 
-// The new edge of a join, and the length of the edited file as it was written.
-pub fn join_values(a: JoinAnswer, w: Written) -> Answer
-    ensures { result ≡ join_values a w }
-{
-    match a {
-        JoinAnswer::Joined(e) => match w {
-            Written::Length(n) => done_with(index(e.0), 0, n),
-            Written::Refused(f) => unread(f),
-            Written::NoSpace(n) => refused(17, n),
-        },
-        JoinAnswer::Refused(f) => unread(f),
-        JoinAnswer::Not(e) => refused(edit_number(e), 0),
+// With the length that the file needs.
+impl Reason for NoSpace {
+    ghost reply = { λ e. refusedReply 17 (e.needed ∷ []) };
+
+    fn refused(self) -> Answer {
+        refused(17, self.needed)
     }
 }
 
-// The new point, and the length of the edited file as it was written.
-pub fn vertex_values(a: VertexAnswer, w: Written) -> Answer
-    ensures { result ≡ vertex_values a w }
-{
-    match a {
-        VertexAnswer::Added(v) => match w {
-            Written::Length(n) => done_with(index(v.0), 0, n),
-            Written::Refused(f) => unread(f),
-            Written::NoSpace(n) => refused(17, n),
-        },
-        VertexAnswer::Refused(f) => unread(f),
-        VertexAnswer::Not(e) => refused(edit_number(e), 0),
+// The shell's own reason, and the shell.
+impl Reason for SolidError {
+    ghost reply = { λ e. solid_reply (Err e) };
+
+    fn refused(self) -> Answer {
+        refused(self.reason.number(), self.shell)
     }
 }
 
-// How many uses and how many wires were written.
-pub fn face_values(a: FaceAnswer) -> Answer
-    ensures { result ≡ face_values a }
-{
-    match a {
-        FaceAnswer::Written(m, k) => done_with(m, k, 0),
-        FaceAnswer::Refused(f) => unread(f),
-        FaceAnswer::Not(e) => refused(face_edit_number(e), 0),
+impl Reason for EditError {
+    ghost reply = { λ e. refusedReply (edit_number e) [] };
+
+    fn refused(self) -> Answer {
+        refused(self.number(), 0)
+    }
+}
+
+impl Reason for FaceEditError {
+    ghost reply = { λ e. refusedReply (face_edit_number e) [] };
+
+    fn refused(self) -> Answer {
+        refused(self.number(), 0)
     }
 }

@@ -1,4 +1,7 @@
 -- Whether there is a shell.
+use Rattle.errors.specs.Numbers.{not_there}
+use Rattle.errors.specs.declared.CallError.TheVariants.{Refused, Unread}
+use Rattle.std.specs.Prelude.{Err, Ok}
 use Prim.Native.Nat.{◌<◌, ◌≤◌, ℕ}
 use mathlib.Core.Bool.{Bool, false, true}
 use mathlib.Core.List.{List, [], ◌∷◌}
@@ -9,10 +12,8 @@ use lib.Ieee.{Float}
 use lib.ListN.{get_or, length, length-take}
 use borrow.Author.Tests.{le-ltb, lt-ltb, ltb-true}
 use Rattle.calls.specs.Calls.{presence, presence_of}
-use Rattle.calls.specs.declared.Presence.TheVariants.{NoShell, Refused, There}
 use Rattle.columns.specs.Sound.{Faultless}
 use Rattle.errors.specs.Faults.{first}
-use Rattle.errors.specs.declared.Check.TheVariants.{Refused as Check-as-Refused}
 use Rattle.errors.specs.declared.Refusal.{Refusal}
 use Rattle.lists.specs.Lists.{pick}
 use Rattle.pattern.proofs.Counts.{shells_counted}
@@ -24,45 +25,42 @@ use Rattle.store.specs.Store.{count_table, held}
 use Rattle.store_check.proofs.Laws.{held_limits}
 
 -- ---- whether there is a shell
-pub presence_refused : (fs : List Refusal) (c : Content) (n : ℕ) (f : Refusal) → first fs ≡ Check-as-Refused f → Refused f ≡ presence_of fs c n
+pub presence_refused : (fs : List Refusal) (c : Content) (n : ℕ) (f : Refusal) → first fs ≡ Err f → (Err (Unread f)) ≡ presence_of fs c n
 presence_refused [] c n f h = cc
-presence_refused (g ∷ fs) c n f h = let e : f ≡ g = cc in ap Refused e
+presence_refused (g ∷ fs) c n f h = let e : f ≡ g = cc in ap (λ x. Err (Unread x)) e
 
 module _ (fs : List Refusal) (ok : fs ≡ []) (c : Content) (n : ℕ) where
-  pub presence_none : length c.shells ≤ n → NoShell ≡ presence_of fs c n
+  pub presence_none : length c.shells ≤ n → (Err (Refused not_there)) ≡ presence_of fs c n
   presence_none h = rw (ok, le-ltb n (length c.shells) h)
 
-  pub presence_there : n < length c.shells → There ≡ presence_of fs c n
+  pub presence_there : n < length c.shells → Ok tt ≡ presence_of fs c n
   presence_there h = rw (ok, lt-ltb n (length c.shells) h)
 
 -- and back
-there_picked : (b : Bool) → pick b There NoShell ≡ There → b ≡ true
-there_picked true h = refl
-there_picked false h = cc
+there_picked : {T E : Type 0} (b : Bool) (x : T) (e : E) → pick b (Ok x) (Err e) ≡ Ok x → b ≡ true
+there_picked true x e h = refl
+there_picked false x e h = cc
 
 -- a call that is refused has no shell
-pub refused_apart : (f : Refusal) → Refused f ≡ There → true ≡ false
-refused_apart f h = cc
+pub refused_apart : {T E : Type 0} (e : E) (x : T) → Err e ≡ Ok x → true ≡ false
+refused_apart e x h = cc
 
-pub no_shell_apart : NoShell ≡ There → true ≡ false
-no_shell_apart h = cc
-
-there_none : (fs : List Refusal) (c : Content) (n : ℕ) → presence_of fs c n ≡ There → fs ≡ []
+there_none : (fs : List Refusal) (c : Content) (n : ℕ) → presence_of fs c n ≡ Ok tt → fs ≡ []
 there_none [] c n h = refl
 there_none (f ∷ fs) c n h = cc
 
-module _ (p : Pattern) (n : ℕ) (h : presence p n ≡ There) where
+module _ (p : Pattern) (n : ℕ) (h : presence p n ≡ Ok tt) where
   pub there_fine : pattern_faults p ≡ []
   there_fine = there_none (pattern_faults p) (content p) n h
 
   pub there_here : n < get_or p.counts 5 0
   there_here =
       let shells = length (content p).shells in
-      omega (arith, ltb-true n shells (there_picked (ltb n shells) (rw there_fine at h)), length-take (get_or p.counts 5 0) p.shells)
+      omega (arith, ltb-true n shells (there_picked (ltb n shells) tt (Refused not_there) (rw there_fine at h)), length-take (get_or p.counts 5 0) p.shells)
 
 -- what the functions on a shell ask of the tables
 module _ (t : List ℕ) (spans : List Float) where
-  pub there_ready : (n : ℕ) → presence (held t spans) n ≡ There → Faultless t × (n < get_or (count_table t) 5 0)
+  pub there_ready : (n : ℕ) → presence (held t spans) n ≡ Ok tt → Faultless t × (n < get_or (count_table t) 5 0)
   there_ready n h = (record { spans = spans; ok = there_fine (held t spans) n h }, there_here (held t spans) n h)
 
   -- as many shells as the counts say

@@ -7,17 +7,9 @@ ghost use Rattle.store.specs.Store.{held};
 ghost use Rattle.calls.specs.Calls.{presence};
 
 use condition::Condition;
-use errors::{Check, Refusal};
+use errors::{CallError, NotThere};
 use store::{Spans, Tables, counts_in, tables_known};
 use store_check::check;
-
-// Whether a pattern has a shell: the refusal of the reading checks, or no such shell (3).
-#[derive(Clone, Copy)]
-pub enum Presence {
-    There,
-    Refused(Refusal),
-    NoShell,
-}
 
 // What a call asks of a shell: its condition; how many openings it has, their uses in all, the lookups;
 // whether it is connected; how many components it has, their pairs in all; how many singular points.
@@ -30,29 +22,15 @@ pub enum ShellFigure {
     Singular(usize),
 }
 
-// The answer of such a call: the figure, the refusal of the reading checks, or no such shell (3).
-#[derive(Clone, Copy)]
-pub enum FigureAnswer {
-    Found(ShellFigure),
-    Refused(Refusal),
-    NoShell,
-}
-
 // The reading checks, then whether there is a shell n.
-pub fn find_shell(t: &Tables, spans: &Spans, n: usize) -> Presence
+pub fn find_shell(t: &Tables, spans: &Spans, n: usize) -> Result<(), CallError<NotThere>>
     ensures { result ≡ presence (held t.now spans.now) n }
 {
     tables_known(t);
-    let answer = check(t, spans);
-    match answer {
-        Check::Refused(f) => {
-            return Presence::Refused(f);
-        }
-        Check::Accepted => {}
-    }
+    check(t, spans)?;
     let counts = counts_in(t);
     if n >= counts[5] {
-        return Presence::NoShell;
+        return Err(CallError::Refused(NotThere));
     }
-    Presence::There
+    Ok(())
 }

@@ -93,6 +93,6 @@ module _ (t : List ℕ) (long : length t ≡ 12312) where
 
       pub made : Made t turned starts firsts places
       made = record {
-        faultless = f;
+        faultless = ∣ f ∣₁;
         all = λ spans ok. (record { ok = ok; limits = limits spans ok; full = held_full t spans long; uses = uses; listings = listings }, derived spans ok);
       }

@@ -67,5 +67,5 @@ lent t turned starts firsts places = record {
 
 -- the tables are those of a pattern without fault, and these are its columns
 pub record Made (t turned starts firsts places : List ℕ) : Type 0 where
-  pub faultless : Faultless t
+  pub faultless : ∥ Faultless t ∥₁
   pub all : OfTables t (λ p. Sound p × (lent t turned starts firsts places ≡ columns_in p))

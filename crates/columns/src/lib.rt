@@ -27,41 +27,56 @@ fn put_firsts(counts: &[u16], n: usize, out: &mut [usize])
     ensures { out.new ≡ padded 257 0 (tabulate (suc n) (λ (f : ℕ). sum (take f (take n counts.now)))) }
 {
     let mut at: usize = 0;
-    let mut k: usize = 0;
-    while k < n {
+    for k in 0..n {
         out[k] = at;
         at += index(counts[k]);
-        k += 1;
     }
     out[n] = at;
 }
 
-// Writes the columns of a pattern without fault: its uses turned, where the uses and the wires of each
-// face begin, and the listings of each shell.
-pub fn put_columns(
-    t: &Tables,
-    turned: &mut [u16],
-    starts: &mut [usize],
-    firsts: &mut [usize],
-    places: &mut [usize],
-)
-    requires faultless { Faultless t.now }
-    requires turned_value { (turned.old ≡ replicate 4096 0) × (starts.old ≡ replicate 257 0) × (firsts.old ≡ replicate 257 0) × (places.old ≡ replicate 257 0) }
-    ensures { Made t.now turned.new starts.new firsts.new places.new }
-{
-    tables_known(t);
-    let counts = counts_in(t);
-    let uses = uses_in(t);
-    let wires = wires_in(t);
-    let faces = faces_in(t);
-    let shells = shells_in(t);
-    short_known(uses);
-    short_known(listings_in(t));
-    let ucount = counts[2];
-    let wcount = counts[3];
-    let fcount = counts[4];
-    put_turned_uses(&uses[0..ucount], &wires[0..wcount], turned);
-    put_face_starts(&wires[0..wcount], faces, fcount, starts);
-    put_firsts(faces, fcount, firsts);
-    put_firsts(shells, counts[5], places);
+// The columns that are derived of a pattern without fault in the store.
+#[derive(Drop)]
+pub struct Columns<'a> {
+    pub t: &'a Tables,
+    pub turned: [u16; 4096],
+    pub starts: [usize; 257],
+    pub firsts: [usize; 257],
+    pub places: [usize; 257],
+    ghost made: { Made t.now turned starts firsts places },
+}
+
+impl<'a> Columns<'a> {
+    // The columns of a pattern: its uses turned, where the uses and the wires of each face begin, and the
+    // listings of each shell.
+    pub fn new(t: &'a Tables) -> Columns<'a>
+        requires { Faultless t.now }
+        ensures { result.t.now ≡ t.now }
+    {
+        tables_known(t);
+        let counts = counts_in(t);
+        let uses = uses_in(t);
+        let wires = wires_in(t);
+        let faces = faces_in(t);
+        let shells = shells_in(t);
+        short_known(uses);
+        short_known(listings_in(t));
+        let ucount = counts[2];
+        let wcount = counts[3];
+        let fcount = counts[4];
+        let mut turned = [0u16; 4096];
+        let mut starts = [0usize; 257];
+        let mut firsts = [0usize; 257];
+        let mut places = [0usize; 257];
+        put_turned_uses(&uses[0..ucount], &wires[0..wcount], &mut turned);
+        put_face_starts(&wires[0..wcount], faces, fcount, &mut starts);
+        put_firsts(faces, fcount, &mut firsts);
+        put_firsts(shells, counts[5], &mut places);
+        Columns {
+            t,
+            turned,
+            starts,
+            firsts,
+            places,
+        }
+    }
 }

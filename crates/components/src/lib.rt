@@ -21,10 +21,8 @@ fn join_part(parents: &mut [u16], sizes: &mut [u16], n: usize, part: &[u16], mem
     ensures parents_after { parents.new ≡ (joined_all (trees parents.old sizes.old) (member_links member part.now)).parents }
     ensures sizes_after { sizes.new ≡ (joined_all (trees parents.old sizes.old) (member_links member part.now)).sizes }
 {
-    let mut i: usize = 0;
-    while i < part.len() {
-        join(parents, sizes, index(part[i] % 32768), member);
-        i += 1;
+    for &u in part {
+        join(parents, sizes, index(u % 32768), member);
     }
 }
 
@@ -37,12 +35,10 @@ fn link_uses(parents: &mut [u16], sizes: &mut [u16], spans: &[u16], uses: &[u16]
     let n = edges + spans.len();
     start(parents, sizes, n);
     let mut at: usize = 0;
-    let mut k: usize = 0;
-    while k < spans.len() {
-        let m = index(spans[k]);
+    for (k, &m) in spans.iter().enumerate() {
+        let m = index(m);
         join_part(parents, sizes, n, &uses[at..at + m], edges + k);
         at += m;
-        k += 1;
     }
 }
 
@@ -51,10 +47,8 @@ fn put_roots(out: &mut [u16], parents: &[u16], first: usize, n: usize)
     requires { Rooted parents.now first n out.old }
     ensures { out.new ≡ sets out.old 0 (roots_of parents.now first n) }
 {
-    let mut k: usize = 0;
-    while k < n {
+    for k in 0..n {
         out[k] = find(parents, first + k) as u16;
-        k += 1;
     }
 }
 

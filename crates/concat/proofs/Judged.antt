@@ -1,6 +1,6 @@
--- The refusals of a join in sequence, from the two edges; then from the content that has them.
-use Prim.Native.Nat.{◌+◌, ◌<◌, ◌≤◌, ℕ}
-use Prim.{⊥}
+-- The refusals of a join in sequence, from the content that has the two edges.
+use Rattle.std.specs.Prelude.{Err, Ok, Result}
+use Prim.Native.Nat.{◌<◌, ◌≤◌, ℕ}
 use mathlib.Core.Bool.{Bool, ◌&&◌, false, true}
 use mathlib.Core.List.{List, [], ◌++◌, ◌∷◌}
 use mathlib.Core.Path.{◌∙◌, ◌≡◌, refl, sym}
@@ -8,62 +8,20 @@ use native.Mathlib.Omega.{arith}
 use lib.Dec.{eqb, ltb}
 use lib.ListN.{get_or, length, take}
 use lib.Seq.{get_or-take}
-use borrow.Author.Tests.{eq-eqb, le-leb, le-ltb, lt-leb, lt-ltb, ne_eqb}
+use borrow.Author.Tests.{le-ltb, lt-ltb}
 use Rattle.concat.specs.Joins.{joint}
-use Rattle.concat.specs.declared.Joint.{Joint}
-use Rattle.concat.specs.declared.Joint.TheVariants.{Not, Whole}
-use Rattle.curve.specs.Curves.{join_curves, joined_span}
-use Rattle.curve.specs.declared.Joined.{Joined}
-use Rattle.curve.specs.declared.Joined.TheVariants.{Refused as NotJoined, Whole as WholeCurve}
 use Rattle.edge.proofs.Laws.{no_edge}
-use Rattle.edge.specs.Edges.{edge, is_span}
 use Rattle.edge.specs.Uses.{edge_number}
-use Rattle.edge.specs.declared.Curve.{Curve}
 use Rattle.edge.specs.declared.Edge.{Edge}
 use Rattle.edit_answers.specs.declared.EditError.{EditError}
-use Rattle.edit_answers.specs.declared.EditError.TheVariants.{Disconnected, NoSpace, SameEnds, SpanRefused, Unnamed}
+use Rattle.edit_answers.specs.declared.EditError.TheVariants.{Disconnected, Unnamed}
 use Rattle.errors.proofs.Laws.{none_right}
 use Rattle.lists.proofs.Flat.{get_d_any}
-use Rattle.lists.specs.Lists.{pick, unless}
+use Rattle.lists.specs.Lists.{unless}
 use Rattle.pattern.specs.Contents.{Content, zero_edge}
 use Rattle.shell_edits.proofs.Remove.{join_allowed}
 use Rattle.shell_edits.specs.Edits.{concat_faults, edge_of, end_faults, join_faults, joined_edge, meet_faults}
 use Rattle.shell_edits.specs.NewEdges.{joined_ends, use_back, use_front}
-use Rattle.vertex.specs.declared.VertexID.{VertexID}
-
--- ---- the two curves
-whole_picked : (b : Bool) (s k : Curve) → pick b (WholeCurve s) NotJoined ≡ WholeCurve k → k ≡ s
-whole_picked true s k h = cc
-whole_picked false s k h = cc
-
--- ---- the two edges, with the ends of the uses and the joined curve
-module _ (a : Edge) (u : ℕ) (b : Edge) (v edges : ℕ) {f g : VertexID} {j : Joined} (ef : f ≡ use_front a u) (eg : g ≡ use_back b v)
-    (ej : j ≡ join_curves a.curve b.curve) where
-  abbrev judged : Joint
-  judged = joint (end_faults a u b v edges) (joined_ends a u b v)
-
-  pub ends_same : f.0 ≡ g.0 → Not SameEnds ≡ judged
-  ends_same h = rw (← ef, ← eg, eq-eqb f.0 g.0 h)
-
-  module _ (differ : f.0 ≡ g.0 → ⊥) where
-    pub ends_refused : j ≡ NotJoined → Not SpanRefused ≡ judged
-    ends_refused h = rw (← ef, ← eg, ne_eqb f.0 g.0 differ, ← ej, h)
-
-    module _ {k : Curve} (h : j ≡ WholeCurve k) where
-      pub ends_full : 1024 ≤ edges → Not NoSpace ≡ judged
-      ends_full l = rw (← ef, ← eg, ne_eqb f.0 g.0 differ, ← ej, h, lt-leb (edges + 1) 1024 (omega arith))
-
-      pub ends_joined : edges < 1024 → {d : Edge} → d ≡ edge f g k → Whole d ≡ judged
-      ends_joined l ed =
-          let span : k ≡ joined_span a.curve b.curve = whole_picked (is_span (joined_span a.curve b.curve)) (joined_span a.curve b.curve) k (sym ej ∙ h) in
-          rw (← ef, ← eg, ne_eqb f.0 g.0 differ, ← ej, h, le-leb (edges + 1) 1024 (omega arith), ed, span)
-
-module _ (a : Edge) (u : ℕ) (b : Edge) (v edges : ℕ) {f g : VertexID} (ef : f ≡ use_back a u) (eg : g ≡ use_front b v) where
-  pub ends_apart : (f.0 ≡ g.0 → ⊥) → Not Disconnected ≡ joint (meet_faults a u b v edges) (joined_ends a u b v)
-  ends_apart h = rw (← ef, ← eg, ne_eqb f.0 g.0 h)
-
-  pub ends_meet : f.0 ≡ g.0 → {r : Joint} → r ≡ joint (end_faults a u b v edges) (joined_ends a u b v) → r ≡ joint (meet_faults a u b v edges) (joined_ends a u b v)
-  ends_meet h e = rw (← ef, ← eg, eq-eqb f.0 g.0 h) e
 
 -- edge e of the first n, as the code reads it
 pub edge_read : (es : List Edge) (n e : ℕ) → n ≤ length es → e < n → get_or es e no_edge ≡ get_or (take n es) e zero_edge
@@ -77,7 +35,7 @@ module _ (c : Content) (u v edges : ℕ) {a b : Edge} (ea : a ≡ edge_of c u) (
   pub joins_are : end_faults a u b v edges ≡ join_faults c u v
   joins_are = rw (ea, eb, counted)
 
-  pub concat_judged : edge_number u < edges → edge_number v < edges → {r : Joint} → r ≡ joint (meet_faults a u b v edges) (joined_ends a u b v)
+  pub concat_judged : edge_number u < edges → edge_number v < edges → {r : Result Edge EditError} → r ≡ joint (meet_faults a u b v edges) (joined_ends a u b v)
       → r ≡ joint (concat_faults c u v) (joined_edge c u v)
   concat_judged h i e = e ∙ rw (ea, eb, counted, lt-ltb (edge_number u) edges h, lt-ltb (edge_number v) edges i)
 
@@ -86,14 +44,14 @@ and_false true b h = h
 and_false false b h = refl
 
 module _ (c : Content) (u v edges : ℕ) (counted : length c.edges ≡ edges) where
-  pub first_unnamed : edges ≤ edge_number u → Not Unnamed ≡ joint (concat_faults c u v) (joined_edge c u v)
+  pub first_unnamed : edges ≤ edge_number u → Err Unnamed ≡ joint (concat_faults c u v) (joined_edge c u v)
   first_unnamed h = rw (counted, le-ltb (edge_number u) edges h)
 
-  pub second_unnamed : edges ≤ edge_number v → Not Unnamed ≡ joint (concat_faults c u v) (joined_edge c u v)
+  pub second_unnamed : edges ≤ edge_number v → Err Unnamed ≡ joint (concat_faults c u v) (joined_edge c u v)
   second_unnamed h = rw (counted, and_false (ltb (edge_number u) edges) (ltb (edge_number v) edges) (le-ltb (edge_number v) edges h))
 
 -- ---- where nothing is refused, there is room
-pub joint_none : (es : List EditError) (d : Edge) {k : Edge} → joint es d ≡ Whole k → es ≡ []
+pub joint_none : (es : List EditError) (d : Edge) {k : Edge} → joint es d ≡ Ok k → es ≡ []
 joint_none [] d h = refl
 joint_none (e ∷ es) d h = cc
 
@@ -101,11 +59,11 @@ pub room_there : (c : Content) (u v : ℕ) → join_faults c u v ≡ [] → leng
 room_there c u v h = omega (arith, (join_allowed c u v h).room)
 
 -- where two uses are joined, no refusal of the join is left
-joins_none : (c : Content) (u v : ℕ) (d : Edge) {k : Edge} → joint (concat_faults c u v) d ≡ Whole k → join_faults c u v ≡ []
+joins_none : (c : Content) (u v : ℕ) (d : Edge) {k : Edge} → joint (concat_faults c u v) d ≡ Ok k → join_faults c u v ≡ []
 joins_none c u v d h =
     let named = unless (ltb (edge_number u) (length c.edges) && ltb (edge_number v) (length c.edges)) Unnamed in
     let met = unless (eqb (use_back (edge_of c u) u).0 (use_front (edge_of c v) v).0) Disconnected in
     none_right met (join_faults c u v) (none_right named (met ++ join_faults c u v) (joint_none (concat_faults c u v) d h))
 
-pub concat_room : (c : Content) (u v : ℕ) (d : Edge) {k : Edge} → joint (concat_faults c u v) d ≡ Whole k → length c.edges < 1024
+pub concat_room : (c : Content) (u v : ℕ) (d : Edge) {k : Edge} → joint (concat_faults c u v) d ≡ Ok k → length c.edges < 1024
 concat_room c u v d h = room_there c u v (joins_none c u v d h)

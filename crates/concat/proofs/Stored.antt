@@ -1,4 +1,6 @@
 -- A pattern after an edit: what its storage holds, and the answer, case by case.
+use Rattle.errors.specs.declared.CallError.TheVariants.{Refused, Unread}
+use Rattle.std.specs.Prelude.{Err, Ok}
 use native.Mathlib.Omega.{arith}
 use Prim.Native.Nat.{◌+◌, ◌<◌, ℕ}
 use lib.Ieee.{Float}
@@ -11,9 +13,7 @@ use Rattle.edge.specs.declared.Edge.{Edge}
 use Rattle.edge.specs.declared.EdgeID.{EdgeID}
 use Rattle.edit_answers.specs.Answers.{judged}
 use Rattle.edit_answers.specs.declared.EditError.{EditError}
-use Rattle.edit_answers.specs.declared.JoinAnswer.TheVariants.{Joined, Not as Join-as-Not, Refused as Join-as-Refused}
 use Rattle.errors.specs.Faults.{first}
-use Rattle.errors.specs.declared.Check.TheVariants.{Refused}
 use Rattle.errors.specs.declared.Refusal.{Refusal}
 use Rattle.lists.proofs.Flat.{get_d_tabulate}
 use Rattle.lists.specs.Lists.{tabulate}
@@ -27,48 +27,47 @@ use Rattle.shell_wires.proofs.Facts.{Fine, stored_edited, uses_kept, wires_kept}
 use Rattle.store.specs.Store.{count_table, edge_in, held}
 use Rattle.concat.proofs.Judged.{edge_read}
 use Rattle.concat.specs.Joins.{appended, joint}
-use Rattle.concat.specs.declared.Joint.TheVariants.{Not, Whole}
 use Rattle.store.specs.Columns.{with_counts, with_edges}
 
 -- ---- which answer comes first
 module _ {ℓ} {A : Type ℓ} (es : List EditError) (refused : Refusal → A) (not : EditError → A) (done : A) where
-  judged_refused : (fs : List Refusal) {f : Refusal} → first fs ≡ Refused f → refused f ≡ judged fs es refused not done
+  judged_refused : (fs : List Refusal) {f : Refusal} → first fs ≡ Err f → refused f ≡ judged fs es refused not done
   judged_refused [] h = cc
   judged_refused (g ∷ fs) {f} h = let e : f ≡ g = cc in ap refused e
 
   module _ (fs : List Refusal) (ok : fs ≡ []) where
-    judged_not : (d : Edge) {e : EditError} → joint es d ≡ Not e → not e ≡ judged fs es refused not done
+    judged_not : (d : Edge) {e : EditError} → joint es d ≡ Err e → not e ≡ judged fs es refused not done
     judged_not d h = rw ok (go es h)
       where
-        go : (es : List EditError) {e : EditError} → joint es d ≡ Not e → not e ≡ judged [] es refused not done
+        go : (es : List EditError) {e : EditError} → joint es d ≡ Err e → not e ≡ judged [] es refused not done
         go [] h = cc
         go (g ∷ es) {e} h = let k : e ≡ g = cc in ap not k
 
     judged_done : es ≡ [] → done ≡ judged fs es refused not done
     judged_done h = rw (ok, h)
 
-pub joint_whole : (es : List EditError) (d : Edge) {k : Edge} → joint es d ≡ Whole k → k ≡ d
+pub joint_whole : (es : List EditError) (d : Edge) {k : Edge} → joint es d ≡ Ok k → k ≡ d
 joint_whole [] d h = cc
 joint_whole (e ∷ es) d h = cc
 
 -- the answer of an edit that makes one edge, and the pattern then
 module _ (p : Pattern) (es : List EditError) (c : Content) where
-  pub join_refused : {f : Refusal} → first (pattern_faults p) ≡ Refused f → (Join-as-Refused f ≡ join_answer p es) × (p ≡ pattern_after p es c)
+  pub join_refused : {f : Refusal} → first (pattern_faults p) ≡ Err f → (Err (Unread f) ≡ join_answer p es) × (p ≡ pattern_after p es c)
   join_refused h = (
-    judged_refused es Join-as-Refused Join-as-Not (Joined (next_edge p 0)) (pattern_faults p) h,
+    judged_refused es (λ x. Err (Unread x)) (λ x. Err (Refused x)) (Ok (next_edge p 0)) (pattern_faults p) h,
     judged_refused es (λ (f : Refusal). p) (λ (e : EditError). p) (stored_in p c) (pattern_faults p) h,
   )
 
   module _ (ok : pattern_faults p ≡ []) where
-    pub join_not : (d : Edge) {e : EditError} → joint es d ≡ Not e → (Join-as-Not e ≡ join_answer p es) × (p ≡ pattern_after p es c)
+    pub join_not : (d : Edge) {e : EditError} → joint es d ≡ Err e → (Err (Refused e) ≡ join_answer p es) × (p ≡ pattern_after p es c)
     join_not d h = (
-      judged_not es Join-as-Refused Join-as-Not (Joined (next_edge p 0)) (pattern_faults p) ok d h,
+      judged_not es (λ x. Err (Unread x)) (λ x. Err (Refused x)) (Ok (next_edge p 0)) (pattern_faults p) ok d h,
       judged_not es (λ (f : Refusal). p) (λ (e : EditError). p) (stored_in p c) (pattern_faults p) ok d h,
     )
 
-    pub join_done : es ≡ [] → (Joined (next_edge p 0) ≡ join_answer p es) × (stored_in p c ≡ pattern_after p es c)
+    pub join_done : es ≡ [] → (Ok (next_edge p 0) ≡ join_answer p es) × (stored_in p c ≡ pattern_after p es c)
     join_done h = (
-      judged_done es Join-as-Refused Join-as-Not (Joined (next_edge p 0)) (pattern_faults p) ok h,
+      judged_done es (λ x. Err (Unread x)) (λ x. Err (Refused x)) (Ok (next_edge p 0)) (pattern_faults p) ok h,
       judged_done es (λ (f : Refusal). p) (λ (e : EditError). p) (stored_in p c) (pattern_faults p) ok h,
     )
 

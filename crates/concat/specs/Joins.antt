@@ -1,15 +1,13 @@
 -- What joining two uses gives, and the pattern with one more edge.
-use Rattle.std.specs.Prelude.{◌+◌, List, [], ◌∷◌, get_or, set}
+use Rattle.std.specs.Prelude.{◌+◌, List, [], ◌∷◌, get_or, set, Err, Ok, Result}
 use Rattle.edge.specs.declared.Edge.{Edge}
 use Rattle.edit_answers.specs.declared.EditError.{EditError}
-use Rattle.concat.specs.declared.Joint.{Joint}
-use Rattle.concat.specs.declared.Joint.TheVariants.{Whole, Not}
 use Rattle.pattern.specs.Contents.{Pattern}
 
 -- the first refusal, or the edge
-abbrev pub joint : List EditError → Edge → Joint
-joint [] d = Whole d
-joint (e ∷ es) d = Not e
+abbrev pub joint : List EditError → Edge → Result Edge EditError
+joint [] d = Ok d
+joint (e ∷ es) d = Err e
 
 -- the edge after the others
 abbrev pub appended : Pattern → Edge → Pattern

@@ -10,21 +10,14 @@ ghost use Rattle.shell_edits.specs.NewEdges.{joined_ends, use_back, use_front};
 ghost use Rattle.store.specs.Store.{count_table, held};
 ghost use Rattle.concat.specs.Joins.{appended, joint};
 
-use curve::{Joined, join_curves};
+use curve::join_curves;
 use edge::{Edge, EdgeID};
-use edit_answers::{EditError, JoinAnswer};
-use errors::Check;
+use edit_answers::EditError;
+use errors::CallError;
 use store::{Spans, Tables, counts_in, edge_in, store_count, store_edge, tables_known};
 use store_check::check;
 use vertex::VertexID;
 use words::index;
-
-// Two uses joined to an edge; or why not.
-#[derive(Clone, Copy)]
-pub enum Joint {
-    Whole(Edge),
-    Not(EditError),
-}
 
 // The vertex that use u of an edge begins at.
 fn use_front(d: Edge, u: u16) -> VertexID
@@ -47,40 +40,35 @@ fn use_back(d: Edge, u: u16) -> VertexID
 }
 
 // Joins use u of edge a and use v of edge b, where there are so many edges: 25, 26, 17.
-pub fn judge_join(a: Edge, u: u16, b: Edge, v: u16, edges: usize) -> Joint
+pub fn judge_join(a: Edge, u: u16, b: Edge, v: u16, edges: usize) -> Result<Edge, EditError>
     ensures { result ≡ joint (end_faults a u b v edges) (joined_ends a u b v) }
 {
     let front = use_front(a, u);
     let back = use_back(b, v);
-    let joined = join_curves(a.curve, b.curve);
     if front.0 == back.0 {
-        return Joint::Not(EditError::SameEnds);
+        return Err(EditError::SameEnds);
     }
-    match joined {
-        Joined::Refused => Joint::Not(EditError::SpanRefused),
-        Joined::Whole(k) => {
-            if edges >= 1024 {
-                return Joint::Not(EditError::NoSpace);
-            }
-            Joint::Whole(Edge::new_unchecked(front, back, k))
-        }
+    let k = join_curves(a.curve, b.curve).ok_or(EditError::SpanRefused)?;
+    if edges >= 1024 {
+        return Err(EditError::NoSpace);
     }
+    Ok(Edge::new_unchecked(front, back, k))
 }
 
 // The same where the first use must end where the second begins: 29 first.
-fn judge_concat(a: Edge, u: u16, b: Edge, v: u16, edges: usize) -> Joint
+fn judge_concat(a: Edge, u: u16, b: Edge, v: u16, edges: usize) -> Result<Edge, EditError>
     ensures { result ≡ joint (meet_faults a u b v edges) (joined_ends a u b v) }
 {
     let meet = use_back(a, u);
     let start = use_front(b, v);
     if meet.0 != start.0 {
-        return Joint::Not(EditError::Disconnected);
+        return Err(EditError::Disconnected);
     }
     judge_join(a, u, b, v, edges)
 }
 
 // Two uses of a pattern without fault, joined: 3 first.
-fn concat_uses(t: &Tables, spans: &Spans, u: u16, v: u16) -> Joint
+fn concat_uses(t: &Tables, spans: &Spans, u: u16, v: u16) -> Result<Edge, EditError>
     requires { pattern_faults (held t.now spans.now) ≡ [] }
     ensures { result ≡ joint (concat_faults (content (held t.now spans.now)) u v) (joined_edge (content (held t.now spans.now)) u v) }
 {
@@ -90,10 +78,10 @@ fn concat_uses(t: &Tables, spans: &Spans, u: u16, v: u16) -> Joint
     let i = index(u % 32768);
     let j = index(v % 32768);
     if i >= edges {
-        return Joint::Not(EditError::Unnamed);
+        return Err(EditError::Unnamed);
     }
     if j >= edges {
-        return Joint::Not(EditError::Unnamed);
+        return Err(EditError::Unnamed);
     }
     judge_concat(edge_in(t, spans, i), u, edge_in(t, spans, j), v, edges)
 }
@@ -113,22 +101,18 @@ pub fn append_edge(t: &mut Tables, spans: &mut Spans, d: Edge) -> EdgeID
 
 // Joins two uses to a new edge, which is appended. Refused, the pattern is as it was. An accepted
 // pattern stays so.
-pub fn concat(t: &mut Tables, spans: &mut Spans, u: u16, v: u16) -> JoinAnswer
+pub fn concat(
+    t: &mut Tables,
+    spans: &mut Spans,
+    u: u16,
+    v: u16,
+) -> Result<EdgeID, CallError<EditError>>
     ensures value { result ≡ concat_answer (held t.old spans.old) u v }
     ensures spans_after { held t.new spans.new ≡ after_concat (held t.old spans.old) u v }
     ensures spans_after_2 { pattern_faults (held t.old spans.old) ≡ [] → pattern_faults (held t.new spans.new) ≡ [] }
 {
     tables_known(t);
-    let checked = check(t, spans);
-    match checked {
-        Check::Refused(f) => {
-            return JoinAnswer::Refused(f);
-        }
-        Check::Accepted => {}
-    }
-    let made = concat_uses(t, spans, u, v);
-    match made {
-        Joint::Not(e) => JoinAnswer::Not(e),
-        Joint::Whole(d) => JoinAnswer::Joined(append_edge(t, spans, d)),
-    }
+    check(t, spans)?;
+    let d = concat_uses(t, spans, u, v)?;
+    Ok(append_edge(t, spans, d))
 }

@@ -1,20 +1,47 @@
 -- The loops: the uses of a part; the edges of the tally.
-use Prim.Native.Nat.{◌%◌, ◌*◌, ◌+◌, ◌-◌, ◌/◌, ◌<◌, ◌≤◌, min, ℕ}
+use Prim.Native.Nat.{◌%◌, ◌*◌, ◌+◌, ◌-◌, ◌/◌, ◌<◌, ◌≤◌, min, suc, zero, ℕ}
 use mathlib.Core.List.{List, [], ◌++◌, ◌∷◌}
 use mathlib.Core.Path.{◌∙◌, ◌≡◌, ap, refl, sym}
 use native.Mathlib.Numerals.{add-one}
 use native.Mathlib.Omega.{arith}
-use lib.ListN.{drop, drop_of_length-le, get_or, length, length-replicate, replicate, set, take, take-append-drop}
-use lib.Seq.{drop-cons, drop-drop}
+use lib.ListN.{drop, drop_of_length-le, get_or, length, length-drop, length-replicate, length-take, replicate, set, take, take-append-drop}
+use lib.Seq.{drop-cons, drop-drop, take_all}
 use Rattle.condition.proofs.Least.{least_add, least_alike, least_next}
 use Rattle.condition.specs.Tallies.{condition_in, digit, inserted, inserted_all, least, odds_in, state_of}
 use Rattle.condition.specs.declared.Tally.{Tally}
+use Rattle.std.proofs.lemmas.List.{get_or-drop, get_or-take}
+use Rattle.edge.specs.Below.{EdgesBelow}
+use Rattle.std.specs.Simd.{first_chunks}
 use Rattle.lists.proofs.Laws.{Filling, filling_next, filling_padded, filling_start}
 
 pub inserted_append : (t : Tally) (us vs : List ℕ) → inserted_all t (us ++ vs) ≡ inserted_all (inserted_all t us) vs
 unfolding inserted_all
 inserted_append t [] vs = refl
 inserted_append t (u ∷ us) vs = inserted_append (inserted t u) us vs
+
+four_at : (k i : ℕ) (xs : List ℕ) → i < k → get_or (first_chunks 4 k xs) i [] ≡ take 4 (drop (4 * i) xs)
+four_at zero i xs h = absurd (omega arith)
+four_at (suc k) zero xs h = refl
+four_at (suc k) (suc i) xs h =
+    let e : 4 + 4 * i ≡ 4 * suc i = omega arith in
+    four_at k i (drop 4 xs) (omega arith) ∙ ap (take 4) (drop-drop (4 * i) 4 xs ∙ ap (λ n. drop n xs) e)
+
+-- the fours of a part
+module _ (part : List ℕ) (fours : List (List ℕ)) (i : ℕ) (front : fours ≡ first_chunks 4 (length part / 4) part) (long : length fours ≡ length part / 4) (here : i < length fours) where
+  here_is : get_or fours i [] ≡ take 4 (drop (4 * i) part)
+  here_is = rw front (four_at (length part / 4) i part (omega arith))
+
+  pub four_long : length (get_or fours i []) ≡ 4
+  four_long = omega (arith, ap length here_is, length-take 4 (drop (4 * i) part), length-drop (4 * i) part)
+
+  pub four_is : take 4 (get_or fours i []) ≡ take 4 (drop (4 * i) part)
+  four_is = take_all 4 (get_or fours i []) (omega (arith, four_long)) ∙ here_is
+
+  pub four_below : EdgesBelow 1024 part → EdgesBelow 1024 (get_or fours i [])
+  four_below below j h =
+      let h' : j < 4 = omega (arith, four_long) in
+      let e : get_or (get_or fours i []) j 0 ≡ get_or part (4 * i + j) 0 = rw (here_is, get_or-take 4 (drop (4 * i) part) j 0 h') (get_or-drop (4 * i) part j 0) in
+      rw e (below (4 * i + j) (omega arith))
 
 module _ (part : List ℕ) where
   from_on : (i k : ℕ) → i < length part → k ≡ i + 1 → drop i part ≡ get_or part i 0 ∷ drop k part
@@ -31,16 +58,16 @@ module _ (part : List ℕ) where
   next_four t a b c d i l p q r s =
       rw (s, r, q, p, from_on i (i + 1) (omega arith) refl, from_on (i + 1) (i + 2) (omega arith) (omega arith), from_on (i + 2) (i + 3) (omega arith) (omega arith), from_on (i + 3) (i + 4) (omega arith) (omega arith))
 
-  -- the tally t₀ after the uses from place `from` on is the tally t after those from place i on
-  pub record Inserting (t₀ : Tally) (from : ℕ) (t : Tally) (i : ℕ) : Type 0 where
+  -- the tally t₀ after the part is the tally t after the uses from place i on
+  pub record Inserting (t₀ t : Tally) (i : ℕ) : Type 0 where
     pub low : i ≤ length part
-    pub same : inserted_all t₀ (drop from part) ≡ inserted_all t (drop i part)
+    pub same : inserted_all t₀ part ≡ inserted_all t (drop i part)
 
-  pub inserting_start : (t : Tally) (i : ℕ) → i ≤ length part → Inserting t i t i
-  inserting_start t i l = record { low = l; same = refl }
+  pub inserting_start : (t : Tally) → Inserting t t 0
+  inserting_start t = record { low = omega arith; same = refl }
 
-  module _ (t₀ : Tally) (from : ℕ) (t : Tally) (i : ℕ) (v : Inserting t₀ from t i) where
-    inserting_on : (n : ℕ) → i + n ≤ length part → (r : Tally) → r ≡ inserted_all t (take n (drop i part)) → Inserting t₀ from r (i + n)
+  module _ (t₀ t : Tally) (i : ℕ) (v : Inserting t₀ t i) where
+    inserting_on : (n : ℕ) → i + n ≤ length part → (r : Tally) → r ≡ inserted_all t (take n (drop i part)) → Inserting t₀ r (i + n)
     inserting_on n l r e = record {
       low = l;
       same =
@@ -50,19 +77,15 @@ module _ (part : List ℕ) where
           ∙ rw (drop-drop n i part, ← e);
     }
 
-    pub inserting_one : i < length part → (r : Tally) → r ≡ inserted t (get_or part i 0) → Inserting t₀ from r (i + 1)
+    pub inserting_one : i < length part → (r : Tally) → r ≡ inserted t (get_or part i 0) → Inserting t₀ r (i + 1)
     inserting_one l r e = inserting_on 1 (omega arith) r (e ∙ sym (next_one t i l))
 
-    pub inserting_four : 4 ≤ length part - i → (r : Tally) → r ≡ inserted_all t (take 4 (drop i part)) → Inserting t₀ from r (i + 4)
-    inserting_four l r e = inserting_on 4 (omega (arith, v.low)) r e
+    pub inserting_four : i + 4 ≤ length part → (r : Tally) → r ≡ inserted_all t (take 4 (drop i part)) → Inserting t₀ r (i + 4)
+    inserting_four l r e = inserting_on 4 l r e
 
-    inserting_rest : length part ≤ i → t ≡ inserted_all t₀ (drop from part)
+    pub inserting_end : length part ≤ i → t ≡ inserted_all t₀ part
     unfolding inserted_all
-    inserting_rest l = sym (v.same ∙ rw (drop_of_length-le part l))
-
-  -- one loop after the other
-  pub inserting_all : (t₀ t₁ t : Tally) (i₁ i : ℕ) → Inserting t₀ 0 t₁ i₁ → Inserting t₁ i₁ t i → length part ≤ i → t ≡ inserted_all t₀ part
-  inserting_all t₀ t₁ t i₁ i v w l = inserting_rest t₁ i₁ t i w l ∙ sym v.same
+    inserting_end l = sym (v.same ∙ rw (drop_of_length-le part l))
 
 module _ (t : Tally) (n : ℕ) where
   -- what the edges before e make of the condition
@@ -81,14 +104,16 @@ module _ (t : Tally) (n : ℕ) where
       so_far = least_next (λ (k : ℕ). 3 - state_of t k % 2) e worst made r v.so_far (q ∙ ap (λ (k : ℕ). 3 - k % 2) p) j;
     }
 
-    -- the four edges of a byte
-    pub joining_four : e % 4 ≡ 0 → 4 ≤ n - e → (made r : ℕ) → made ≡ least 4 (λ (d : ℕ). 3 - digit (get_or t.states (e / 4) 0) d % 2) → r ≡ min worst made → Joining r (e + 4)
-    joining_four first l made r q j =
+    -- the four edges of byte b
+    pub joining_four : (b : ℕ) → e ≡ 4 * b → b < n / 4 → (made r : ℕ) → made ≡ least 4 (λ (d : ℕ). 3 - digit (get_or (take (n / 4) t.states) b 0) d % 2)
+        → r ≡ min worst made → Joining r (4 * (b + 1))
+    joining_four b first l made r q j =
         let f : ℕ → ℕ = λ (k : ℕ). 3 - state_of t k % 2 in
         let same =
-        least_alike (λ (d : ℕ). 3 - digit (get_or t.states (e / 4) 0) d % 2) (λ (d : ℕ). f (e + d)) 4
-        (λ d m. let byte : (e + d) / 4 ≡ e / 4 = omega arith in let place : (e + d) % 4 ≡ d = omega arith in rw (byte, place)) in
-        record { low = omega (arith, v.low); so_far = omega (arith, j, v.so_far, q ∙ same, least_add f e 4) }
+        least_alike (λ (d : ℕ). 3 - digit (get_or t.states b 0) d % 2) (λ (d : ℕ). f (e + d)) 4
+        (λ d m. let byte : (e + d) / 4 ≡ b = omega arith in let place : (e + d) % 4 ≡ d = omega arith in rw (byte, place)) in
+        let after : 4 * (b + 1) ≡ e + 4 = omega arith in
+        rw after record { low = omega (arith, v.low); so_far = omega (arith, j, v.so_far, rw (get_or-take (n / 4) t.states b 0 l) at q ∙ same, least_add f e 4) }
 
     pub joining_all : n ≤ e → (r : ℕ) → r ≡ min t.worst worst → r ≡ condition_in t n
     joining_all h r j = let p : n ≡ e = omega (arith, v.low) in rw (p, ← v.so_far) j

@@ -7,7 +7,7 @@ ghost use Rattle.condition.specs.Tallies.{condition_in, digit, inserted, inserte
 ghost use Rattle.edge.specs.Below.{EdgesBelow};
 
 // The condition of a shell: a lower one is worse.
-#[derive(Clone, Copy)]
+#[derive(Clone, Copy, PartialEq, Eq, PartialOrd, Ord)]
 pub struct Condition(pub u8);
 
 impl Condition {
@@ -19,18 +19,11 @@ impl Condition {
 
     pub const CLOSED: Condition = Condition(3);
 
-    // Whether it is this one.
-    pub fn is(self, other: Condition) -> bool
-        ensures { result ≡ eqb self.0 other.0 }
-    {
-        self.0 == other.0
-    }
-
     // Joining two takes the lower.
     pub fn join(self, other: Condition) -> Condition
         ensures { result.0 ≡ min self.0 other.0 }
     {
-        if self.0 < other.0 { self } else { other }
+        self.min(other)
     }
 }
 
@@ -71,7 +64,7 @@ impl Tally {
 }
 
 // The tally after the four uses of a part from place i on, in sequence. Compiled, the tally is moved
-// once for the four.
+// once for the four: use by use it took more than twice as long.
 fn insert_four(t: Tally, part: &[u16], i: usize) -> Tally
     requires { (i + 4 ≤ length part.now) × EdgesBelow 1024 part.now }
     ensures { result ≡ inserted_all t (take 4 (drop i part.now)) }
@@ -87,14 +80,12 @@ pub fn tally_part(mut t: Tally, part: &[u16]) -> Tally
     requires { EdgesBelow 1024 part.now }
     ensures { result ≡ inserted_all t part.now }
 {
-    let mut i: usize = 0;
-    while part.len() - i >= 4 {
-        t = insert_four(t, part, i);
-        i += 4;
+    let (fours, rest) = part.as_chunks::<4>();
+    for four in fours {
+        t = insert_four(t, four, 0);
     }
-    while i < part.len() {
-        t = t.insert(part[i]);
-        i += 1;
+    for &u in rest {
+        t = t.insert(u);
     }
     t
 }
@@ -105,14 +96,11 @@ pub fn condition_of(t: Tally, n: usize) -> Condition
     ensures { result.0 ≡ condition_in t n }
 {
     let mut closed = Condition::CLOSED;
-    let mut e: usize = 0;
-    while n - e >= 4 {
-        closed = closed.join(byte_condition(t.states[e / 4]));
-        e += 4;
+    for &b in &t.states[..n / 4] {
+        closed = closed.join(byte_condition(b));
     }
-    while e < n {
+    for e in n / 4 * 4..n {
         closed = closed.join(state_condition(state_in(t.states[e / 4], e % 4)));
-        e += 1;
     }
     Condition(t.worst).join(closed)
 }
@@ -123,10 +111,8 @@ pub fn odd_of(t: Tally, n: usize) -> [u8; 1024]
     ensures { result ≡ odds_in t n }
 {
     let mut out = [0u8; 1024];
-    let mut e: usize = 0;
-    while e < n {
+    for e in 0..n {
         out[e] = 16 * (state_in(t.states[e / 4], e % 4) % 2);
-        e += 1;
     }
     out
 }

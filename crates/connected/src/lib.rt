@@ -29,11 +29,9 @@ fn firsts_of(uses: &[u16], lens: &[u16], fronts: &[u16], backs: &[u16]) -> [u16;
 {
     let mut out = [0u16; 2048];
     let mut at: usize = 0;
-    let mut k: usize = 0;
-    while k < lens.len() {
+    for (k, &n) in lens.iter().enumerate() {
         out[k] = point_of(uses[at], fronts, backs);
-        at += index(lens[k]);
-        k += 1;
+        at += index(n);
     }
     out
 }
@@ -64,12 +62,10 @@ fn join_faces(parents: &mut [u16], sizes: &mut [u16], n: usize, firsts: &[u16], 
     ensures sizes_after { sizes.new ≡ (joined_all (trees parents.old sizes.old) (flat (map neighbours (split counts.now firsts.now)))).sizes }
 {
     let mut at: usize = 0;
-    let mut k: usize = 0;
-    while k < counts.len() {
-        let m = index(counts[k]);
+    for &m in counts {
+        let m = index(m);
         join_next(parents, sizes, n, &firsts[at..at + m]);
         at += m;
-        k += 1;
     }
 }
 
@@ -86,16 +82,13 @@ fn join_uses(
     ensures parents_after { parents.new ≡ (joined_all (trees parents.old sizes.old) (links (map (front_of fronts.now backs.now) uses.now) (map (back_of fronts.now backs.now) uses.now))).parents }
     ensures sizes_after { sizes.new ≡ (joined_all (trees parents.old sizes.old) (links (map (front_of fronts.now backs.now) uses.now) (map (back_of fronts.now backs.now) uses.now))).sizes }
 {
-    let mut k: usize = 0;
-    while k < uses.len() {
-        let u = uses[k];
+    for &u in uses {
         join(
             parents,
             sizes,
             front_of(u, fronts, backs),
             back_of(u, fronts, backs),
         );
-        k += 1;
     }
 }
 
@@ -116,12 +109,10 @@ fn one_root(parents: &[u16], uses: &[u16], fronts: &[u16], backs: &[u16]) -> boo
         return true;
     }
     let root = root_of(parents, uses[0], fronts, backs);
-    let mut i: usize = 1;
-    while i < uses.len() {
-        if root_of(parents, uses[i], fronts, backs) != root {
+    for &u in &uses[1..] {
+        if root_of(parents, u, fronts, backs) != root {
             return false;
         }
-        i += 1;
     }
     true
 }

@@ -87,6 +87,7 @@ pub fn read_all<R: Read>(from: &mut R, bytes: &mut [u8]) -> io::Result<usize>
     ensures { Moved (length bytes.old) result }
 {
     let mut done: usize = 0;
+    // No `for`: each turn reads as many bytes as the reader gives.
     while done < bytes.len() {
         let more = from.read(&mut bytes[done..])?;
         if more == 0 {
@@ -103,6 +104,7 @@ pub fn read_full<R: Read>(from: &mut R, bytes: &mut [u8]) -> usize
     ensures { IsPrefixLen result bytes.new }
 {
     let mut done: usize = 0;
+    // No `for`: each turn reads as many bytes as the reader gives.
     while done < bytes.len() {
         match from.read(&mut bytes[done..]) {
             Ok(0) => return done,

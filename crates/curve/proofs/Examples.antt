@@ -1,13 +1,10 @@
 -- Cuts and joins worked by hand, in one table with one claim over it. Values are given by their bits.
+use Rattle.std.specs.Prelude.{None, Option, Some}
 use Prim.Native.Nat.{ℕ}
 use mathlib.Core.List.{List, [], ◌∷◌, map}
 use mathlib.Core.Path.{◌≡◌, refl}
 use lib.Ieee.{add, binary64, le, lt, nan, nan_bits, neg, of_bits, sub}
 use Rattle.curve.specs.Curves.{cut_curve, join_curves, joined_span, parameter_of, refuses, tolerance}
-use Rattle.curve.specs.declared.Halves.{Halves}
-use Rattle.curve.specs.declared.Halves.TheVariants.{Both, Refused}
-use Rattle.curve.specs.declared.Joined.{Joined}
-use Rattle.curve.specs.declared.Joined.TheVariants.{Whole, Refused as NotJoined}
 use Rattle.curve.specs.declared.Parameter.{Parameter}
 use Rattle.curve.specs.declared.Parameter.TheVariants.{At}
 use Rattle.edge.specs.Edges.{in_range, is_span}
@@ -24,13 +21,13 @@ pub record Row : Type 0 where
   pub answer : List Curve
 
 -- the curves made; none if refused
-abbrev halves : Halves → List Curve
-halves Refused = []
-halves (Both k l) = k ∷ l ∷ []
+abbrev halves : Option (Curve × Curve) → List Curve
+halves None = []
+halves (Some (k, l)) = k ∷ l ∷ []
 
-abbrev whole : Joined → List Curve
-whole NotJoined = []
-whole (Whole k) = k ∷ []
+abbrev whole : Option Curve → List Curve
+whole None = []
+whole (Some k) = k ∷ []
 
 abbrev pub answer_to : Question → List Curve
 answer_to (cut k at) = halves (cut_curve k at)

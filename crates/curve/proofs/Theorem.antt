@@ -1,4 +1,5 @@
 -- A cut that a span does not refuse makes two spans.
+use Rattle.std.specs.Prelude.{None, Option, Some}
 use Prim.Native.Nat.{ℕ, ◌*◌, ◌+◌, ◌<◌, ◌^◌, ◌≤◌}
 use native.Mathlib.Nat.{mul_comm, mul_left_comm, mul-pos}
 use native.Mathlib.Omega.{arith}
@@ -12,8 +13,6 @@ use Rattle.curve.proofs.Order.{make_less, not_above, not_below, not_less}
 use Rattle.curve.proofs.Range.{Ranged, added, added_near, and_parts, in_range_lem, million_value, minus_million, minus_tolerance, positive, ranged, tolerance_value, tolerance_wide, tolerated}
 use Rattle.curve.proofs.Units.{Value, left, right, value_over}
 use Rattle.curve.specs.Curves.{back_half, cut_curve, finite, front_half, refuses, tolerance}
-use Rattle.curve.specs.declared.Halves.{Halves}
-use Rattle.curve.specs.declared.Halves.TheVariants.{Both, Refused}
 use Rattle.curve.specs.declared.Parameter.{Parameter}
 use Rattle.curve.specs.declared.Parameter.TheVariants.{At, Nowhere}
 use Rattle.edge.specs.Edges.{in_range, is_span}
@@ -107,9 +106,9 @@ halves_span k t span ok =
     rw (span_of k.t0 t r0 r a, span_of t k.t1 r r1 b) refl
 
 -- each half is a span: neither is empty
-abbrev pub are_spans : Halves → Bool
-are_spans Refused = true
-are_spans (Both k l) = is_span k && is_span l
+abbrev pub are_spans : Option (Curve × Curve) → Bool
+are_spans None = true
+are_spans (Some (k, l)) = is_span k && is_span l
 
 pub cut_spans : (k : Curve) (at : Parameter) → is_span k ≡ true → are_spans (cut_curve k at) ≡ true
 cut_spans k Nowhere span = refl

@@ -6,25 +6,11 @@ ghost use Rattle.curve.specs.Curves.{cut_curve, join_curves, parameter_of, refus
 
 use edge::Curve;
 
-// Where the search put a point on a curve.
+// Where the search put a point on a curve. No Option: document 01 names an enum of its own, one case with the parameter.
 #[derive(Clone, Copy)]
 pub enum Parameter {
     At(f64),
     Nowhere,
-}
-
-// The two halves of a curve, the one at its front first; or the curve refuses (16).
-#[derive(Clone, Copy)]
-pub enum Halves {
-    Both(Curve, Curve),
-    Refused,
-}
-
-// Two curves joined; or the joined span is none (26).
-#[derive(Clone, Copy)]
-pub enum Joined {
-    Whole(Curve),
-    Refused,
 }
 
 // The parameter that an f64's bits stand for.
@@ -50,23 +36,23 @@ fn curve_refuses(k: Curve, t: f64) -> bool
     k.t1 - 0.000001 < t
 }
 
-// Cuts a curve where the search put a point.
-pub fn cut_curve(k: Curve, at: Parameter) -> Halves
+// Cuts a curve where the search put a point: the two halves, the one at its front first; none if the curve refuses (16).
+pub fn cut_curve(k: Curve, at: Parameter) -> Option<(Curve, Curve)>
     ensures { result ≡ cut_curve k at }
 {
     match at {
-        Parameter::Nowhere => Halves::Refused,
+        Parameter::Nowhere => None,
         Parameter::At(t) => {
             if curve_refuses(k, t) {
-                return Halves::Refused;
+                return None;
             }
-            Halves::Both(Curve { t0: k.t0, t1: t }, Curve { t0: t, t1: k.t1 })
+            Some((Curve { t0: k.t0, t1: t }, Curve { t0: t, t1: k.t1 }))
         }
     }
 }
 
-// Joins two curves, the second moved to where the first ends.
-pub fn join_curves(a: Curve, b: Curve) -> Joined
+// Joins two curves, the second moved to where the first ends; none if the joined span is none (26).
+pub fn join_curves(a: Curve, b: Curve) -> Option<Curve>
     ensures { result ≡ join_curves a b }
 {
     let k = Curve {
@@ -74,7 +60,7 @@ pub fn join_curves(a: Curve, b: Curve) -> Joined
         t1: b.t1 + (a.t1 - b.t0),
     };
     if k.is_span() {
-        return Joined::Whole(k);
+        return Some(k);
     }
-    Joined::Refused
+    None
 }

@@ -1,4 +1,8 @@
 -- The answer of a cut and the pattern after it, from what the parts of the code give.
+use Rattle.edge.specs.declared.EdgeID.{EdgeID}
+use Rattle.errors.specs.declared.CallError.{CallError}
+use Rattle.errors.specs.declared.CallError.TheVariants.{Refused, Unread}
+use Rattle.std.specs.Prelude.{Err, None, Ok, Option, Some}
 use Prim.Native.Nat.{◌+◌, ◌-◌, ◌<◌, ◌≤◌, ℕ}
 use mathlib.Core.Bool.{Bool, ◌&&◌, false, not, true, true≢false}
 use mathlib.Core.List.{List, [], ◌++◌, ◌∷◌, map}
@@ -8,25 +12,20 @@ use lib.Dec.{leb, ltb}
 use lib.ListN.{get_or-append, get_or, length, length-map, replicate, take}
 use borrow.Author.Tests.{leb-true, ltb-true}
 use Rattle.curve.specs.Curves.{cut_curve}
-use Rattle.curve.specs.declared.Halves.{Halves}
-use Rattle.curve.specs.declared.Halves.TheVariants.{Both, Refused}
 use Rattle.curve.specs.declared.Parameter.{Parameter}
 use Rattle.cut_edge.proofs.Wires.{cuts_has, cuts_long, each_same, uses_flagged}
 use Rattle.cut_edge.specs.Cutting.{cut_stored}
 use Rattle.cut_edge_wires.specs.Halves.{cut_flagged}
 use Rattle.cut_edge_faults.specs.Flags.{cuts_where, uses_where}
 use Rattle.cut_edge_faults.specs.Judgement.{found_faults, judgement}
-use Rattle.cut_edge_faults.specs.declared.Judgement.TheVariants.{Accepted, Not as Jdg-as-Not}
 use Rattle.edge.specs.Edges.{back_number, front_number}
 use Rattle.edge.specs.Uses.{edge_number}
 use Rattle.edge.specs.declared.Curve.{Curve}
 use Rattle.edit_answers.specs.Answers.{judged}
-use Rattle.edit_answers.specs.declared.CutAnswer.TheVariants.{Cut, Not as Rfs, Refused as Ref}
 use Rattle.edit_answers.specs.declared.EditError.{EditError}
 use Rattle.edit_answers.specs.declared.EditError.TheVariants.{CurveRefuses, EdgeNotInShell, NoSpace, SharedFace, Unnamed, VertexInShell}
 use Rattle.errors.proofs.Laws.{none_left, none_right, unless_passes}
 use Rattle.errors.specs.Faults.{first}
-use Rattle.errors.specs.declared.Check.TheVariants.{Refused as Check-as-Refused}
 use Rattle.errors.specs.declared.Refusal.{Refusal}
 use Rattle.lists.proofs.Flat.{get_d_tabulate}
 use Rattle.lists.proofs.Laws.{left_true, length_split, length_tabulate, map_tabulate, map_take, right_true}
@@ -47,22 +46,22 @@ use Rattle.wire.specs.Wires.{points}
 
 -- the checks refuse, or a number names nothing
 module _ {ℓ} {A : Type ℓ} (refused : Refusal → A) (refuse : EditError → A) (done : A) where
-  pub judged_refused : (fs : List Refusal) (es : List EditError) (f : Refusal) → first fs ≡ Check-as-Refused f → refused f ≡ judged fs es refused refuse done
+  judged_refused : (fs : List Refusal) (es : List EditError) (f : Refusal) → first fs ≡ Err f → refused f ≡ judged fs es refused refuse done
   judged_refused [] es f h = cc
   judged_refused (g ∷ fs) es f h = let e : f ≡ g = cc in ap refused e
 
-  judgement_judged : (es : List EditError) (h : Halves) (x : EditError) → (es ≡ [] → is_cut h ≡ true) → judgement es h ≡ Jdg-as-Not x → refuse x ≡ judged [] es refused refuse done
+  judgement_judged : (es : List EditError) (h : Option (Curve × Curve)) (x : EditError) → (es ≡ [] → is_cut h ≡ true) → judgement es h ≡ Err x → refuse x ≡ judged [] es refused refuse done
   judgement_judged (y ∷ es) h x some j = let s : x ≡ y = cc in ap refuse s
-  judgement_judged [] (Both k l) x some j = cc
-  judgement_judged [] Refused x some j = absurd (true≢false (sym (some refl)))
+  judgement_judged [] (Some (k, l)) x some j = cc
+  judgement_judged [] None x some j = absurd (true≢false (sym (some refl)))
 
 -- accepted: no refusal, and the halves
-pub accepted_are : (es : List EditError) (h : Halves) (k l : Curve) → judgement es h ≡ Accepted k l → (es ≡ []) × (h ≡ Both k l)
+pub accepted_are : (es : List EditError) (h : Option (Curve × Curve)) (k l : Curve) → judgement es h ≡ Ok (k, l) → (es ≡ []) × (h ≡ Some (k, l))
 accepted_are (x ∷ es) h k l j = (cc, cc)
-accepted_are [] (Both m n) k l j = (refl, cc)
-accepted_are [] Refused k l j = (refl, cc)
+accepted_are [] (Some (m, n)) k l j = (refl, cc)
+accepted_are [] None k l j = (refl, cc)
 
-module _ (shared met : Bool) (cuts : ℕ) (h : Halves) (edges uses : ℕ) (none : found_faults shared met cuts h edges uses ≡ []) where
+module _ (shared met : Bool) (cuts : ℕ) (h : Option (Curve × Curve)) (edges uses : ℕ) (none : found_faults shared met cuts h edges uses ≡ []) where
   abbrev three : List EditError
   three = unless (not shared) SharedFace ++ unless (not met) VertexInShell ++ unless (ltb 0 cuts) EdgeNotInShell
 
@@ -81,13 +80,25 @@ module _ (shared met : Bool) (cuts : ℕ) (h : Halves) (edges uses : ℕ) (none 
     leb-true (uses + cuts) 4096 (right_true (leb (edges + 2) 1024) (leb (uses + cuts) 4096) has_room),
   )
 
-all_faults : (named shared met met' edge : Bool) (cuts : ℕ) (h : Halves) (edges edges' total uses : ℕ)
+all_faults : (named shared met met' edge : Bool) (cuts : ℕ) (h : Option (Curve × Curve)) (edges edges' total uses : ℕ)
     → named ≡ true → met ≡ met' → edge ≡ ltb 0 cuts → edges ≡ edges' → total ≡ uses + cuts
     → unless named Unnamed ++ later_faults shared met edge h (edges + 2) total ≡ found_faults shared met' cuts h edges' uses
 all_faults named shared met met' edge cuts h edges edges' total uses n m e a t = rw (n, m, e, a, t)
 
-same_numbers : (x y z w : ℕ) → z ≡ x → w ≡ y → Cut (record { 0 = x }) (record { 0 = y }) ≡ Cut (record { 0 = z }) (record { 0 = w })
-same_numbers x y z w e f = rw (e, f)
+numbers_are : (x y : EdgeID) (a b : ℕ) → x.0 ≡ a → y.0 ≡ b → ◌≡◌ {A = EdgeID × EdgeID} (record { 0 = a }, record { 0 = b }) (x, y)
+numbers_are x y a b e f = rw (← e, ← f)
+
+-- ---- refused, the answer and the pattern as it was
+
+abbrev pub Left : Pattern → ℕ → ℕ → ℕ → Parameter → CallError EditError → Type 0
+Left p n e v at x = (Err x ≡ cut_answer p n e v at) × (p ≡ after_cut p n e v at)
+
+pub cut_unread : (p : Pattern) (n e v : ℕ) (at : Parameter) (f : Refusal) → first (pattern_faults p) ≡ Err f → Left p n e v at (Unread f)
+cut_unread p n e v at f h =
+    let es = cut_faults (content p) n e v at in (
+      judged_refused (λ x. Err (Unread x)) (λ x. Err (Refused x)) (Ok (next_edge p 0, next_edge p 1)) (pattern_faults p) es f h,
+      judged_refused (λ x. p) (λ x. p) (stored_in p (cut_content (content p) n e v at)) (pattern_faults p) es f h,
+    )
 
 -- ---- a pattern without fault
 
@@ -140,7 +151,7 @@ module _ (p : Pattern) (s : Fine p) (n e v : ℕ) (at : Parameter) where
   abbrev named : Bool
   named = ltb n (get_or p.counts 5 0) && ltb e a && ltb v (get_or p.counts 0 0)
 
-  abbrev halves : Halves
+  abbrev halves : Option (Curve × Curve)
   halves = cut_curve (edge_at (content p) e).curve at
 
   abbrev later : List EditError
@@ -156,8 +167,8 @@ module _ (p : Pattern) (s : Fine p) (n e v : ℕ) (at : Parameter) where
   past {ℓ} : {A : Type ℓ} (refused : Refusal → A) (refuse : EditError → A) (done : A) → judged [] faults refused refuse done ≡ judged (pattern_faults p) faults refused refuse done
   past refused refuse done = ap (λ (fs : List Refusal). judged fs faults refused refuse done) (sym s.ok)
 
-  pub unnamed {ℓ} : {A : Type ℓ} (refused : Refusal → A) (refuse : EditError → A) (done : A) → named ≡ false → refuse Unnamed ≡ judged (pattern_faults p) faults refused refuse done
-  unnamed refused refuse done h = let no = named_is ∙ h in let is : refuse Unnamed ≡ judged [] faults refused refuse done = sym (rw no) in is ∙ past refused refuse done
+  pub unnamed : named ≡ false → Left p n e v at (Refused Unnamed)
+  unnamed h = let no = named_is ∙ h in (rw (s.ok, no), rw (s.ok, no))
 
   pub names : named ≡ true → (n < get_or p.counts 5 0) × (e < a) × (v < get_or p.counts 0 0)
   names h =
@@ -182,22 +193,25 @@ module _ (p : Pattern) (s : Fine p) (n e v : ℕ) (at : Parameter) where
         let r = later_room (shares_face (content p) n) met (cuts_where flags e 0 wires) halves a uses (sym faults_are ∙ none) in
         (r.0, omega (arith, r.1, size_is))
 
-    pub refused_not {ℓ} : {A : Type ℓ} (refused : Refusal → A) (refuse : EditError → A) (done : A) (x : EditError) → judgement faults halves ≡ Jdg-as-Not x → refuse x ≡ judged (pattern_faults p) faults refused refuse done
-    refused_not refused refuse done x j = judgement_judged refused refuse done faults halves x some_cut j ∙ past refused refuse done
+    module _ {x : EditError} (j : judgement faults halves ≡ Err x) where
+      not_is {ℓ} : {A : Type ℓ} (refused : Refusal → A) (refuse : EditError → A) (done : A) → refuse x ≡ judged (pattern_faults p) faults refused refuse done
+      not_is refused refuse done = judgement_judged refused refuse done faults halves x some_cut j ∙ past refused refuse done
+
+      pub refused_not : Left p n e v at (Refused x)
+      refused_not = (not_is (λ y. Err (Unread y)) (λ y. Err (Refused y)) (Ok (next_edge p 0, next_edge p 1)), not_is (λ y. p) (λ y. p) (stored_in p (cut_content (content p) n e v at)))
 
   module _ (none : faults ≡ []) where
     done_is {ℓ} : {A : Type ℓ} (refused : Refusal → A) (refuse : EditError → A) (done : A) → done ≡ judged (pattern_faults p) faults refused refuse done
     done_is refused refuse done = ap (λ (es : List EditError). judged [] es refused refuse done) (sym none) ∙ past refused refuse done
 
-    pub answer_cut : Cut (record { 0 = a }) (record { 0 = a + 1 }) ≡ cut_answer p n e v at
+    pub answer_cut : Ok (record { 0 = a }, record { 0 = a + 1 }) ≡ cut_answer p n e v at
     answer_cut =
-        let z : length (content p).edges + 0 ≡ a = omega (arith, edges_counted p s.limits s.full) in
-        let o : length (content p).edges + 1 ≡ a + 1 = omega (arith, edges_counted p s.limits s.full) in
-        same_numbers a (a + 1) (length (content p).edges + 0) (length (content p).edges + 1) z o ∙ done_is Ref Rfs (Cut (next_edge p 0) (next_edge p 1))
+        let both = numbers_are (next_edge p 0) (next_edge p 1) a (a + 1) (omega (arith, edges_counted p s.limits s.full)) (omega (arith, edges_counted p s.limits s.full)) in
+        ap Ok both ∙ done_is (λ x. Err (Unread x)) (λ x. Err (Refused x)) (Ok (next_edge p 0, next_edge p 1))
 
     -- the storage, from what the code stores
-    pub pattern_cut : (k l : Curve) → halves ≡ Both k l
-        → cut_stored p (half_edges (edge_at (content p) e) v (Both k l)) (cut_wires (content p) n e) ≡ after_cut p n e v at
+    pub pattern_cut : (k l : Curve) → halves ≡ Some (k, l)
+        → cut_stored p (half_edges (edge_at (content p) e) v (Some (k, l))) (cut_wires (content p) n e) ≡ after_cut p n e v at
     pattern_cut k l h =
-        ap (λ (x : Halves). cut_stored p (half_edges (edge_at (content p) e) v x) (cut_wires (content p) n e)) (sym h)
+        ap (λ (x : Option (Curve × Curve)). cut_stored p (half_edges (edge_at (content p) e) v x) (cut_wires (content p) n e)) (sym h)
         ∙ done_is (λ (f : Refusal). p) (λ (x : EditError). p) (stored_in p (cut_content (content p) n e v at))

@@ -1,4 +1,6 @@
 -- The cut of a pattern that is in the store.
+use Rattle.errors.specs.declared.CallError.TheVariants.{Refused}
+use Rattle.std.specs.Prelude.{Err, Ok, Option, Result, Some}
 use Prim.Native.Nat.{ℕ, suc, zero, ◌+◌, ◌-◌, ◌<◌, ◌≤◌}
 use mathlib.Core.Bool.{Bool, ◌&&◌, true}
 use mathlib.Core.List.{List, [], ◌∷◌, map}
@@ -11,25 +13,18 @@ use lib.ListN.{get_or, length, length-map, length-replicate, replicate, set, tak
 use lib.Seq.{length-sets, length-take-le, sets}
 use borrow.Author.Tests.{lt-ltb}
 use Rattle.curve.specs.Curves.{cut_curve}
-use Rattle.curve.specs.declared.Halves.{Halves}
-use Rattle.curve.specs.declared.Halves.TheVariants.{Both}
 use Rattle.curve.specs.declared.Parameter.{Parameter}
-use Rattle.cut_edge.proofs.Answer.{accepted_are, answer_cut, faults_are, pattern_cut, refused_not, rooms, wires_are}
+use Rattle.cut_edge.proofs.Answer.{Left, accepted_are, answer_cut, faults_are, pattern_cut, refused_not, rooms, wires_are}
 use Rattle.cut_edge.proofs.Stored.{back_low, cut_stored_lem, cut_tables, edge_at_lem, extended, front_low, new_halved, new_named}
 use Rattle.cut_edge.specs.Cutting.{cut_in, cut_stored, with_halves}
 use Rattle.cut_edge_faults.specs.Flags.{cuts_where, uses_where}
 use Rattle.cut_edge_faults.specs.Judgement.{found_faults, judgement}
-use Rattle.cut_edge_faults.specs.declared.Judgement.{Judgement}
-use Rattle.cut_edge_faults.specs.declared.Judgement.TheVariants.{Accepted, Not as Judgement-as-Not}
 use Rattle.cut_edge_wires.specs.Halves.{Halved, cut_flagged}
 use Rattle.edge.proofs.Laws.{no_edge}
 use Rattle.edge.specs.Edges.{back_number, edge, front_number}
 use Rattle.edge.specs.declared.Curve.{Curve}
 use Rattle.edge.specs.declared.Edge.{Edge}
-use Rattle.edit_answers.specs.Answers.{judged}
-use Rattle.edit_answers.specs.declared.CutAnswer.TheVariants.{Cut}
 use Rattle.edit_answers.specs.declared.EditError.{EditError}
-use Rattle.errors.specs.declared.Refusal.{Refusal}
 use Rattle.lists.proofs.Flat.{get_d_tabulate}
 use Rattle.lists.proofs.Laws.{length_split}
 use Rattle.lists.proofs.Sets.{take_sets}
@@ -63,7 +58,7 @@ map_set {B = B} f (y ∷ l) (suc i) x = ap (λ (r : List B). f y ∷ r) (map_set
 pub halves_view : (t : List ℕ) (spans : List Float) (p₁ p₂ : Pattern) (a e : ℕ) (v : VertexID) (k l : Curve) (i : ℕ) (d h₁ h₂ : Edge)
     → i ≡ e → d ≡ edge_in t spans i → h₁ ≡ edge d.front v k → h₂ ≡ edge v d.back l
     → p₁ ≡ with_edges (held t spans) (set (held t spans).edges a h₁) → p₂ ≡ with_edges p₁ (set p₁.edges (a + 1) h₂)
-    → p₂ ≡ with_halves (held t spans) a (half_edges (edge_in t spans e) v.0 (Both k l))
+    → p₂ ≡ with_halves (held t spans) a (half_edges (edge_in t spans e) v.0 (Some (k, l)))
 halves_view t spans p₁ p₂ a e v k l i d h₁ h₂ hi hd e₁ e₂ s₁ s₂ = s₂ ∙ rw (s₁, e₁, e₂, hd, hi, add-one a)
 
 -- the stores of a cut one after the other
@@ -159,12 +154,12 @@ module _ {t : List ℕ} {spans : List Float} (sound : Sound t spans) where
     abbrev faults : List EditError
     faults = cut_faults (content P) n e v at
 
-    abbrev halves : Halves
+    abbrev halves : Option (Curve × Curve)
     halves = cut_curve (edge_at (content P) e).curve at
 
     -- refused by the judgement
-    pub held_refused {ℓ} : {A : Type ℓ} (refused : Refusal → A) (refuse : EditError → A) (done : A) {x : EditError} → judgement faults halves ≡ Judgement-as-Not x → refuse x ≡ judged (pattern_faults P) faults refused refuse done
-    held_refused refused refuse done {x} j = refused_not P sound_fine n e v at held_here refused refuse done x j
+    pub held_refused : {x : EditError} → judgement faults halves ≡ Err x → Left P n e v at (Refused x)
+    held_refused j = refused_not P sound_fine n e v at held_here j
 
     pub held_after : pattern_faults (after_cut P n e v at) ≡ []
     held_after = cut_pattern_accepted P n e v at sound.ok sound_fine.full
@@ -179,7 +174,7 @@ module _ {t : List ℕ} {spans : List Float} (sound : Sound t spans) where
             let r = held_rooms in
             rw (hc, hu, hw, hf, hb) ((r.0, r.1, r.2, omega (arith, r.3), r.3, r.4, r.5, r.6), (held_named, held_sum))
 
-        pub held_judged : {h : Halves} {d : Edge} → d ≡ edge_at (content P) e → h ≡ cut_curve d.curve at → {r : Judgement}
+        pub held_judged : {h : Option (Curve × Curve)} {d : Edge} → d ≡ edge_at (content P) e → h ≡ cut_curve d.curve at → {r : Result (Curve × Curve) EditError}
             → r ≡ judgement (found_faults m.shared (has v (points (take (get_or counts 1 0) fronts) (take (get_or counts 1 0) backs) (uses_where m.wires 0 (split (take (get_or counts 3 0) wires) (take (get_or counts 2 0) uses))))) (cuts_where m.wires e 0 (split (take (get_or counts 3 0) wires) (take (get_or counts 2 0) uses))) h (get_or counts 1 0) (get_or counts 2 0)) h
             → r ≡ judgement faults halves
         held_judged is cut j = j ∙ rw (marked, cut, is, hc, hu, hw, hf, hb, held_fronts t spans sound.long, held_backs t spans sound.long, faults_are P sound_fine n e v at held_here)
@@ -188,24 +183,24 @@ module _ {t : List ℕ} {spans : List Float} (sound : Sound t spans) where
       held_cut = rw (marked, wires_are P sound_fine n e v at)
 
       -- accepted by the judgement
-      module _ {k l : Curve} (accepted : judgement faults halves ≡ Accepted k l) where
-        parts : (faults ≡ []) × (halves ≡ Both k l)
+      module _ {k l : Curve} (accepted : judgement faults halves ≡ Ok (k, l)) where
+        parts : (faults ≡ []) × (halves ≡ Some (k, l))
         parts = accepted_are faults halves k l accepted
 
         pub accepted_room : (a + 2 ≤ 1024) × (length (flat (cut_in m.wires e t)) ≤ 4096)
         accepted_room = rw held_cut (rooms P sound_fine n e v at held_here parts.0)
 
-        pub accepted_answer : Cut (record { 0 = a }) (record { 0 = a + 1 }) ≡ cut_answer P n e v at
+        pub accepted_answer : Ok (record { 0 = a }, record { 0 = a + 1 }) ≡ cut_answer P n e v at
         accepted_answer = answer_cut P sound_fine n e v at parts.0
 
-        pub accepted_pattern : cut_stored P (half_edges (edge_in t spans e) v (Both k l)) (cut_in m.wires e t) ≡ after_cut P n e v at
+        pub accepted_pattern : cut_stored P (half_edges (edge_in t spans e) v (Some (k, l))) (cut_in m.wires e t) ≡ after_cut P n e v at
         accepted_pattern =
-            ap (λ (d : Edge). cut_stored P (half_edges d v (Both k l)) (cut_in m.wires e t)) (held_edge_at e here.edge)
+            ap (λ (d : Edge). cut_stored P (half_edges d v (Some (k, l))) (cut_in m.wires e t)) (held_edge_at e here.edge)
             ∙ rw held_cut (pattern_cut P sound_fine n e v at parts.0 k l parts.1)
 
   -- the halves of edge e stored after the edges, with the counts as they were read
   module _ (e : ℕ) (v : VertexID) (k l : Curve) (here : e < a) (point : v.0 < get_or (count_table t) 0 0) (room : a + 2 ≤ 1024) {counts : List ℕ} (hc : counts ≡ count_table t)
-      (t₂ : List ℕ) (spans₂ : List Float) (long₂ : length t₂ ≡ 12312) (stored : held t₂ spans₂ ≡ with_halves P (get_or counts 1 0) (half_edges (edge_in t spans e) v.0 (Both k l))) where
+      (t₂ : List ℕ) (spans₂ : List Float) (long₂ : length t₂ ≡ 12312) (stored : held t₂ spans₂ ≡ with_halves P (get_or counts 1 0) (half_edges (edge_in t spans e) v.0 (Some (k, l)))) where
     abbrev h₁ : Edge
     h₁ = edge (edge_in t spans e).front v k
 

@@ -1,4 +1,5 @@
 -- The flags and the wires of a shell: what is said by flags is what the definitions say.
+use Rattle.std.specs.Prelude.{None, Option, Some}
 use Prim.Native.Nat.{◌+◌, ◌<◌, suc, zero, ℕ}
 use mathlib.Core.Bool.{Bool, ◌&&◌, ◌||◌, false, or-true, true, true≢false}
 use mathlib.Core.List.{List, [], ◌++◌, ◌∷◌, map, map-append}
@@ -19,8 +20,6 @@ use Rattle.lists.proofs.Laws.{cases, has_append, left_true, right_true}
 use Rattle.lists.specs.Lists.{flat, has, pick}
 use Rattle.shell_edits.specs.Edits.{cut_wire, each_wire, halves_of, swap_found}
 use Rattle.wire.specs.Wires.{find_from}
-use Rattle.wire.specs.declared.Found.{Found}
-use Rattle.wire.specs.declared.Found.TheVariants.{At, Nothing}
 
 both_ways : (a b : Bool) → (a ≡ true → b ≡ true) → (b ≡ true → a ≡ true) → a ≡ b
 both_ways true b f g = sym (f refl)
@@ -100,9 +99,9 @@ module _ (flags : List Bool) (f : ℕ → ℕ) (v : ℕ) where
 -- ---- what the cut does to the number of uses
 
 module _ (e a : ℕ) (us : List ℕ) where
-  swapped_long : (f : Found) → f ≡ find_from 0 e us → length (swap_found a us f) ≡ length us + bit (is_at f)
-  swapped_long Nothing h = omega arith
-  swapped_long (At j) h =
+  swapped_long : (f : Option ℕ) → f ≡ find_from 0 e us → length (swap_found a us f) ≡ length us + bit (is_at f)
+  swapped_long None h = omega arith
+  swapped_long (Some j) h =
       let new = halves_of a (get_or us j 0) in
       omega (arith, (found_at 0 e us j (sym h)).high, length-append (take j us) (new ++ drop (suc j) us), length-append new (drop (suc j) us), halves_long a (get_or us j 0), length-take j us, length-drop (suc j) us)
 

@@ -1,10 +1,8 @@
 // Cutting an edge of a shell, in the store (the Rust's Shell::cut_edge).
 #![tactic(auto)]
 
-ghost use Rattle.std.specs.Prelude.{[], ◌≡◌, ◌+◌, ◌<◌, ◌≤◌, get_or, length};
+ghost use Rattle.std.specs.Prelude.{[], Some, ◌≡◌, ◌+◌, ◌<◌, ◌≤◌, get_or, length};
 ghost use Rattle.lists.specs.Lists.{flat};
-ghost use Rattle.curve.specs.declared.Halves.TheVariants.{Both};
-ghost use Rattle.edit_answers.specs.declared.CutAnswer.TheVariants.{Cut};
 ghost use Rattle.pattern.specs.Checks.{pattern_faults};
 ghost use Rattle.shell_edits.specs.Answers.{after_cut, cut_answer};
 ghost use Rattle.shell_edits.specs.NewEdges.{half_edges};
@@ -12,11 +10,11 @@ ghost use Rattle.store.specs.Store.{count_table, edge_in, held};
 ghost use Rattle.cut_edge.specs.Cutting.{cut_in, cut_stored, with_halves};
 
 use curve::{Parameter, cut_curve};
-use cut_edge_faults::{Judgement, all_named, judge_cut};
+use cut_edge_faults::{all_named, judge_cut};
 use cut_edge_wires::put_cut_wires;
 use edge::{Curve, Edge, EdgeID};
-use edit_answers::{CutAnswer, EditError};
-use errors::Check;
+use edit_answers::EditError;
+use errors::CallError;
 use shell_wires::mark_wires;
 use store::{
     Spans, Tables, backs_in, counts_in, edge_in, faces_in, fronts_in, listings_in, shells_in,
@@ -37,7 +35,7 @@ fn store_halves(
     l: Curve,
 )
     requires { (a + 2 ≤ 1024) × (e.0 < 1024) }
-    ensures { held t.new spans.new ≡ with_halves (held t.old spans.old) a (half_edges (edge_in t.old spans.old e.0) v.0 (Both k l)) }
+    ensures { held t.new spans.new ≡ with_halves (held t.old spans.old) a (half_edges (edge_in t.old spans.old e.0) v.0 (Some (k, l))) }
 {
     let d = edge_in(t, spans, index(e.0));
     let front = d.front;
@@ -56,11 +54,11 @@ fn store_cut(
     v: VertexID,
     k: Curve,
     l: Curve,
-) -> CutAnswer
+) -> (EdgeID, EdgeID)
     requires spans_value { (pattern_faults (held t.old spans.old) ≡ []) × (e.0 < get_or (count_table t.old) 1 0) × (v.0 < get_or (count_table t.old) 0 0) × (length flags.now ≡ 1024) }
     requires t_bound { (get_or (count_table t.old) 1 0 + 2 ≤ 1024) × (length (flat (cut_in flags.now e.0 t.old)) ≤ 4096) }
-    ensures value { result ≡ Cut (record { 0 = get_or (count_table t.old) 1 0 }) (record { 0 = get_or (count_table t.old) 1 0 + 1 }) }
-    ensures spans_after { held t.new spans.new ≡ cut_stored (held t.old spans.old) (half_edges (edge_in t.old spans.old e.0) v.0 (Both k l)) (cut_in flags.now e.0 t.old) }
+    ensures value { result ≡ (record { 0 = get_or (count_table t.old) 1 0 }, record { 0 = get_or (count_table t.old) 1 0 + 1 }) }
+    ensures spans_after { held t.new spans.new ≡ cut_stored (held t.old spans.old) (half_edges (edge_in t.old spans.old e.0) v.0 (Some (k, l))) (cut_in flags.now e.0 t.old) }
 {
     tables_known(t);
     let counts = counts_in(t);
@@ -87,7 +85,7 @@ fn store_cut(
     store_count(t, 1, (a + 2) as u16);
     store_count(t, 2, total as u16);
     let first = a as u16;
-    CutAnswer::Cut(EdgeID(first), EdgeID(first + 1))
+    (EdgeID(first), EdgeID(first + 1))
 }
 
 // Cuts edge e of shell n, all of whose numbers name something: 27, 14, 15, 16, 17.
@@ -98,7 +96,7 @@ fn cut_named(
     e: EdgeID,
     v: VertexID,
     at: Parameter,
-) -> CutAnswer
+) -> Result<(EdgeID, EdgeID), CallError<EditError>>
     requires spans_value { pattern_faults (held t.old spans.old) ≡ [] }
     requires n_bound { (n < get_or (count_table t.old) 5 0) × (e.0 < get_or (count_table t.old) 1 0) × (v.0 < get_or (count_table t.old) 0 0) }
     ensures value { result ≡ cut_answer (held t.old spans.old) n e.0 v.0 at }
@@ -110,7 +108,7 @@ fn cut_named(
     let marks = mark_wires(counts, faces_in(t), shells_in(t), listings_in(t), n);
     let d = edge_in(t, spans, index(e.0));
     let curve = d.curve;
-    let judged = judge_cut(
+    let (k, l) = judge_cut(
         uses_in(t),
         counts[2],
         wires_in(t),
@@ -123,11 +121,8 @@ fn cut_named(
         e,
         v,
         cut_curve(curve, at),
-    );
-    match judged {
-        Judgement::Not(x) => CutAnswer::Not(x),
-        Judgement::Accepted(k, l) => store_cut(t, spans, &marks.wires, e, v, k, l),
-    }
+    )?;
+    Ok(store_cut(t, spans, &marks.wires, e, v, k, l))
 }
 
 // Cuts edge e of shell n of the pattern in the store at vertex v, where the search put it. Refused, the
@@ -139,22 +134,16 @@ pub fn cut_edge(
     e: EdgeID,
     v: VertexID,
     at: Parameter,
-) -> CutAnswer
+) -> Result<(EdgeID, EdgeID), CallError<EditError>>
     ensures value { result ≡ cut_answer (held t.old spans.old) n e.0 v.0 at }
     ensures spans_after { held t.new spans.new ≡ after_cut (held t.old spans.old) n e.0 v.0 at }
     ensures spans_after_2 { pattern_faults (held t.old spans.old) ≡ [] → pattern_faults (held t.new spans.new) ≡ [] }
 {
-    let checked = check(t, spans);
-    match checked {
-        Check::Refused(f) => {
-            return CutAnswer::Refused(f);
-        }
-        Check::Accepted => {}
-    }
+    check(t, spans)?;
     tables_known(t);
     let counts = counts_in(t);
     if !all_named(n, counts[5], e, counts[1], v, counts[0]) {
-        return CutAnswer::Not(EditError::Unnamed);
+        return Err(CallError::Refused(EditError::Unnamed));
     }
     cut_named(t, spans, n, e, v, at)
 }

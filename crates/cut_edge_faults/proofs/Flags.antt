@@ -1,4 +1,5 @@
 -- Loops over the wires: what is left to do, wire by wire.
+use Rattle.std.specs.Prelude.{None, Option, Some}
 use Prim.Native.Nat.{◌+◌, ◌-◌, ◌<◌, ◌≤◌, suc, ℕ}
 use mathlib.Core.Bool.{Bool, ◌&&◌, ◌||◌, false, not, true, true≢false}
 use mathlib.Core.List.{List, [], ◌++◌, ◌∷◌, map, map-append}
@@ -18,8 +19,6 @@ use Rattle.lists.proofs.Split.{Walk, walk_next, walk_part, walk_start}
 use Rattle.lists.specs.Lists.{flat, has, pick, split}
 use Rattle.shell_edits.specs.Edits.{each_wire, place_in}
 use Rattle.wire.specs.Wires.{find_from}
-use Rattle.wire.specs.declared.Found.{Found}
-use Rattle.wire.specs.declared.Found.TheVariants.{At, Nothing}
 
 -- the walk at wire k, which has n uses from place `at` on
 module _ (lens uses : List ℕ) (k at n : ℕ) (s : Walk lens k at) where
@@ -61,9 +60,9 @@ module _ (f : ℕ → ℕ) (p : ℕ) (us : List ℕ) (i : ℕ) where
   scan_next h e = rw (drop-cons {A = ℕ} us i 0 h, ne_eqb p (f (get_or us i 0)) e, add-one)
 
 -- whether a search found a use
-abbrev pub is_at : Found → Bool
-is_at Nothing = false
-is_at (At i) = true
+abbrev pub is_at : Option ℕ → Bool
+is_at None = false
+is_at (Some i) = true
 
 pub found_has : (i e : ℕ) (us : List ℕ) → is_at (find_from i e us) ≡ has e (map edge_number us)
 unfolding find_from has
@@ -80,7 +79,7 @@ pub record FoundAt (i e : ℕ) (us : List ℕ) (j : ℕ) : Type 0 where
   pub high : j < i + length us
   pub is : edge_number (get_or us (j - i) 0) ≡ e
 
-pub found_at : (i e : ℕ) (us : List ℕ) (j : ℕ) → find_from i e us ≡ At j → FoundAt i e us j
+pub found_at : (i e : ℕ) (us : List ℕ) (j : ℕ) → find_from i e us ≡ Some j → FoundAt i e us j
 unfolding find_from
 found_at i e [] j h = absurd (true≢false (sym (ap is_at h)))
 found_at i e (u ∷ us) j h =
@@ -176,9 +175,9 @@ module _ (b : Bool) where
   pub cuts_off : (x : Bool) → not b ≡ true → (0 ≡ bit (b && x)) × (0 ≤ 1)
   cuts_off x h = (sym (rw (not-true b h)), omega arith)
 
-  module _ (e : ℕ) (us : List ℕ) {f : Found} (h : not b ≡ false) (found : f ≡ find_from 0 e us) where
-    pub cuts_at : {j : ℕ} → f ≡ At j → (1 ≡ bit (b && has e (map edge_number us))) × (1 ≤ 1)
+  module _ (e : ℕ) (us : List ℕ) {f : Option ℕ} (h : not b ≡ false) (found : f ≡ find_from 0 e us) where
+    pub cuts_at : {j : ℕ} → f ≡ Some j → (1 ≡ bit (b && has e (map edge_number us))) × (1 ≤ 1)
     cuts_at a = (sym (rw (not-false b h, ← found_has 0 e us, ← found, a)), omega arith)
 
-    pub cuts_nothing : f ≡ Nothing → (0 ≡ bit (b && has e (map edge_number us))) × (0 ≤ 1)
+    pub cuts_nothing : f ≡ None → (0 ≡ bit (b && has e (map edge_number us))) × (0 ≤ 1)
     cuts_nothing a = (sym (rw (not-false b h, ← found_has 0 e us, ← found, a)), omega arith)

@@ -10,19 +10,11 @@ ghost use Rattle.wire.specs.Wires.{points};
 ghost use Rattle.cut_edge_faults.specs.Flags.{cuts_where, uses_where};
 ghost use Rattle.cut_edge_faults.specs.Judgement.{found_faults, judgement};
 
-use curve::Halves;
 use edge::{Curve, EdgeID, front_of};
 use edit_answers::EditError;
 use vertex::VertexID;
-use wire::{Found, find_use};
+use wire::find_use;
 use words::index;
-
-// The halves of the edge's curve, or the refusal.
-#[derive(Clone, Copy)]
-pub enum Judgement {
-    Accepted(Curve, Curve),
-    Not(EditError),
-}
 
 // Whether a wire is flagged and meets a vertex.
 fn wire_meets(uses: &[u16], flag: bool, fronts: &[u16], backs: &[u16], v: VertexID) -> bool
@@ -33,12 +25,10 @@ fn wire_meets(uses: &[u16], flag: bool, fronts: &[u16], backs: &[u16], v: Vertex
         return false;
     }
     let p = index(v.0);
-    let mut i: usize = 0;
-    while i < uses.len() {
-        if p == front_of(uses[i], fronts, backs) {
+    for u in uses {
+        if p == front_of(*u, fronts, backs) {
             return true;
         }
-        i += 1;
     }
     false
 }
@@ -57,14 +47,12 @@ fn meets_vertex(
     ensures { result ≡ has v.0 (points fronts.now backs.now (uses_where flags.now 0 (split lens.now uses.now))) }
 {
     let mut at: usize = 0;
-    let mut k: usize = 0;
-    while k < lens.len() {
-        let n = index(lens[k]);
+    for (k, len) in lens.iter().enumerate() {
+        let n = index(*len);
         if wire_meets(&uses[at..at + n], flags[k], fronts, backs, v) {
             return true;
         }
         at += n;
-        k += 1;
     }
     false
 }
@@ -76,10 +64,9 @@ fn wire_cuts(uses: &[u16], flag: bool, e: EdgeID) -> usize
     if !flag {
         return 0;
     }
-    let found = find_use(uses, e);
-    match found {
-        Found::At(_) => 1,
-        Found::Nothing => 0,
+    match find_use(uses, e) {
+        Some(_) => 1,
+        None => 0,
     }
 }
 
@@ -90,52 +77,46 @@ fn count_cuts(uses: &[u16], lens: &[u16], flags: &[bool], e: EdgeID) -> usize
 {
     let mut count: usize = 0;
     let mut at: usize = 0;
-    let mut k: usize = 0;
-    while k < lens.len() {
-        let n = index(lens[k]);
+    for (k, len) in lens.iter().enumerate() {
+        let n = index(*len);
         count += wire_cuts(&uses[at..at + n], flags[k], e);
         at += n;
-        k += 1;
     }
     count
 }
 
-// The refusals after 3, from what was found: 27, 14, 15, 16, 17.
+// The refusals after 3, from what was found: 27, 14, 15, 16, 17; or the halves of the edge's curve.
 fn judge(
     shared: bool,
     met: bool,
     cuts: usize,
-    halves: Halves,
+    halves: Option<(Curve, Curve)>,
     ecount: usize,
     ucount: usize,
-) -> Judgement
+) -> Result<(Curve, Curve), EditError>
     requires { (cuts ≤ 1024) × (ecount ≤ 1024) × (ucount ≤ 4096) }
     ensures { result ≡ judgement (found_faults shared met cuts halves ecount ucount) halves }
 {
     if shared {
-        return Judgement::Not(EditError::SharedFace);
+        return Err(EditError::SharedFace);
     }
     if met {
-        return Judgement::Not(EditError::VertexInShell);
+        return Err(EditError::VertexInShell);
     }
     if cuts == 0 {
-        return Judgement::Not(EditError::EdgeNotInShell);
+        return Err(EditError::EdgeNotInShell);
     }
-    match halves {
-        Halves::Refused => Judgement::Not(EditError::CurveRefuses),
-        Halves::Both(k, l) => {
-            if ecount + 2 > 1024 {
-                return Judgement::Not(EditError::NoSpace);
-            }
-            if ucount + cuts > 4096 {
-                return Judgement::Not(EditError::NoSpace);
-            }
-            Judgement::Accepted(k, l)
-        }
+    let both = halves.ok_or(EditError::CurveRefuses)?;
+    if ecount + 2 > 1024 {
+        return Err(EditError::NoSpace);
     }
+    if ucount + cuts > 4096 {
+        return Err(EditError::NoSpace);
+    }
+    Ok(both)
 }
 
-// Judges a cut over the first records of the tables.
+// Judges a cut over the first records of the tables: the halves of the edge's curve, or the refusal.
 pub fn judge_cut<'a, 'b>(
     uses: &'a [u16],
     ucount: usize,
@@ -148,8 +129,8 @@ pub fn judge_cut<'a, 'b>(
     ecount: usize,
     e: EdgeID,
     v: VertexID,
-    halves: Halves,
-) -> Judgement
+    halves: Option<(Curve, Curve)>,
+) -> Result<(Curve, Curve), EditError>
     requires ucount_in_bounds { (ucount ≤ length uses.now) × (ucount ≤ 4096) × (wcount ≤ length wires.now) × (wcount ≤ length flags.now) × (wcount ≤ 1024) × (ecount ≤ length fronts.now) × (ecount ≤ length backs.now) × (ecount ≤ 1024) }
     requires named { Named (take ecount fronts.now) (take ecount backs.now) (take ucount uses.now) }
     requires wires_value { sum (take wcount wires.now) ≡ ucount }

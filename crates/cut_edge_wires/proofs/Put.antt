@@ -1,4 +1,5 @@
 -- The loop that writes the wires after the cut.
+use Rattle.std.specs.Prelude.{None, Option, Some}
 use Prim.Native.Nat.{◌+◌, ◌-◌, ◌<◌, ◌≤◌, suc, ℕ}
 use mathlib.Core.Bool.{Bool, false, true, true≢false}
 use mathlib.Core.List.{List, [], ◌++◌, ◌∷◌, map}
@@ -17,27 +18,25 @@ use Rattle.lists.specs.Lists.{flat, pick, split}
 use Rattle.shell_edits.specs.Edits.{cut_wire, each_wire, halves_of, swap_found}
 use Rattle.wire_swaps.specs.Swaps.{same_ends, swap_edge}
 use Rattle.wire.specs.Wires.{find_from}
-use Rattle.wire.specs.declared.Found.{Found}
-use Rattle.wire.specs.declared.Found.TheVariants.{At, Nothing}
 
 -- ---- one wire
 
-pub flagged_found : (b : Bool) (e a : ℕ) (us : List ℕ) → pick b (cut_wire e a us) us ≡ swap_found a us (pick b (find_from 0 e us) Nothing)
+pub flagged_found : (b : Bool) (e a : ℕ) (us : List ℕ) → pick b (cut_wire e a us) us ≡ swap_found a us (pick b (find_from 0 e us) None)
 flagged_found true e a us = refl
 flagged_found false e a us = refl
 
-pub found_flagged : (b : Bool) (f : Found) {g : Found} → b ≡ true → g ≡ f → g ≡ pick b f Nothing
+pub found_flagged : (b : Bool) (f : Option ℕ) {g : Option ℕ} → b ≡ true → g ≡ f → g ≡ pick b f None
 found_flagged b f t e = e ∙ sym (rw t)
 
-at_found : (b : Bool) (e : ℕ) (us : List ℕ) (i : ℕ) → pick b (find_from 0 e us) Nothing ≡ At i → find_from 0 e us ≡ At i
+at_found : (b : Bool) (e : ℕ) (us : List ℕ) (i : ℕ) → pick b (find_from 0 e us) None ≡ Some i → find_from 0 e us ≡ Some i
 at_found true e us i h = h
 at_found false e us i h = absurd (true≢false (sym (ap is_at h)))
 
-module _ (b : Bool) (e a : ℕ) (us : List ℕ) (f : Found) (is : f ≡ pick b (find_from 0 e us) Nothing) where
-  pub wire_kept : f ≡ Nothing → pick b (cut_wire e a us) us ≡ us
+module _ (b : Bool) (e a : ℕ) (us : List ℕ) (f : Option ℕ) (is : f ≡ pick b (find_from 0 e us) None) where
+  pub wire_kept : f ≡ None → pick b (cut_wire e a us) us ≡ us
   wire_kept h = flagged_found b e a us ∙ rw (← is, h)
 
-  module _ (i : ℕ) (h : f ≡ At i) where
+  module _ (i : ℕ) (h : f ≡ Some i) where
     pub wire_swapped : pick b (cut_wire e a us) us ≡ swap_edge us i (halves_of a (get_or us i 0))
     wire_swapped = flagged_found b e a us ∙ rw (← is, h)
 
@@ -48,7 +47,7 @@ module _ (b : Bool) (e a : ℕ) (us : List ℕ) (f : Found) (is : f ≡ pick b (
     place_edge = let z : i - 0 ≡ i = omega arith in rw z at place_found.is
 
   -- the wire as it is
-  module _ (h : f ≡ Nothing) where
+  module _ (h : f ≡ None) where
     pub kept_room : (at m : ℕ) → at + length (pick b (cut_wire e a us) us) ≤ m → at + length us ≤ m
     kept_room at m l = omega (arith, l, ap length (wire_kept h))
 
@@ -56,7 +55,7 @@ module _ (b : Bool) (e a : ℕ) (us : List ℕ) (f : Found) (is : f ≡ pick b (
     kept_done out out' at w = rw (wire_kept h) (refl, w)
 
   -- the halves in place of a use
-  module _ {i : ℕ} (h : f ≡ At i) {new : List ℕ} (halves : new ≡ halves_of a (get_or us i 0)) where
+  module _ {i : ℕ} (h : f ≡ Some i) {new : List ℕ} (halves : new ≡ halves_of a (get_or us i 0)) where
     swap_long : length (pick b (cut_wire e a us) us) ≡ length us + 1
     swap_long =
         let two = halves_of a (get_or us i 0) in

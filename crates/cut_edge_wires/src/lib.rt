@@ -1,17 +1,16 @@
 // Writing the wires after a cut. The wires of the shell are flags, one for each wire of the pattern.
 #![tactic(auto)]
 
-ghost use Rattle.std.specs.Prelude.{map, ◌≡◌, ◌+◌, ◌<◌, ◌≤◌, length, take};
+ghost use Rattle.std.specs.Prelude.{None, map, ◌≡◌, ◌+◌, ◌<◌, ◌≤◌, length, take};
 ghost use Rattle.std.proofs.lemmas.List.Edits.{sets};
 ghost use Rattle.lists.specs.Lists.{flat, pick, split, sum};
 ghost use Rattle.wire.specs.Named.{Named};
 ghost use Rattle.wire.specs.Wires.{find_from};
-ghost use Rattle.wire.specs.declared.Found.TheVariants.{Nothing};
 ghost use Rattle.shell_edits.specs.Edits.{cut_wire, each_wire, halves_of};
 ghost use Rattle.cut_edge_wires.specs.Halves.{cut_flagged, Halved};
 
 use edge::EdgeID;
-use wire::{Found, find_use};
+use wire::find_use;
 use wire_swaps::swap_edge_into_wire;
 use words::{copy_u16s, index};
 
@@ -28,13 +27,13 @@ fn halves_of(a: u16, u: u16) -> [u16; 2]
 }
 
 // The place of the first use of an edge in a wire, if it is flagged.
-fn find_flagged(uses: &[u16], flag: bool, e: EdgeID) -> Found
-    ensures { result ≡ pick flag (find_from 0 e.0 uses.now) Nothing }
+fn find_flagged(uses: &[u16], flag: bool, e: EdgeID) -> Option<usize>
+    ensures { result ≡ pick flag (find_from 0 e.0 uses.now) None }
 {
     if flag {
         return find_use(uses, e);
     }
-    Found::Nothing
+    None
 }
 
 // Writes a wire from `at` on: if it is flagged, the halves for the first use of the edge. How many
@@ -55,13 +54,12 @@ fn put_wire(
     ensures value { result ≡ length (pick flag (cut_wire e.0 a uses.now) uses.now) }
     ensures out_after { out.new ≡ sets out.old at (pick flag (cut_wire e.0 a uses.now) uses.now) }
 {
-    let found = find_flagged(uses, flag, e);
-    match found {
-        Found::Nothing => {
+    match find_flagged(uses, flag, e) {
+        None => {
             copy_u16s(uses, out, at);
             uses.len()
         }
-        Found::At(i) => {
+        Some(i) => {
             let new = halves_of(a, uses[i]);
             swap_edge_into_wire(uses, i, &new, fronts, backs, out, at);
             uses.len() + 1
@@ -91,9 +89,8 @@ fn put_cut(
 {
     let mut from: usize = 0;
     let mut at: usize = 0;
-    let mut k: usize = 0;
-    while k < lens.len() {
-        let n = index(lens[k]);
+    for (k, len) in lens.iter().enumerate() {
+        let n = index(*len);
         let m = put_wire(
             &uses[from..from + n],
             flags[k],
@@ -107,7 +104,6 @@ fn put_cut(
         sizes[k] = m as u16;
         from += n;
         at += m;
-        k += 1;
     }
     at
 }

@@ -8,8 +8,8 @@ ghost use Rattle.store.specs.Store.{held};
 ghost use Rattle.face_edits.specs.FaceAnswers.{cut_face_answer, cut_face_out};
 
 use cut_face_outline::cut_outline;
-use edit_answers::{FaceAnswer, FaceEditError};
-use errors::Check;
+use edit_answers::FaceEditError;
+use errors::CallError;
 use face_parts::{are_uses, face_part, first_backs, first_fronts, uses_of};
 use store::{Spans, Tables, counts_in, tables_known};
 use store_check::check;
@@ -24,31 +24,25 @@ pub fn cut_by_wire(
     wire: &[u16],
     uses: &mut [u16],
     lens: &mut [u16],
-) -> FaceAnswer
+) -> Result<(usize, usize), CallError<FaceEditError>>
     ensures value { result ≡ cut_face_answer (held t.now spans.now) f wire.now (length uses.old) (length lens.old) }
     ensures uses_after { uses.new ≡ sets uses.old 0 (flat (cut_face_out (held t.now spans.now) f wire.now (length uses.old) (length lens.old))) }
     ensures lens_after { lens.new ≡ sets lens.old 0 (map length (cut_face_out (held t.now spans.now) f wire.now (length uses.old) (length lens.old))) }
 {
     tables_known(t);
-    let answer = check(t, spans);
-    match answer {
-        Check::Refused(r) => {
-            return FaceAnswer::Refused(r);
-        }
-        Check::Accepted => {}
-    }
+    check(t, spans)?;
     let counts = counts_in(t);
     let face = index(f % 32768);
     if face >= counts[4] {
-        return FaceAnswer::Not(FaceEditError::Unnamed);
+        return Err(CallError::Refused(FaceEditError::Unnamed));
     }
     let edges = counts[1];
     if !are_uses(wire, edges) {
-        return FaceAnswer::Not(FaceEditError::Unnamed);
+        return Err(CallError::Refused(FaceEditError::Unnamed));
     }
     let part = face_part(t, face);
     if part.wires != 1 {
-        return FaceAnswer::Not(FaceEditError::NotOneWire);
+        return Err(CallError::Refused(FaceEditError::NotOneWire));
     }
     cut_outline(
         uses_of(t, part),
@@ -58,6 +52,7 @@ pub fn cut_by_wire(
         uses,
         lens,
     )
+    .map_err(CallError::Refused)
 }
 
 // The same by one use.
@@ -68,7 +63,7 @@ pub fn cut_by_edge(
     u: u16,
     uses: &mut [u16],
     lens: &mut [u16],
-) -> FaceAnswer
+) -> Result<(usize, usize), CallError<FaceEditError>>
     ensures value { result ≡ cut_face_answer (held t.now spans.now) f (u ∷ []) (length uses.old) (length lens.old) }
     ensures uses_after { uses.new ≡ sets uses.old 0 (flat (cut_face_out (held t.now spans.now) f (u ∷ []) (length uses.old) (length lens.old))) }
     ensures lens_after { lens.new ≡ sets lens.old 0 (map length (cut_face_out (held t.now spans.now) f (u ∷ []) (length uses.old) (length lens.old))) }

@@ -13,9 +13,9 @@ ghost use Rattle.edge.specs.Below.{EdgesBelow};
 
 use cut_face_results::cut_after;
 use edge::EdgeUse;
-use edit_answers::{FaceAnswer, FaceEditError};
+use edit_answers::FaceEditError;
 use vertex::VertexID;
-use wire::{Found, find_end};
+use wire::find_end;
 use words::copy_u16s;
 
 // The vertex that a wire begins at.
@@ -39,7 +39,7 @@ fn last_point(wire: &[u16], fronts: &[u16], backs: &[u16]) -> VertexID
 }
 
 // The place of the first use that begins at a vertex.
-fn find_begin(uses: &[u16], fronts: &[u16], backs: &[u16], v: VertexID) -> Found
+fn find_begin(uses: &[u16], fronts: &[u16], backs: &[u16], v: VertexID) -> Option<usize>
     requires { Named backs.now fronts.now uses.now }
     ensures { result ≡ end_from backs.now fronts.now 0 v.0 uses.now }
 {
@@ -65,7 +65,7 @@ fn cut_along(
     backs: &[u16],
     uses: &mut [u16],
     lens: &mut [u16],
-) -> FaceAnswer
+) -> Result<(usize, usize), FaceEditError>
     requires n_in_bounds { (n ≤ length along.now) × (n ≤ 4096) × (0 < length wire.now) }
     requires point_ends { PointEnds fronts.now backs.now }
     requires edges_below { EdgesBelow (length fronts.now) (take n along.now) }
@@ -76,11 +76,10 @@ fn cut_along(
 {
     let part = &along[0..n];
     let front = first_point(wire, fronts, backs);
-    let found = find_end(part, fronts, backs, front);
-    match found {
-        Found::Nothing => FaceAnswer::Not(FaceEditError::EndsNotOnWire),
-        Found::At(j) => cut_after(part, j + 1, wire, fronts, backs, uses, lens),
-    }
+    let Some(j) = find_end(part, fronts, backs, front) else {
+        return Err(FaceEditError::EndsNotOnWire);
+    };
+    cut_after(part, j + 1, wire, fronts, backs, uses, lens)
 }
 
 // Cuts an outline by a wire: 19, 28, 17.
@@ -91,7 +90,7 @@ pub fn cut_outline(
     backs: &[u16],
     uses: &mut [u16],
     lens: &mut [u16],
-) -> FaceAnswer
+) -> Result<(usize, usize), FaceEditError>
     requires outline_len_bound { length outline.now ≤ 4096 }
     requires point_ends { PointEnds fronts.now backs.now }
     requires edges_below { EdgesBelow (length fronts.now) outline.now }
@@ -101,16 +100,13 @@ pub fn cut_outline(
     ensures lens_after { lens.new ≡ sets lens.old 0 (map length (cut_outline fronts.now backs.now outline.now wire.now (length uses.old) (length lens.old)).out) }
 {
     if wire.len() == 0 {
-        return FaceAnswer::Not(FaceEditError::EndsNotOnWire);
+        return Err(FaceEditError::EndsNotOnWire);
     }
     let back = last_point(wire, fronts, backs);
-    let found = find_begin(outline, fronts, backs, back);
-    match found {
-        Found::Nothing => FaceAnswer::Not(FaceEditError::EndsNotOnWire),
-        Found::At(i) => {
-            let mut along = [0u16; 4096];
-            rotate_to(outline, i, &mut along);
-            cut_along(&along, outline.len(), wire, fronts, backs, uses, lens)
-        }
-    }
+    let Some(i) = find_begin(outline, fronts, backs, back) else {
+        return Err(FaceEditError::EndsNotOnWire);
+    };
+    let mut along = [0u16; 4096];
+    rotate_to(outline, i, &mut along);
+    cut_along(&along, outline.len(), wire, fronts, backs, uses, lens)
 }

@@ -3,17 +3,15 @@ use Prim.Native.Nat.{◌-◌, ◌<◌, ◌≤◌, ℕ}
 use mathlib.Core.Bool.{Bool, ◌&&◌, false, true}
 use mathlib.Core.List.{List, [], ◌++◌, ◌∷◌, map, reverse}
 use mathlib.Core.Logic.{⊎_elim}
-use mathlib.Core.Path.{◌≡◌, refl, sym}
+use mathlib.Core.Path.{◌∙◌, ◌≡◌, refl, sym}
 use native.Mathlib.Nat.{sub-zero}
 use native.Mathlib.Omega.{arith}
 use lib.Dec.{leb, ltb}
 use lib.ListN.{drop, get_or, length, length-append, take}
-use lib.Seq.{take-take}
 use borrow.Author.Tests.{le-leb, lt-leb, ltb-false, ltb-true}
 use Rattle.cut_face_results.specs.Results.{PointEnds}
 use Rattle.edge.specs.Uses.{edge_number, front_of, turned}
 use Rattle.errors.specs.Faults.{each}
-use Rattle.errors.specs.declared.WireCheck.TheVariants.{Refused, Simple}
 use Rattle.errors.specs.declared.WireError.{WireError}
 use Rattle.errors.specs.declared.Refusal.TheVariants.{Wire}
 use Rattle.face.specs.Faces.{shared_faults}
@@ -25,7 +23,8 @@ use Rattle.lists.proofs.Marks.{disjoint_nil}
 use Rattle.lists.proofs.Parts.{all_place}
 use Rattle.lists.proofs.Split.{drop_take}
 use Rattle.lists.specs.Lists.{pick}
-use Rattle.wire.proofs.Laws.{named_drop, named_take, simple_sound}
+use Rattle.std.specs.Prelude.{Ok, is_ok}
+use Rattle.wire.proofs.Laws.{named_drop, simple_sound}
 use Rattle.wire.specs.Named.{Named}
 use Rattle.wire.specs.Wires.{points, wire_faults}
 use Rattle.edge.specs.Below.{EdgesBelow}
@@ -95,33 +94,23 @@ module _ (n : ℕ) (along us : List ℕ) (h : EdgesBelow n along) (g : EdgesBelo
 module _ (fronts backs : List ℕ) where
   -- the two parts of named uses
   module _ (both : List ℕ) (n all : ℕ) (h : n ≤ all) (d : Named fronts backs (take all both)) where
-    pub named_first : Named fronts backs (take (n - 0) both)
-    named_first = let e : take n (take all both) ≡ take n both = take-take n all both h in rw (sub-zero n) (rw e at (named_take fronts backs (take all both) d n))
-
     pub named_second : Named fronts backs (take (all - n) (drop n both))
     named_second = rw (drop_take n all both h) at (named_drop fronts backs (take all both) d n)
 
-  no_more : (es : List WireError) → first_of_wire es ≡ Simple → no_fault (map (Wire 0) es ++ [] ++ ([] ++ [])) ≡ true
-  no_more [] h = refl
-  no_more (e ∷ es) h = cc
-
-  some_more : (es : List WireError) (e : WireError) → first_of_wire es ≡ Refused e → no_fault (map (Wire 0) es ++ [] ++ ([] ++ [])) ≡ false
-  some_more [] e h = cc
-  some_more (d ∷ es) e h = refl
-
-  pub keeps_simple : (us : List ℕ) → first_of_wire (wire_faults fronts backs us) ≡ Simple → keeps_rule fronts backs (us ∷ []) ≡ true
+  -- the judgement of a wire is the rule of it alone
+  judged_rule : (us : List ℕ) → is_ok (first_of_wire (wire_faults fronts backs us)) ≡ keeps_rule fronts backs (us ∷ [])
   unfolding each shared_faults
-  keeps_simple us h = rw (disjoint_nil (points fronts backs us)) (no_more (wire_faults fronts backs us) h)
+  judged_rule us = rw (disjoint_nil (points fronts backs us)) (go (wire_faults fronts backs us))
+    where
+      go : (es : List WireError) → is_ok (first_of_wire es) ≡ no_fault (map (Wire 0) es ++ [] ++ ([] ++ []))
+      go [] = refl
+      go (e ∷ es) = refl
 
-  pub keeps_refused : (us : List ℕ) (e : WireError) → first_of_wire (wire_faults fronts backs us) ≡ Refused e → keeps_rule fronts backs (us ∷ []) ≡ false
-  unfolding each shared_faults
-  keeps_refused us e h = rw (disjoint_nil (points fronts backs us)) (some_more (wire_faults fronts backs us) e h)
-
-  none_simple : (es : List WireError) → no_fault (map (Wire 0) es ++ [] ++ ([] ++ [])) ≡ true → first_of_wire es ≡ Simple
+  none_simple : (es : List WireError) → no_fault (map (Wire 0) es ++ [] ++ ([] ++ [])) ≡ true → first_of_wire es ≡ Ok tt
   none_simple [] h = refl
   none_simple (e ∷ es) h = cc
 
-  kept_simple : (us : List ℕ) → keeps_rule fronts backs (us ∷ []) ≡ true → first_of_wire (wire_faults fronts backs us) ≡ Simple
+  kept_simple : (us : List ℕ) → keeps_rule fronts backs (us ∷ []) ≡ true → first_of_wire (wire_faults fronts backs us) ≡ Ok tt
   unfolding each shared_faults
   kept_simple us h = none_simple (wire_faults fronts backs us) (rw (disjoint_nil (points fronts backs us)) at h)
 
@@ -139,20 +128,14 @@ module _ (fronts backs : List ℕ) where
       (λ (b : keeps_rule fronts backs (first_of along k us ∷ []) ≡ false). b)
       (cases (keeps_rule fronts backs (first_of along k us ∷ [])))
 
-  -- the answer on two wires
-  module _ (both : List ℕ) (n all : ℕ) where
-    pub rule_first : (e : WireError) → first_of_wire (wire_faults fronts backs (take (n - 0) both)) ≡ Refused e
-        → false ≡ (keeps_rule fronts backs (take n both ∷ []) && keeps_rule fronts backs (take (all - n) (drop n both) ∷ []))
-    rule_first e h = let z : keeps_rule fronts backs (take n both ∷ []) ≡ false = rw (sub-zero n) at (keeps_refused (take (n - 0) both) e h) in rw z
+  -- the answer on two wires: the first is judged, then the second
+  module _ (both : List ℕ) (n all : ℕ) (r : Bool) (e : r ≡ is_ok (first_of_wire (wire_faults fronts backs (take (n - 0) both)))) where
+    first_is : r ≡ keeps_rule fronts backs (take n both ∷ [])
+    first_is = rw (sub-zero n) at (e ∙ judged_rule (take (n - 0) both))
 
-    module _ (s : first_of_wire (wire_faults fronts backs (take (n - 0) both)) ≡ Simple) where
-      first_kept : keeps_rule fronts backs (take n both ∷ []) ≡ true
-      first_kept = rw (sub-zero n) at (keeps_simple (take (n - 0) both) s)
+    pub rule_first : r ≡ false → r ≡ (keeps_rule fronts backs (take n both ∷ []) && keeps_rule fronts backs (take (all - n) (drop n both) ∷ []))
+    rule_first f = rw (← first_is, f) refl
 
-      pub rule_second : (e : WireError) → first_of_wire (wire_faults fronts backs (take (all - n) (drop n both))) ≡ Refused e
-          → false ≡ (keeps_rule fronts backs (take n both ∷ []) && keeps_rule fronts backs (take (all - n) (drop n both) ∷ []))
-      rule_second e h = rw (first_kept, keeps_refused (take (all - n) (drop n both)) e h)
-
-      pub rule_both : first_of_wire (wire_faults fronts backs (take (all - n) (drop n both))) ≡ Simple
-          → true ≡ (keeps_rule fronts backs (take n both ∷ []) && keeps_rule fronts backs (take (all - n) (drop n both) ∷ []))
-      rule_both h = rw (first_kept, keeps_simple (take (all - n) (drop n both)) h)
+    pub rule_second : r ≡ true → (s : Bool) → s ≡ is_ok (first_of_wire (wire_faults fronts backs (take (all - n) (drop n both))))
+        → s ≡ (keeps_rule fronts backs (take n both ∷ []) && keeps_rule fronts backs (take (all - n) (drop n both) ∷ []))
+    rule_second f s g = rw (← first_is, f) (g ∙ judged_rule (take (all - n) (drop n both)))

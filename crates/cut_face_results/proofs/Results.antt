@@ -12,13 +12,13 @@ use borrow.Author.Tests.{le-leb, lt-leb}
 use Rattle.cut_face_results.specs.Results.{Cut, PointEnds, cut_after, cut_two, outcome}
 use Rattle.cut_face_results.proofs.Few.{both_uses, named_of}
 use Rattle.edge.specs.Uses.{turned}
-use Rattle.edit_answers.specs.declared.FaceAnswer.{FaceAnswer}
-use Rattle.edit_answers.specs.declared.FaceAnswer.TheVariants.{Not, Written}
+use Rattle.edit_answers.specs.declared.FaceEditError.{FaceEditError}
 use Rattle.edit_answers.specs.declared.FaceEditError.TheVariants.{FaceRule, NoSpace}
 use Rattle.face_edits.specs.FaceEdits.{first_of, keeps_rule, second_of}
 use Rattle.listing.proofs.Laws.{turned_keeps}
 use Rattle.lists.proofs.Sets.{sets_then}
 use Rattle.lists.specs.Lists.{flat}
+use Rattle.std.specs.Prelude.{Err, Ok, Result}
 use Rattle.wire.specs.Named.{Named}
 use Rattle.edge.specs.Below.{EdgesBelow}
 
@@ -72,7 +72,7 @@ module _ (l xs ys : List ℕ) (h : length (xs ++ ys) ≤ length l) (n m : ℕ) (
       rw (two_stored_is, d) (take_at ys (drop (length (xs ++ ys)) l) m f)
 
 -- ---- the answer, and what the lent lists hold then
-abbrev pub Owes : Cut → FaceAnswer → List ℕ → List ℕ → List ℕ → List ℕ → Type 0
+abbrev pub Owes : Cut → Result (ℕ × ℕ) FaceEditError → List ℕ → List ℕ → List ℕ → List ℕ → Type 0
 Owes c r uses uses' lens lens' = (r ≡ c.answer) × ((uses' ≡ sets uses 0 (flat c.out)) × (lens' ≡ sets lens 0 (map length c.out)))
 
 module _ (fronts backs : List ℕ) where
@@ -99,21 +99,21 @@ module _ (fronts backs : List ℕ) where
     split_long : length (flat (first ∷ second ∷ [])) ≡ all
     split_long = ap length flat_is ∙ length-take-le all both k
 
-    pub two_broken : false ≡ (keeps_rule fronts backs (first ∷ []) && keeps_rule fronts backs (second ∷ [])) → Owes two (Not FaceRule) uses uses lens lens
+    pub two_broken : false ≡ (keeps_rule fronts backs (first ∷ []) && keeps_rule fronts backs (second ∷ [])) → Owes two (Err FaceRule) uses uses lens lens
     unfolding cut_two outcome flat
     two_broken e = rw (← e) (refl, (refl, refl))
 
     module _ (e : true ≡ (keeps_rule fronts backs (first ∷ []) && keeps_rule fronts backs (second ∷ []))) where
-      pub two_long : length uses < all → Owes two (Not NoSpace) uses uses lens lens
+      pub two_long : length uses < all → Owes two (Err NoSpace) uses uses lens lens
       unfolding cut_two outcome flat
       two_long l = rw (← e, lt-leb (length (flat (first ∷ second ∷ []))) (length uses) (omega (arith, split_long, l))) (refl, (refl, refl))
 
-      pub two_few : all ≤ length uses → length lens < 2 → Owes two (Not NoSpace) uses uses lens lens
+      pub two_few : all ≤ length uses → length lens < 2 → Owes two (Err NoSpace) uses uses lens lens
       unfolding cut_two outcome flat
       two_few g l = rw (← e, le-leb (length (flat (first ∷ second ∷ []))) (length uses) (omega (arith, split_long, g)), lt-leb 2 (length lens) l) (refl, (refl, refl))
 
       pub two_written : all ≤ length uses → 2 ≤ length lens → (uses' : List ℕ) → uses' ≡ sets uses 0 (take (all - 0) both)
-          → Owes two (Written all 2) uses uses' lens (set (set lens 0 n) 1 (all - n))
+          → Owes two (Ok (all, 2)) uses uses' lens (set (set lens 0 n) 1 (all - n))
       unfolding cut_two outcome
       two_written g l uses' u =
           let fit : leb (length (flat (first ∷ second ∷ []))) (length uses) ≡ true = le-leb (length (flat (first ∷ second ∷ []))) (length uses) (omega (arith, split_long, g)) in
@@ -122,7 +122,7 @@ module _ (fronts backs : List ℕ) where
   -- ---- an outline that begins at the wire's back
   module _ (along us uses lens : List ℕ) where
     pub after_long : (k : ℕ) → keeps_rule fronts backs (first_of along k us ∷ []) ≡ false
-        → Owes (cut_after fronts backs along k us (length uses) (length lens)) (Not FaceRule) uses uses lens lens
+        → Owes (cut_after fronts backs along k us (length uses) (length lens)) (Err FaceRule) uses uses lens lens
     unfolding cut_after cut_two outcome flat
     after_long k e = rw e (refl, (refl, refl))
 

@@ -1,22 +1,21 @@
 -- The two results of a cut, as the code makes them: on lists of uses, with the ends of the edges in two columns.
-use Rattle.std.specs.Prelude.{ℕ, ◌<◌, List, [], ◌∷◌, ◌≡◌, get_or, length}
+use Rattle.std.specs.Prelude.{ℕ, ◌<◌, List, [], ◌∷◌, ◌≡◌, get_or, length, Result}
 use Rattle.lists.specs.Lists.{flat}
 use Rattle.edit_answers.specs.Answers.{judged}
-use Rattle.edit_answers.specs.declared.FaceAnswer.{FaceAnswer}
-use Rattle.edit_answers.specs.declared.FaceAnswer.TheVariants.{Not, Refused, Written}
 use Rattle.edit_answers.specs.declared.FaceEditError.{FaceEditError}
 use Rattle.errors.specs.declared.Refusal.{Refusal}
+use Rattle.face_edits.specs.FaceAnswers.{own_answer}
 use Rattle.face_edits.specs.FaceEdits.{first_of, second_of, two_faults}
 
 -- the answer, and the wires that are written
 pub record Cut : Type 0 where
-  pub answer : FaceAnswer
+  pub answer : Result (ℕ × ℕ) FaceEditError
   pub out : List (List ℕ)
 
 -- of a pattern without reading fault
 unfoldable pub outcome : List FaceEditError → List (List ℕ) → Cut
 outcome faults wires = record {
-  answer = judged [] faults Refused Not (Written (length (flat wires)) (length wires));
+  answer = own_answer faults (length (flat wires), length wires);
   out = judged [] faults (λ (f : Refusal). []) (λ (e : FaceEditError). []) wires;
 }
 

@@ -9,8 +9,7 @@ ghost use Rattle.face_edits.specs.FaceEdits.{first_of, keeps_rule, second_of};
 ghost use Rattle.cut_face_results.specs.Results.{cut_after, cut_two, PointEnds};
 ghost use Rattle.edge.specs.Below.{EdgesBelow};
 
-use edit_answers::{FaceAnswer, FaceEditError};
-use errors::WireCheck;
+use edit_answers::FaceEditError;
 use listing::put_turned;
 use wire::check_wire;
 use words::copy_u16s;
@@ -40,17 +39,8 @@ fn keep_rule(both: &[u16], n: usize, all: usize, fronts: &[u16], backs: &[u16]) 
     ensures { result ≡ (keeps_rule fronts.now backs.now (take n both.now ∷ []) && keeps_rule fronts.now backs.now (take (all - n) (drop n both.now) ∷ [])) }
 {
     let mut marks = [0u16; 2048];
-    let first = check_wire(&both[0..n], fronts, backs, &mut marks, 1);
-    match first {
-        WireCheck::Refused(_) => false,
-        WireCheck::Simple => {
-            let second = check_wire(&both[n..all], fronts, backs, &mut marks, 2);
-            match second {
-                WireCheck::Refused(_) => false,
-                WireCheck::Simple => true,
-            }
-        }
-    }
+    check_wire(&both[0..n], fronts, backs, &mut marks, 1).is_ok()
+        && check_wire(&both[n..all], fronts, backs, &mut marks, 2).is_ok()
 }
 
 // Writes the two results, if they keep the face rule (28) and there is room (17).
@@ -62,7 +52,7 @@ fn write_two(
     backs: &[u16],
     uses: &mut [u16],
     lens: &mut [u16],
-) -> FaceAnswer
+) -> Result<(usize, usize), FaceEditError>
     requires n_le_all { (n ≤ all) × (all ≤ length both.now) × (all ≤ 8192) }
     requires named { Named fronts.now backs.now (take all both.now) }
     ensures value { result ≡ (cut_two fronts.now backs.now (take n both.now) (take (all - n) (drop n both.now)) (length uses.old) (length lens.old)).answer }
@@ -70,18 +60,18 @@ fn write_two(
     ensures lens_after { lens.new ≡ sets lens.old 0 (map length (cut_two fronts.now backs.now (take n both.now) (take (all - n) (drop n both.now)) (length uses.old) (length lens.old)).out) }
 {
     if !keep_rule(both, n, all, fronts, backs) {
-        return FaceAnswer::Not(FaceEditError::FaceRule);
+        return Err(FaceEditError::FaceRule);
     }
     if uses.len() < all {
-        return FaceAnswer::Not(FaceEditError::NoSpace);
+        return Err(FaceEditError::NoSpace);
     }
     if lens.len() < 2 {
-        return FaceAnswer::Not(FaceEditError::NoSpace);
+        return Err(FaceEditError::NoSpace);
     }
     copy_u16s(&both[0..all], uses, 0);
     lens[0] = n as u16;
     lens[1] = (all - n) as u16;
-    FaceAnswer::Written(all, 2)
+    Ok((all, 2))
 }
 
 // Cuts an outline that begins at the wire's back and comes to its front after k uses: 28, 17. A wire
@@ -94,7 +84,7 @@ pub fn cut_after(
     backs: &[u16],
     uses: &mut [u16],
     lens: &mut [u16],
-) -> FaceAnswer
+) -> Result<(usize, usize), FaceEditError>
     requires k_in_bounds { (k ≤ length along.now) × (length along.now ≤ 4096) }
     requires point_ends { PointEnds fronts.now backs.now }
     requires edges_below { EdgesBelow (length fronts.now) along.now }
@@ -105,7 +95,7 @@ pub fn cut_after(
 {
     let m = wire.len();
     if m > 2048 {
-        return FaceAnswer::Not(FaceEditError::FaceRule);
+        return Err(FaceEditError::FaceRule);
     }
     let mut both = [0u16; 8192];
     put_two(along, k, wire, &mut both);

@@ -1,4 +1,5 @@
 -- What is written reads back: the word of an f64 reads as its bits.
+use Rattle.std.specs.Prelude.{Some}
 use Rattle.std.proofs.Common.{◌≡◌, ℕ, suc, ◌+◌, ◌-◌, ◌/◌, ◌^◌, ◌<◌, ◌≤◌, Bool, true, false, eqb, ltb, leb, List, [], ◌∷◌, ◌++◌, length, get_or, take, drop, sym, refl, ap, ◌∙◌, ⊎_elim, append-nil, div-one, arith, length-append, take_all, take_at, ltb-false, ltb-true, ne_eqb, eqb-true, leb-true}
 use native.Mathlib.Nat.{div-eq_of_lt}
 use lib.Seq.{drop-append-add}
@@ -17,7 +18,6 @@ use Rattle.output.proofs.Laws.{length_more, length_one}
 use Rattle.output.specs.Text.{decimal}
 use Rattle.text.specs.Text.{before}
 use Rattle.text.specs.Tokens.{all_digits, is_digit, value_after}
-use Rattle.text.specs.declared.Token.TheVariants.{Value}
 
 decimal_some : (n : ℕ) → 0 < length (decimal n)
 decimal_some n =
@@ -64,7 +64,7 @@ module _ (s : Bool) (ds : List ℕ) (h : all_digits ds ≡ true) (some : 0 < len
   unfolding before
   ends = rw (append-nil ds) at (digits_before ds [] h)
 
-  whole_word : length ds ≤ 15 → unsigned s ds ≡ Value (nearest_bits s (value_after 0 ds) 0)
+  whole_word : length ds ≤ 15 → unsigned s ds ≡ Some (nearest_bits s (value_after 0 ds) 0)
   whole_word l = sym (no_point_is s ds (length ds) (ap length (sym ends)) refl not_none l) ∙ rw h
 
   module _ (es : List ℕ) where
@@ -73,7 +73,7 @@ module _ (s : Bool) (ds : List ℕ) (h : all_digits ds ≡ true) (some : 0 < len
     ends_point = digits_before ds (46 ∷ es) h ∙ append-nil ds
 
     pointed_word : all_digits es ≡ true → 0 < length es → length ds + length es ≤ 15
-        → unsigned s (ds ++ (46 ∷ es)) ≡ Value (nearest_bits s (value_after (value_after 0 ds) es) (length es))
+        → unsigned s (ds ++ (46 ∷ es)) ≡ Some (nearest_bits s (value_after (value_after 0 ds) es) (length es))
     pointed_word g more l =
         let w = ds ++ (46 ∷ es) in
         let long : length w ≡ length ds + suc (length es) = length-append ds (46 ∷ es) in
@@ -81,11 +81,11 @@ module _ (s : Bool) (ds : List ℕ) (h : all_digits ds ≡ true) (some : 0 < len
         let rest : take (length w - (length ds + 1)) (drop (length ds + 1) w) ≡ es =
         rw (drop-append-add ds (46 ∷ es) 1) (take_all (length w - (length ds + 1)) es (omega arith)) in
         let count : length w - (length ds + 1) ≡ length es = omega arith in
-        sym (one_point_is s w (length ds) (ap length (sym ends_point)) (omega arith) not_none (λ z. omega arith) (omega arith) (Value (value_after 0 ds)) (rw (first, h)))
+        sym (one_point_is s w (length ds) (ap length (sym ends_point)) (omega arith) not_none (λ z. omega arith) (omega arith) (Some (value_after 0 ds)) (rw (first, h)))
         ∙ rw (rest, count, g)
 
 -- the whole part and the places
-unsigned_back : (s : Bool) (m k : ℕ) → m < 1000000000000000 → k ≤ 9 → unsigned s (decimal (m / 10 ^ k) ++ places_text k m) ≡ Value (nearest_bits s m k)
+unsigned_back : (s : Bool) (m k : ℕ) → m < 1000000000000000 → k ≤ 9 → unsigned s (decimal (m / 10 ^ k) ++ places_text k m) ≡ Some (nearest_bits s m k)
 unsigned_back s m k h l =
     let q = m / 10 ^ k in
     let short = whole_short m k (10 ^ k) refl h l in
@@ -109,7 +109,7 @@ places_no_x k m =
     (λ (e : eqb k 0 ≡ false). rw e (λ x. omega arith))
     (cases (eqb k 0))
 
-decimal_back : (s : Bool) (m k : ℕ) → m < 1000000000000000 → k ≤ 9 → real (decimal_text s m k) ≡ Value (nearest_bits s m k)
+decimal_back : (s : Bool) (m k : ℕ) → m < 1000000000000000 → k ≤ 9 → real (decimal_text s m k) ≡ Some (nearest_bits s m k)
 unfolding decimal_text real
 decimal_back true m k h l = unsigned_back true m k h l
 decimal_back false m k h l =
@@ -119,7 +119,7 @@ decimal_back false m k h l =
     sym (other_second (ds ++ places_text k m) (no_minus ds (places_text k m) d n) (no_x ds (places_text k m) d n (places_no_x k m)))
     ∙ unsigned_back false m k h l
 
-hex_text_back : (n : ℕ) → n < 18446744073709551616 → real (hex_text n) ≡ Value n
+hex_text_back : (n : ℕ) → n < 18446744073709551616 → real (hex_text n) ≡ Some n
 unfolding hex_text
 hex_text_back n h =
     let long : length (last_hex 16 n) ≡ 16 = ap length (sym (last_hex_lem 16 n)) ∙ last_long 16 16 n in
@@ -129,13 +129,13 @@ hex_text_back n h =
     sym (hex_word (48 ∷ 120 ∷ last_hex 16 n) refl refl) ∙ rw (long, digits, value)
 
 -- for every f64
-pub real_back : (bits : ℕ) → bits < 18446744073709551616 → real (real_text bits) ≡ Value bits
+pub real_back : (bits : ℕ) → bits < 18446744073709551616 → real (real_text bits) ≡ Some bits
 real_back bits h =
     let k = places_from bits 10 0 in
     ⊎_elim
     (λ (e : ltb k 10 ≡ true).
     let l = ltb-true k 10 e in
     let b = found bits k refl l in
-    rw (← decimal_real bits k refl l, decimal_back (is_negative bits) (scaled bits k) k b.short (omega arith)) (ap Value b.same))
+    rw (← decimal_real bits k refl l, decimal_back (is_negative bits) (scaled bits k) k b.short (omega arith)) (ap Some b.same))
     (λ (e : ltb k 10 ≡ false). rw (← hex_real bits k refl (ltb-false k 10 e)) (hex_text_back bits h))
     (cases (ltb k 10))

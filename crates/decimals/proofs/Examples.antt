@@ -1,39 +1,39 @@
 -- Words worked by hand, read and written.
+use Rattle.std.specs.Prelude.{None, Some}
 use Rattle.std.proofs.Common.{◌≡◌, refl}
 use lib.Ieee.{add, mul, of_bits, round, to_bits, to_unsigned}
 use Rattle.decimals.specs.Decimals.{all_hex, decimal_text, hex_after, hex_text, last_digits, last_hex, nearest_bits, places_from, reads_back, real, real_text}
 use Rattle.output.specs.Text.{ascii, decimal, digits}
 use Rattle.text.specs.Text.{before}
 use Rattle.text.specs.Tokens.{all_digits, value_after}
-use Rattle.text.specs.declared.Token.TheVariants.{Not, Value}
 
 -- ---- read
 
-tenth : real (ascii "0.1") ≡ Value 0x3fb999999999999a
+tenth : real (ascii "0.1") ≡ Some 0x3fb999999999999a
 unfolding real before all_digits value_after nearest_bits round to_bits
 tenth = refl
 
-minus_zero : real (ascii "-0") ≡ Value 0x8000000000000000
+minus_zero : real (ascii "-0") ≡ Some 0x8000000000000000
 unfolding real before all_digits value_after nearest_bits round to_bits
 minus_zero = refl
 
-fifteen_digits : real (ascii "-123456.789012345") ≡ Value 0xc0fe240c9fcb689f
+fifteen_digits : real (ascii "-123456.789012345") ≡ Some 0xc0fe240c9fcb689f
 unfolding real before all_digits value_after nearest_bits round to_bits
 fifteen_digits = refl
 
-sixteen_digits : real (ascii "1234567.890123456") ≡ Not
+sixteen_digits : real (ascii "1234567.890123456") ≡ None
 unfolding real before all_digits
 sixteen_digits = refl
 
-no_digit_before : real (ascii ".5") ≡ Not
+no_digit_before : real (ascii ".5") ≡ None
 unfolding real before
 no_digit_before = refl
 
-no_digit_behind : real (ascii "5.") ≡ Not
+no_digit_behind : real (ascii "5.") ≡ None
 unfolding real before
 no_digit_behind = refl
 
-hex_infinity : real (ascii "0x7Ff0000000000000") ≡ Value 0x7ff0000000000000
+hex_infinity : real (ascii "0x7Ff0000000000000") ≡ Some 0x7ff0000000000000
 unfolding real all_hex hex_after
 hex_infinity = refl
 

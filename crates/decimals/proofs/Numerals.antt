@@ -1,4 +1,5 @@
 -- Digits read one after the other, in the base 10 or 16.
+use Rattle.std.specs.Prelude.{None, Option, Some}
 use Rattle.std.proofs.Common.{◌≡◌, ℕ, suc, ◌+◌, ◌-◌, ◌*◌, ◌^◌, ◌<◌, ◌≤◌, Bool, true, false, ◌&&◌, ltb, leb, List, [], ◌∷◌, ◌++◌, length, get_or, drop, sym, refl, ◌∙◌, ⊎_elim, le_trans, mul-le-mul_right, mul-le-mul_left, pow-suc, add-one, arith, drop_of_length-le, drop-cons, ltb-true, le-leb, leb-true}
 use mathlib.Core.Bool.{and_assoc, and-false}
 use native.Mathlib.Nat.{one-le-pow, pow-zero}
@@ -7,8 +8,6 @@ use Rattle.decimals.specs.Decimals.{all_hex, hex_after, hex_digit}
 use Rattle.lists.proofs.Laws.{cases, left_true, right_true}
 use Rattle.lists.specs.Lists.{pick}
 use Rattle.text.specs.Tokens.{all_digits, is_digit, value_after}
-use Rattle.text.specs.declared.Token.TheVariants.{Not, Value}
-use Rattle.text.specs.declared.Token.{Token}
 
 -- a byte in a range, or not
 module _ (low b high : ℕ) where
@@ -102,8 +101,8 @@ sixteens = record {
 
 module _ (N : Numeral) where
   -- the number that the bytes make after n, if they are digits
-  abbrev pub token : ℕ → List ℕ → Token
-  token n s = pick (N.all s) (Value (N.after n s)) Not
+  abbrev pub token : ℕ → List ℕ → Option ℕ
+  token n s = pick (N.all s) (Some (N.after n s)) None
 
   pub all_append : (s t : List ℕ) → N.all (s ++ t) ≡ (N.all s && N.all t)
   all_append [] t = rw N.all_nil
@@ -130,33 +129,33 @@ module _ (N : Numeral) where
       (le_trans (after_bound s (n * N.base + N.digit b) (right_true (N.ok b) (N.all s) g))
       (step_room n (N.digit b) (N.base ^ length s) (N.small b (left_true (N.ok b) (N.all s) g))))
 
-  pub token_bound : (n : ℕ) (s : List ℕ) (m : ℕ) → Value m ≡ token n s → m + 1 ≤ (n + 1) * N.base ^ length s
+  pub token_bound : (n : ℕ) (s : List ℕ) (m : ℕ) → Some m ≡ token n s → m + 1 ≤ (n + 1) * N.base ^ length s
   token_bound n s m h =
       ⊎_elim
       (λ (e : N.all s ≡ true).
-      let g : Value m ≡ Value (N.after n s) = rw e at h in
+      let g : Some m ≡ (Some (N.after n s)) = rw e at h in
       let f : m ≡ N.after n s = cc in
       rw f (after_bound s n e))
       (λ (e : N.all s ≡ false).
-      let g : Value m ≡ Not = rw e at h in
+      let g : Some m ≡ None = rw e at h in
       let f : ◌≡◌ {A = ℕ} 0 1 = cc in absurd (omega arith))
       (cases (N.all s))
 
   -- a loop that reads the digits of w: at place i the number is m, and what is read in the end is t, below `most`
-  pub record Parsing (t : Token) (most : ℕ) (w : List ℕ) (m i : ℕ) : Type 0 where
+  pub record Parsing (t : Option ℕ) (most : ℕ) (w : List ℕ) (m i : ℕ) : Type 0 where
     pub low : i ≤ length w
     pub same : t ≡ token m (drop i w)
     pub room : (m + 1) * N.base ^ length (drop i w) ≤ most
 
-  module _ (t : Token) (most : ℕ) (w : List ℕ) (m i : ℕ) (p : Parsing t most w m i) where
-    pub parsing_all : length w ≤ i → Value m ≡ t
+  module _ (t : Option ℕ) (most : ℕ) (w : List ℕ) (m i : ℕ) (p : Parsing t most w m i) where
+    pub parsing_all : length w ≤ i → Some m ≡ t
     parsing_all h = sym (p.same ∙ rw (drop_of_length-le w h, N.all_nil, N.after_nil m))
 
     module _ (h : i < length w) where
       front : drop i w ≡ get_or w i 0 ∷ drop (suc i) w
       front = drop-cons w i 0 h
 
-      pub parsing_stop : N.ok (get_or w i 0) ≡ false → Not ≡ t
+      pub parsing_stop : N.ok (get_or w i 0) ≡ false → None ≡ t
       parsing_stop e = sym (p.same ∙ rw (front, N.all_cons (get_or w i 0) (drop (suc i) w), e))
 
       room_here : (m + 1) * (N.base ^ length (drop (suc i) w) * N.base) ≤ most

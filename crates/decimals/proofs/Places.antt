@@ -59,11 +59,12 @@ module _ (bits k : ℕ) (p : Passed bits k) where
       let s : 10 - k ≡ suc (10 - (k + 1)) = omega arith in
       sym (p.1 ∙ rw (s, e))
 
-  pub passed_all : 10 ≤ k → k ≡ places_from bits 10 0
+  pub passed_all : 10 ≤ k → 10 ≡ places_from bits 10 0
   unfolding places_from
   passed_all h =
       let s : 10 - k ≡ 0 = omega arith in
-      sym (p.1 ∙ rw s)
+      let z : k ≡ 10 = omega arith in
+      sym (p.1 ∙ rw s z)
 
 -- fewer places than the tries go to read back
 pub found_back : (bits d k : ℕ) → places_from bits d k < k + d → reads_back bits (places_from bits d k) ≡ true

@@ -1,17 +1,17 @@
 -- An f64's word by its first two bytes.
+use Rattle.std.specs.Prelude.{None}
 use Rattle.std.proofs.Common.{◌≡◌, ℕ, ◌-◌, true, false, ◌&&◌, eqb, List, [], ◌∷◌, length, get_or, take, drop, sym, refl, ◌∙◌, arith, length-drop, take_all, ne_eqb}
 use mathlib.Core.Bool.{and-false}
 use lib.ListN.{get_or-eq_default}
 use Rattle.decimals.specs.Decimals.{hex, real, unsigned}
 use Rattle.text.specs.Text.{before}
-use Rattle.text.specs.declared.Token.TheVariants.{Not}
 
 module _ (w : List ℕ) where
-  pub empty_word : length w ≡ 0 → Not ≡ real w
+  pub empty_word : length w ≡ 0 → None ≡ real w
   unfolding real before
   empty_word = go w
     where
-      go : (w : List ℕ) → length w ≡ 0 → Not ≡ real w
+      go : (w : List ℕ) → length w ≡ 0 → None ≡ real w
       go [] h = refl
       go (b ∷ w) h = absurd (omega arith)
 

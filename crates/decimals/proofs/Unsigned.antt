@@ -1,4 +1,5 @@
 -- A decimal without a sign, by where its point stands.
+use Rattle.std.specs.Prelude.{None, Option, Some}
 use Rattle.std.proofs.Common.{◌≡◌, ℕ, suc, ◌+◌, ◌-◌, ◌*◌, ◌^◌, ◌<◌, ◌≤◌, Bool, true, false, ◌||◌, eqb, List, ◌++◌, length, take, drop, sym, refl, ◌∙◌, ⊎_elim, mul-le-mul_right, add-one, arith, length-append, length-drop, length-take, take_all, pow-add, eq-eqb, ne_eqb, eqb-true, le-leb}
 use borrow.Author.Tests.{lt-leb}
 use Rattle.decimals.proofs.Numerals.{after_append, all_append, tens, token}
@@ -9,43 +10,41 @@ use Rattle.lists.proofs.Laws.{cases}
 use Rattle.lists.specs.Lists.{pick}
 use Rattle.text.specs.Text.{before}
 use Rattle.text.specs.Tokens.{all_digits, value_after}
-use Rattle.text.specs.declared.Token.TheVariants.{Not, Value}
-use Rattle.text.specs.declared.Token.{Token}
 
 -- the digits ds, after those of a number that was read, over 10^k
-abbrev pub behind : Bool → ℕ → Token → List ℕ → Token
-behind s k Not ds = Not
-behind s k (Value m) ds = pick (all_digits ds) (Value (nearest_bits s (value_after m ds) k)) Not
+abbrev pub behind : Bool → ℕ → Option ℕ → List ℕ → Option ℕ
+behind s k None ds = None
+behind s k (Some m) ds = pick (all_digits ds) (Some (nearest_bits s (value_after m ds) k)) None
 
 -- the same from the number that was read
-pub behind_value : (s : Bool) (k m : ℕ) (ds : List ℕ) (d : ℕ) → Value d ≡ token tens m ds → Value (nearest_bits s d k) ≡ behind s k (Value m) ds
+pub behind_value : (s : Bool) (k m : ℕ) (ds : List ℕ) (d : ℕ) → Some d ≡ token tens m ds → (Some (nearest_bits s d k)) ≡ behind s k (Some m) ds
 behind_value s k m ds d h =
     ⊎_elim
-    (λ (e : all_digits ds ≡ true). let g : Value d ≡ Value (value_after m ds) = rw e at h in let f : d ≡ value_after m ds = cc in rw (e, f))
-    (λ (e : all_digits ds ≡ false). let g : Value d ≡ Not = rw e at h in cc)
+    (λ (e : all_digits ds ≡ true). let g : Some d ≡ (Some (value_after m ds)) = rw e at h in let f : d ≡ value_after m ds = cc in rw (e, f))
+    (λ (e : all_digits ds ≡ false). let g : Some d ≡ None = rw e at h in cc)
     (cases (all_digits ds))
 
-pub behind_not : (s : Bool) (k m : ℕ) (ds : List ℕ) → Not ≡ token tens m ds → Not ≡ behind s k (Value m) ds
+pub behind_not : (s : Bool) (k m : ℕ) (ds : List ℕ) → None ≡ token tens m ds → None ≡ behind s k (Some m) ds
 behind_not s k m ds h =
     ⊎_elim
-    (λ (e : all_digits ds ≡ true). let g : Not ≡ Value (value_after m ds) = rw e at h in cc)
+    (λ (e : all_digits ds ≡ true). let g : None ≡ (Some (value_after m ds)) = rw e at h in cc)
     (λ (e : all_digits ds ≡ false). rw e)
     (cases (all_digits ds))
 
-plain_short : (s : Bool) (ds : List ℕ) (k : ℕ) → length ds ≤ 15 → plain s ds k ≡ behind s k (Value 0) ds
+plain_short : (s : Bool) (ds : List ℕ) (k : ℕ) → length ds ≤ 15 → plain s ds k ≡ behind s k (Some 0) ds
 plain_short s ds k h = rw (le-leb (length ds) 15 h)
 
-plain_long : (s : Bool) (ds : List ℕ) (k : ℕ) → 15 < length ds → plain s ds k ≡ Not
+plain_long : (s : Bool) (ds : List ℕ) (k : ℕ) → 15 < length ds → plain s ds k ≡ None
 plain_long s ds k h = rw (lt-leb (length ds) 15 h)
 
-behind_append : (s : Bool) (k : ℕ) (ds es : List ℕ) → behind s k (Value 0) (ds ++ es) ≡ behind s k (token tens 0 ds) es
+behind_append : (s : Bool) (k : ℕ) (ds es : List ℕ) → behind s k (Some 0) (ds ++ es) ≡ behind s k (token tens 0 ds) es
 behind_append s k ds es =
     ⊎_elim
     (λ (e : all_digits ds ≡ true). rw (all_append tens ds es, e, after_append tens 0 ds es))
     (λ (e : all_digits ds ≡ false). rw (all_append tens ds es, e))
     (cases (all_digits ds))
 
-none : (b : Bool) → pick b Not Not ≡ Not
+none : (b : Bool) → pick {A = Option ℕ} b None None ≡ None
 none true = refl
 none false = refl
 
@@ -71,14 +70,14 @@ module _ (s : Bool) (w : List ℕ) (point : ℕ) (at : point ≡ length (whole w
   parts : length (whole w ++ places w) ≡ point + (length w - suc point)
   parts = rw at (omega (arith, length-append (whole w) (places w), length-drop (suc (length (whole w))) w))
 
-  pub none_before : point ≡ 0 → Not ≡ unsigned s w
+  pub none_before : point ≡ 0 → None ≡ unsigned s w
   none_before h =
       ⊎_elim
       (λ (e : eqb (length (whole w)) (length w) ≡ true). rw (e, eq-eqb (length w) 0 (omega (arith, eqb-true (length (whole w)) (length w) e))))
       (λ (e : eqb (length (whole w)) (length w) ≡ false). rw (e, eq-eqb (length (whole w)) 0 (omega arith)))
       (cases (eqb (length (whole w)) (length w)))
 
-  pub too_long : 16 < length w → Not ≡ unsigned s w
+  pub too_long : 16 < length w → None ≡ unsigned s w
   too_long l =
       ⊎_elim
       (λ (e : eqb (length (whole w)) (length w) ≡ true).
@@ -91,20 +90,20 @@ module _ (s : Bool) (w : List ℕ) (point : ℕ) (at : point ≡ length (whole w
     no_point : unsigned s w ≡ plain s w 0
     no_point = rw (eq-eqb (length (whole w)) (length w) (omega arith), ne_eqb (length w) 0 (λ z. some (omega arith)))
 
-    pub no_point_long : 15 < length w → Not ≡ unsigned s w
+    pub no_point_long : 15 < length w → None ≡ unsigned s w
     no_point_long l = sym (no_point ∙ plain_long s w 0 l)
 
-    pub no_point_is : length w ≤ 15 → behind s 0 (Value 0) w ≡ unsigned s w
+    pub no_point_is : length w ≤ 15 → behind s 0 (Some 0) w ≡ unsigned s w
     no_point_is l = sym (no_point ∙ plain_short s w 0 l)
 
   module _ (h : point < length w) (some : point ≡ 0 → ⊥) where
-    split : unsigned s w ≡ pick (eqb (length (places w)) 0) Not (plain s (whole w ++ places w) (length (places w)))
+    split : unsigned s w ≡ pick (eqb (length (places w)) 0) None (plain s (whole w ++ places w) (length (places w)))
     split = rw (ne_eqb (length (whole w)) (length w) (λ z. omega arith), ne_eqb (length (whole w)) 0 (λ z. some (omega arith)))
 
-    pub none_behind : point + 1 ≡ length w → Not ≡ unsigned s w
+    pub none_behind : point + 1 ≡ length w → None ≡ unsigned s w
     none_behind e = sym (split ∙ rw (eq-eqb (length (places w)) 0 (omega (arith, length-drop (suc (length (whole w))) w))))
 
-    pub one_point_is : (point + 1 ≡ length w → ⊥) → length w ≤ 16 → (t : Token) → t ≡ token tens 0 (take (point - 0) w)
+    pub one_point_is : (point + 1 ≡ length w → ⊥) → length w ≤ 16 → (t : Option ℕ) → t ≡ token tens 0 (take (point - 0) w)
         → behind s (length w - (point + 1)) t (take (length w - (point + 1)) (drop (point + 1) w)) ≡ unsigned s w
     one_point_is e l t is =
         let some-behind : length (places w) ≡ 0 → ⊥ = λ z. e (omega (arith, length-drop (suc (length (whole w))) w)) in

@@ -1,13 +1,11 @@
 -- The ends of spans and parameters as words: a decimal, or 0x and the f64's 16 hexadecimal digits (docs/GUIDE.md, A first garment by hand).
-use Rattle.std.specs.Prelude.{ℕ, zero, suc, ◌+◌, ◌-◌, ◌*◌, ◌/◌, ◌%◌, ◌^◌, Bool, true, false, ◌&&◌, ◌||◌, List, [], ◌∷◌, ◌++◌, length, drop, ◌==◌, from_bits, nat_le, nat_lt, slice_index, to_bits}
+use Rattle.std.specs.Prelude.{ℕ, zero, suc, ◌+◌, ◌-◌, ◌*◌, ◌/◌, ◌%◌, ◌^◌, Bool, true, false, ◌&&◌, ◌||◌, List, [], ◌∷◌, ◌++◌, length, drop, ◌==◌, from_bits, nat_le, nat_lt, slice_index, to_bits, None, Option, Some}
 use Rattle.std.specs.Float.Ieee.{add, mul, round, to_unsigned}
 use Rattle.std.specs.Float.{binary64}
 use Rattle.lists.specs.Lists.{pick}
 use Rattle.output.specs.Text.{ascii, decimal}
 use Rattle.text.specs.Text.{before}
 use Rattle.text.specs.Tokens.{all_digits, is_digit, value_after}
-use Rattle.text.specs.declared.Token.{Token}
-use Rattle.text.specs.declared.Token.TheVariants.{Not, Value}
 
 -- ---- reading
 
@@ -19,15 +17,15 @@ abbrev pub is_point : ℕ → Bool
 is_point b = b == 46
 
 -- digits, of at most 15 in all, with k of them after the point
-abbrev pub plain : Bool → List ℕ → ℕ → Token
-plain s ds k = pick (nat_le (length ds) 15 && all_digits ds) (Value (nearest_bits s (value_after 0 ds) k)) Not
+abbrev pub plain : Bool → List ℕ → ℕ → Option ℕ
+plain s ds k = pick (nat_le (length ds) 15 && all_digits ds) (Some (nearest_bits s (value_after 0 ds) k)) None
 
 -- digits; or digits, a point, digits
-abbrev pub unsigned : Bool → List ℕ → Token
+abbrev pub unsigned : Bool → List ℕ → Option ℕ
 unsigned s w =
     let whole = before is_point w in
     let places = drop (suc (length whole)) w in
-    pick (length whole == length w) (pick (length w == 0) Not (plain s w 0)) (pick (length whole == 0 || length places == 0) Not (plain s (whole ++ places) (length places)))
+    pick (length whole == length w) (pick (length w == 0) None (plain s w 0)) (pick (length whole == 0 || length places == 0) None (plain s (whole ++ places) (length places)))
 
 -- a hexadecimal digit's value; 16 for any other byte
 abbrev pub hex_digit : ℕ → ℕ
@@ -42,11 +40,11 @@ hex_after n [] = n
 hex_after n (b ∷ s) = hex_after (n * 16 + hex_digit b) s
 
 -- 0x and 16 digits
-abbrev pub hex : List ℕ → Token
-hex w = pick (length w == 18 && all_hex (drop 2 w)) (Value (hex_after 0 (drop 2 w))) Not
+abbrev pub hex : List ℕ → Option ℕ
+hex w = pick (length w == 18 && all_hex (drop 2 w)) (Some (hex_after 0 (drop 2 w))) None
 
 -- an f64, as its bits: 0x first, else a decimal with or without a minus before it
-unfoldable pub real : List ℕ → Token
+unfoldable pub real : List ℕ → Option ℕ
 real w = pick (slice_index w 0 == 48 && slice_index w 1 == 120) (hex w) (pick (slice_index w 0 == 45) (unsigned true (drop 1 w)) (unsigned false w))
 
 -- ---- writing

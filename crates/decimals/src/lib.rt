@@ -1,31 +1,23 @@
 // f64 as words: read from a decimal or from hexadecimal digits, and written so that they read back.
 #![tactic(auto)]
 
-ghost use Rattle.std.specs.Prelude.{◌≡◌, ◌+◌, ◌*◌, ◌%◌, ◌^◌, ◌<◌, ◌≤◌, false, length};
+ghost use Rattle.std.specs.Prelude.{◌≡◌, ◌+◌, ◌*◌, ◌%◌, ◌^◌, ◌<◌, ◌≤◌, None, Some, false, length};
 ghost use Rattle.std.specs.Float.{binary64};
 ghost use Rattle.std.specs.Float.Ieee.{round, to_unsigned};
 ghost use Rattle.std.proofs.lemmas.List.Edits.{sets};
 ghost use Rattle.lists.specs.Lists.{pick};
 ghost use Rattle.text.specs.Text.{before};
 ghost use Rattle.text.specs.Tokens.{all_digits, value_after};
-ghost use Rattle.text.specs.declared.Token.TheVariants.{Not, Value};
 ghost use Rattle.decimals.specs.Decimals.{decimal_text, hex, hex_digit, hex_text, is_point, nearest_bits, places_from, reads_back, real, real_text, scaled, unsigned};
 ghost use Rattle.decimals.specs.Parts.{digit_byte, last_in, places_text, sign_text};
 
 use output::{put_decimal, put_text};
-use text::Token;
 
 fn ten_to(k: usize) -> u64
     requires { k ≤ 15 }
     ensures { (result ≡ 10 ^ k) × (result ≤ 1000000000000000) }
 {
-    let mut n: u64 = 1;
-    let mut i: usize = 0;
-    while i < k {
-        n = n * 10;
-        i += 1;
-    }
-    n
+    10u64.pow(k as u32)
 }
 
 fn power(k: usize) -> f64
@@ -55,79 +47,63 @@ fn wide(b: u8) -> u64
 }
 
 // The digits of a word, after those of the number n.
-fn digits_after(word: &[u8], n: u64) -> Token
+fn digits_after(word: &[u8], n: u64) -> Option<u64>
     requires { (n + 1) * 10 ^ length word.now ≤ 1000000000000000 }
-    ensures { result ≡ pick (all_digits word.now) (Value (value_after n word.now)) Not }
+    ensures { result ≡ pick (all_digits word.now) (Some (value_after n word.now)) None }
 {
     let mut m = n;
-    let mut i: usize = 0;
-    while i < word.len() {
-        let b = word[i];
-        if b < b'0' {
-            return Token::Not;
+    for b in word {
+        if *b < b'0' {
+            return None;
         }
-        if b > b'9' {
-            return Token::Not;
+        if *b > b'9' {
+            return None;
         }
-        m = m * 10 + (wide(b) - 48);
-        i += 1;
+        m = m * 10 + (wide(*b) - 48);
     }
-    Token::Value(m)
+    Some(m)
 }
 
 // Where the point of a word stands; the word's length where there is none.
 fn point_of(word: &[u8]) -> usize
     ensures { (result ≡ length (before is_point word.now)) × (result ≤ length word.now) }
 {
-    let mut i: usize = 0;
-    while i < word.len() {
-        if word[i] == b'.' {
-            break;
-        }
-        i += 1;
-    }
-    i
+    word.iter().position(|b| *b == b'.').unwrap_or(word.len())
 }
 
 // The digits of a word, after those of the number n, over 10^k.
-fn places_after(negative: bool, word: &[u8], n: u64, k: usize) -> Token
+fn places_after(negative: bool, word: &[u8], n: u64, k: usize) -> Option<u64>
     requires { ((n + 1) * 10 ^ length word.now ≤ 1000000000000000) × (k ≤ 15) }
-    ensures { result ≡ pick (all_digits word.now) (Value (nearest_bits negative (value_after n word.now) k)) Not }
+    ensures { result ≡ pick (all_digits word.now) (Some (nearest_bits negative (value_after n word.now) k)) None }
 {
-    let all = digits_after(word, n);
-    match all {
-        Token::Not => Token::Not,
-        Token::Value(m) => Token::Value(nearest_bits(negative, m, k)),
-    }
+    let m = digits_after(word, n)?;
+    Some(nearest_bits(negative, m, k))
 }
 
 // A decimal without a sign.
-fn unsigned_of(negative: bool, word: &[u8]) -> Token
+fn unsigned_of(negative: bool, word: &[u8]) -> Option<u64>
     ensures { result ≡ unsigned negative word.now }
 {
     let n = word.len();
     let point = point_of(word);
     if point == 0 {
-        return Token::Not;
+        return None;
     }
     if n > 16 {
-        return Token::Not;
+        return None;
     }
     if point == n {
         if n > 15 {
-            return Token::Not;
+            return None;
         }
         return places_after(negative, word, 0, 0);
     }
     let first = point + 1;
     if first == n {
-        return Token::Not;
+        return None;
     }
-    let whole = digits_after(&word[0..point], 0);
-    match whole {
-        Token::Not => Token::Not,
-        Token::Value(m) => places_after(negative, &word[first..n], m, n - first),
-    }
+    let m = digits_after(&word[0..point], 0)?;
+    places_after(negative, &word[first..n], m, n - first)
 }
 
 // The value of a hexadecimal digit, or 16.
@@ -157,32 +133,30 @@ fn hex_digit(b: u8) -> u64
 }
 
 // 0x and 16 hexadecimal digits.
-fn hex_of(word: &[u8]) -> Token
+fn hex_of(word: &[u8]) -> Option<u64>
     ensures { result ≡ hex word.now }
 {
     if word.len() != 18 {
-        return Token::Not;
+        return None;
     }
     let mut n: u64 = 0;
-    let mut i: usize = 2;
-    while i < 18 {
-        let d = hex_digit(word[i]);
+    for b in &word[2..] {
+        let d = hex_digit(*b);
         if d == 16 {
-            return Token::Not;
+            return None;
         }
         n = n * 16 + d;
-        i += 1;
     }
-    Token::Value(n)
+    Some(n)
 }
 
 // An f64, as its bits.
-pub fn real_of(word: &[u8]) -> Token
+pub fn real_of(word: &[u8]) -> Option<u64>
     ensures { result ≡ real word.now }
 {
     let n = word.len();
     if n == 0 {
-        return Token::Not;
+        return None;
     }
     if word[0] == b'-' {
         return unsigned_of(true, &word[1..n]);
@@ -239,14 +213,12 @@ fn reads_back(bits: u64, k: usize) -> bool
 fn places_of(bits: u64) -> usize
     ensures { (result ≡ places_from bits 10 0) × (result ≤ 10) }
 {
-    let mut k: usize = 0;
-    while k < 10 {
+    for k in 0..10 {
         if reads_back(bits, k) {
-            break;
+            return k;
         }
-        k += 1;
     }
-    k
+    10
 }
 
 // The byte of a digit.

@@ -2,7 +2,6 @@
 // has a fault, its line and what is wrong go to standard error, and nothing is written.
 #![tactic(auto)]
 
-use draft_text::Made;
 use pattern::LONGEST;
 
 fn print_file(rt: &HostRuntime, file: &[u8; LONGEST], n: usize) {
@@ -29,9 +28,8 @@ fn main(rt: HostRuntime) {
         return;
     };
     let mut file = [0u8; LONGEST];
-    let made = draft_text::make(&text[0..n], &mut file);
-    match made {
-        Made::Length(length) => {
+    match draft_text::make(&text[0..n], &mut file) {
+        Ok(length) => {
             print_file(&rt, &file, length);
         }
         other => {

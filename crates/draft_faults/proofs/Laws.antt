@@ -1,30 +1,45 @@
 -- Which text each branch writes.
+use Rattle.draft_text.specs.declared.DraftError.{DraftError}
+use Rattle.draft_text.specs.declared.DraftError.TheVariants.{At}
+use Rattle.std.specs.Prelude.{Err, Ok, Result}
 use Prim.Native.Nat.{◌+◌, ◌≤◌, ℕ}
 use mathlib.Core.List.{List, ◌++◌}
-use mathlib.Core.Path.{◌≡◌, refl}
+use mathlib.Core.Path.{◌∙◌, ◌≡◌, ap, refl}
 use native.Mathlib.Omega.{arith}
 use lib.ListN.{length}
 use lib.Seq.{sets}
 use borrow.Author.Tests.{ne_eqb}
 use Rattle.lists.proofs.Sets.{Put}
-use Rattle.draft_faults.specs.FaultLines.{fault_text, line_form, line_word, made_text, meaning}
+use Rattle.draft_forms.specs.declared.LineKind.{LineKind}
+use Rattle.draft_forms.specs.declared.LineKind.TheVariants.{Comment, Edge, Empty, Face, Point, Shell, Unknown}
+use Rattle.draft_faults.specs.FaultLines.{error_text, fault_text, line_form, line_word, made_text, meaning}
 use Rattle.errors.specs.Numbers.{number}
 use Rattle.errors.specs.declared.Refusal.{Refusal}
 use Rattle.errors.specs.declared.Refusal.TheVariants.{Unnamed}
 use Rattle.output.specs.Text.{ascii, decimal, digits, field}
 use Rattle.draft_text.specs.declared.Fault.{Fault}
 use Rattle.draft_text.specs.declared.Fault.TheVariants.{Number, Refused, Word}
-use Rattle.draft_text.specs.declared.Made.{Made}
-use Rattle.draft_text.specs.declared.Made.TheVariants.{At, Length}
 
--- the last form, the last word and the last meaning are those of a number that no test names
-pub form_last : (k : ℕ) → (k ≡ 1 → ⊥) → (k ≡ 2 → ⊥) → (k ≡ 3 → ⊥) → (k ≡ 6 → ⊥) → line_form k ≡ line_form 4
+-- the last form, the last word and the last meaning are those of what no test names
+pub form_last : (k : LineKind) → (k ≡ Point → ⊥) → (k ≡ Edge → ⊥) → (k ≡ Face → ⊥) → (k ≡ Empty → ⊥) → line_form k ≡ line_form Shell
 unfolding line_form
-form_last k a b c d = rw (ne_eqb k 1 a, ne_eqb k 2 b, ne_eqb k 3 c, ne_eqb k 6 d)
+form_last Point a b c d = absurd (a refl)
+form_last Edge a b c d = absurd (b refl)
+form_last Face a b c d = absurd (c refl)
+form_last Shell a b c d = refl
+form_last Comment a b c d = refl
+form_last Empty a b c d = absurd (d refl)
+form_last Unknown a b c d = refl
 
-pub word_last : (k : ℕ) → (k ≡ 1 → ⊥) → (k ≡ 2 → ⊥) → (k ≡ 3 → ⊥) → line_word k ≡ line_word 4
+pub word_last : (k : LineKind) → (k ≡ Point → ⊥) → (k ≡ Edge → ⊥) → (k ≡ Face → ⊥) → line_word k ≡ line_word Shell
 unfolding line_word
-word_last k a b c = rw (ne_eqb k 1 a, ne_eqb k 2 b, ne_eqb k 3 c)
+word_last Point a b c = absurd (a refl)
+word_last Edge a b c = absurd (b refl)
+word_last Face a b c = absurd (c refl)
+word_last Shell a b c = refl
+word_last Comment a b c = refl
+word_last Empty a b c = refl
+word_last Unknown a b c = refl
 
 pub meaning_last : (n : ℕ) → (n ≡ 2 → ⊥) → (n ≡ 3 → ⊥) → (n ≡ 4 → ⊥) → (n ≡ 5 → ⊥) → (n ≡ 6 → ⊥) → (n ≡ 7 → ⊥) → (n ≡ 8 → ⊥) → meaning n ≡ meaning 1
 unfolding meaning
@@ -36,33 +51,42 @@ pub put_short : (l : List ℕ) (at m : ℕ) {xs ys : List ℕ} (out : List ℕ) 
 put_short l at m out end e p h = rw e (p.0, p.1, omega (arith, p.1))
 
 -- what is wrong: a word, a number, or a refusal
-pub word_is : {f : Fault} (k w : ℕ) → f ≡ Word k w → (k ≡ 0 → ⊥) → fault_text f ≡ field ": word " w ++ ascii " of " ++ line_form k
-word_is k w e h = rw (e, ne_eqb k 0 h)
+word_known : (k : LineKind) (w : ℕ) → (k ≡ Unknown → ⊥) → fault_text (Word k w) ≡ field ": word " w ++ ascii " of " ++ line_form k
+word_known Point w h = refl
+word_known Edge w h = refl
+word_known Face w h = refl
+word_known Shell w h = refl
+word_known Comment w h = refl
+word_known Empty w h = refl
+word_known Unknown w h = absurd (h refl)
 
-pub number_is : {f : Fault} (k n : ℕ) → f ≡ Number k n → fault_text f ≡ line_word k ++ decimal n ++ ascii " is expected\n"
+pub word_is : {f : Fault} (k : LineKind) (w : ℕ) → f ≡ Word k w → (k ≡ Unknown → ⊥) → fault_text f ≡ field ": word " w ++ ascii " of " ++ line_form k
+word_is k w e h = ap fault_text e ∙ word_known k w h
+
+pub number_is : {f : Fault} (k : LineKind) (n : ℕ) → f ≡ Number k n → fault_text f ≡ line_word k ++ decimal n ++ ascii " is expected\n"
 number_is k n e = rw e
 
 pub refused_is : {f : Fault} (r : Refusal) (n : ℕ) → f ≡ Refused r → n ≡ number r → fault_text f ≡ field ": refused " n ++ meaning n
 refused_is r n e h = rw (e, h)
 
 -- nothing, or the line
-pub none_is : {m : Made} (n : ℕ) (l : List ℕ) → m ≡ Length n → (l ≡ sets l 0 (made_text m)) × (0 ≡ length (made_text m))
+pub none_is : {m : Result ℕ DraftError} (n : ℕ) (l : List ℕ) → m ≡ Ok n → (l ≡ sets l 0 (made_text m)) × (0 ≡ length (made_text m))
 unfolding made_text
 none_is n l e = rw e (refl, refl)
 
-pub line_is : {m : Made} (n : ℕ) (f : Fault) → m ≡ At n f → made_text m ≡ field "line " n ++ fault_text f
+pub error_is : {m : Result ℕ DraftError} {e d : DraftError} → m ≡ Err e → e ≡ d → made_text m ≡ error_text d
 unfolding made_text
-line_is n f e = rw e
+error_is i h = rw (i, h)
 
 -- examples
-word_of : made_text (At 3 (Word 1 4)) ≡ ascii "line 3: word 4 of point NUMBER label LABEL\n"
+word_of : made_text (Err (At 3 (Word Point 4))) ≡ ascii "line 3: word 4 of point NUMBER label LABEL\n"
 unfolding made_text line_form field decimal digits
 word_of = refl
 
-number_of : made_text (At 5 (Number 1 3)) ≡ ascii "line 5: point 3 is expected\n"
+number_of : made_text (Err (At 5 (Number Point 3))) ≡ ascii "line 5: point 3 is expected\n"
 unfolding made_text line_word field decimal digits
 number_of = refl
 
-refused_of : made_text (At 12 (Refused (Unnamed 2 7))) ≡ ascii "line 12: refused 3: a number that names nothing\n"
+refused_of : made_text (Err (At 12 (Refused (Unnamed 2 7)))) ≡ ascii "line 12: refused 3: a number that names nothing\n"
 unfolding made_text meaning field decimal digits
 refused_of = refl

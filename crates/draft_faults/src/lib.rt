@@ -5,49 +5,39 @@ ghost use Rattle.std.specs.Prelude.{◌≡◌, ◌+◌, ◌≤◌, length};
 ghost use Rattle.std.proofs.lemmas.List.Edits.{sets};
 ghost use Rattle.draft_faults.specs.FaultLines.{fault_text, line_form, line_word, made_text, meaning};
 
-use draft_text::{Fault, Made};
-use errors::number_of;
+use draft_forms::LineKind;
+use draft_text::{DraftError, Fault};
 use output::{put_decimal, put_field, put_text};
 
-// Writes the form of a line of kind k from `at` on, and returns the place after it.
-fn put_form(out: &mut [u8], at: usize, k: usize) -> usize
+// Writes the form of a line of this kind from `at` on, and returns the place after it.
+fn put_form(out: &mut [u8], at: usize, kind: LineKind) -> usize
     requires { at + 80 ≤ length out.old }
-    ensures { (out.new ≡ sets out.old at (line_form k)) × (result ≡ at + length (line_form k)) × (result ≤ at + 80) }
+    ensures { (out.new ≡ sets out.old at (line_form kind)) × (result ≡ at + length (line_form kind)) × (result ≤ at + 80) }
 {
-    if k == 1 {
-        return put_text(out, at, b"point NUMBER label LABEL\n");
-    }
-    if k == 2 {
-        return put_text(out, at, b"edge NUMBER from POINT to POINT span T0 T1\n");
-    }
-    if k == 3 {
-        return put_text(
+    match kind {
+        LineKind::Point => put_text(out, at, b"point NUMBER label LABEL\n"),
+        LineKind::Edge => put_text(out, at, b"edge NUMBER from POINT to POINT span T0 T1\n"),
+        LineKind::Face => put_text(
             out,
             at,
             b"face NUMBER surface SURFACE wire USE .. wire USE ..\n",
-        );
+        ),
+        LineKind::Empty => put_text(out, at, b"empty\n"),
+        _ => put_text(out, at, b"shell NUMBER faces LISTING ..\n"),
     }
-    if k == 6 {
-        return put_text(out, at, b"empty\n");
-    }
-    put_text(out, at, b"shell NUMBER faces LISTING ..\n")
 }
 
-// Writes the word of a line of kind k, which has a number, from `at` on, and returns the place after it.
-fn put_word(out: &mut [u8], at: usize, k: usize) -> usize
+// Writes the word of a line of this kind, which has a number, from `at` on, and returns the place after it.
+fn put_word(out: &mut [u8], at: usize, kind: LineKind) -> usize
     requires { at + 80 ≤ length out.old }
-    ensures { (out.new ≡ sets out.old at (line_word k)) × (result ≡ at + length (line_word k)) × (result ≤ at + 80) }
+    ensures { (out.new ≡ sets out.old at (line_word kind)) × (result ≡ at + length (line_word kind)) × (result ≤ at + 80) }
 {
-    if k == 1 {
-        return put_text(out, at, b": point ");
+    match kind {
+        LineKind::Point => put_text(out, at, b": point "),
+        LineKind::Edge => put_text(out, at, b": edge "),
+        LineKind::Face => put_text(out, at, b": face "),
+        _ => put_text(out, at, b": shell "),
     }
-    if k == 2 {
-        return put_text(out, at, b": edge ");
-    }
-    if k == 3 {
-        return put_text(out, at, b": face ");
-    }
-    put_text(out, at, b": shell ")
 }
 
 // Writes the meaning of refusal n from `at` on, and returns the place after it.
@@ -89,8 +79,8 @@ fn put_fault(out: &mut [u8], at: usize, f: Fault) -> usize
     ensures { (out.new ≡ sets out.old at (fault_text f)) × (result ≡ at + length (fault_text f)) × (result ≤ at + 160) }
 {
     match f {
-        Fault::Word(k, w) => {
-            if k == 0 {
+        Fault::Word(kind, w) => {
+            if let LineKind::Unknown = kind {
                 return put_text(
                     out,
                     at,
@@ -99,15 +89,15 @@ fn put_fault(out: &mut [u8], at: usize, f: Fault) -> usize
             }
             let mut end = put_field(out, at, b": word ", w);
             end = put_text(out, end, b" of ");
-            put_form(out, end, k)
+            put_form(out, end, kind)
         }
-        Fault::Number(k, n) => {
-            let mut end = put_word(out, at, k);
+        Fault::Number(kind, n) => {
+            let mut end = put_word(out, at, kind);
             end = put_decimal(out, end, n);
             put_text(out, end, b" is expected\n")
         }
         Fault::Refused(r) => {
-            let n = number_of(r);
+            let n = r.number();
             let end = put_field(out, at, b": refused ", n);
             put_meaning(out, end, n)
         }
@@ -115,28 +105,30 @@ fn put_fault(out: &mut [u8], at: usize, f: Fault) -> usize
 }
 
 // Writes the line that says what is wrong, if anything, and returns its length.
-pub fn put_made(m: Made, out: &mut [u8; 256]) -> usize
+pub fn put_made(m: Result<usize, DraftError>, out: &mut [u8; 256]) -> usize
     ensures { (out.new ≡ sets out.old 0 (made_text m)) × (result ≡ length (made_text m)) × (result ≤ 256) }
 {
-    match m {
-        Made::Length(n) => 0,
-        Made::TooLong => put_text(out, 0, b"over 262144 bytes\n"),
-        Made::Marked => put_text(
+    let Err(e) = m else {
+        return 0;
+    };
+    match e {
+        DraftError::TooLong => put_text(out, 0, b"over 262144 bytes\n"),
+        DraftError::Marked => put_text(
             out,
             0,
             b"begins with a byte order mark: save the text as UTF-8 without one\n",
         ),
-        Made::Nothing => put_text(
+        DraftError::Nothing => put_text(
             out,
             0,
             b"says nothing: no point, edge, face or shell (a line \"empty\" makes an empty pattern)\n",
         ),
-        Made::NotEmpty => put_text(
+        DraftError::NotEmpty => put_text(
             out,
             0,
             b"has a line \"empty\", and points, edges, faces or shells too\n",
         ),
-        Made::At(line, f) => {
+        DraftError::At(line, f) => {
             let at = put_field(out, 0, b"line ", line);
             put_fault(out, at, f)
         }

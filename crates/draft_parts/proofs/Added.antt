@@ -5,6 +5,8 @@ use mathlib.Core.Path.{◌∙◌, ◌≡◌, ap, refl, sym}
 use native.Mathlib.Omega.{arith}
 use lib.ListN.{drop, get_or, length, length-append, length-drop, length-map, set, take}
 use lib.Seq.{length-take-le, sets, sets-eq, take_at}
+use Rattle.draft_forms.specs.declared.LineKind.{LineKind}
+use Rattle.draft_forms.specs.declared.LineKind.TheVariants.{Edge as EdgeLine, Face as FaceLine, Point, Shell}
 use Rattle.edge.specs.declared.Edge.{Edge}
 use Rattle.face.specs.declared.Face.{Face}
 use Rattle.lists.specs.Lists.{flat}
@@ -73,12 +75,12 @@ module _ (p : Pattern) (vs ns : List ℕ) (seven : length p.counts ≡ 7) (is : 
   pub point_added : (x : ℕ) (p₁ p₂ : Pattern) → x ≡ min (get_or vs 2 0) 4294967295 → p₁ ≡ with_points p (set p.points (get_or ns 0 0) x)
       → p₂ ≡ with_counts p₁ (set p₁.counts 0 (get_or ns 0 0 + 1)) → p₂ ≡ added p (point_parts vs)
   unfolding parts_of
-  point_added x p₁ p₂ e a b = b ∙ rw (a, e, is) (ap (with_counts (added p (point_parts vs))) (after_point 1 vs p.counts seven refl))
+  point_added x p₁ p₂ e a b = b ∙ rw (a, e, is) (ap (with_counts (added p (point_parts vs))) (after_point Point vs p.counts seven refl))
 
   pub edge_added : (x : Edge) (p₁ p₂ : Pattern) → x ≡ edge_of vs → p₁ ≡ with_edges p (set p.edges (get_or ns 1 0) x)
       → p₂ ≡ with_counts p₁ (set p₁.counts 1 (get_or ns 1 0 + 1)) → p₂ ≡ added p (edge_parts vs)
   unfolding parts_of
-  edge_added x p₁ p₂ e a b = b ∙ rw (a, e, is) (ap (with_counts (added p (edge_parts vs))) (after_edge 2 vs p.counts seven refl))
+  edge_added x p₁ p₂ e a b = b ∙ rw (a, e, is) (ap (with_counts (added p (edge_parts vs))) (after_edge EdgeLine vs p.counts seven refl))
 
   pub face_added : (u w : ℕ) (f : Face) (p₁ p₂ p₃ p₄ p₅ : Pattern) → u ≡ length (flat (wires_of vs)) → w ≡ length (wires_of vs) → f ≡ face_of vs
       → p₁ ≡ with_wires (with_uses p (sets p.uses (get_or ns 2 0) (flat (wires_of vs)))) (sets p.wires (get_or ns 3 0) (wire_lengths (wires_of vs)))
@@ -86,7 +88,7 @@ module _ (p : Pattern) (vs ns : List ℕ) (seven : length p.counts ≡ 7) (is : 
       → p₄ ≡ with_counts p₃ (set p₃.counts 2 (get_or ns 2 0 + u)) → p₅ ≡ with_counts p₄ (set p₄.counts 3 (get_or ns 3 0 + w)) → p₅ ≡ added p (face_parts vs)
   unfolding parts_of
   face_added u w f p₁ p₂ p₃ p₄ p₅ eu ew ef x₁ x₂ x₃ x₄ x₅ =
-      x₅ ∙ rw (x₄, x₃, x₂, x₁, ef, is) (ap (with_counts (added p (face_parts vs))) (after_face 3 vs p.counts seven u w refl eu ew))
+      x₅ ∙ rw (x₄, x₃, x₂, x₁, ef, is) (ap (with_counts (added p (face_parts vs))) (after_face FaceLine vs p.counts seven u w refl eu ew))
 
   pub shell_added : (n : ℕ) (p₁ p₂ p₃ p₄ : Pattern) → 2 ≤ length vs → n ≡ short (length vs - 2) → p₁ ≡ with_shells p (set p.shells (get_or ns 5 0) n)
       → p₂ ≡ with_listings p₁ (sets p₁.listings (get_or ns 6 0) (map short (drop 2 vs))) → p₃ ≡ with_counts p₂ (set p₂.counts 5 (get_or ns 5 0 + 1))
@@ -94,8 +96,8 @@ module _ (p : Pattern) (vs ns : List ℕ) (seven : length p.counts ≡ 7) (is : 
   unfolding parts_of
   shell_added n p₁ p₂ p₃ p₄ some en x₁ x₂ x₃ x₄ =
       let long : n ≡ short (length (drop 2 vs)) = en ∙ ap short (sym (length-drop 2 vs)) in
-      x₄ ∙ rw (x₃, x₂, x₁, long, is) (ap (with_counts (added p (shell_parts vs))) (after_shell 4 vs p.counts seven refl some))
+      x₄ ∙ rw (x₃, x₂, x₁, long, is) (ap (with_counts (added p (shell_parts vs))) (after_shell Shell vs p.counts seven refl some))
 
 -- a line of another kind
-pub none_added : (p : Pattern) (k : ℕ) (vs : List ℕ) → length p.counts ≡ 7 → (k ≡ 1 → ⊥) → (k ≡ 2 → ⊥) → (k ≡ 3 → ⊥) → (k ≡ 4 → ⊥) → p ≡ added p (parts_of k vs)
+pub none_added : (p : Pattern) (k : LineKind) (vs : List ℕ) → length p.counts ≡ 7 → (k ≡ Point → ⊥) → (k ≡ EdgeLine → ⊥) → (k ≡ FaceLine → ⊥) → (k ≡ Shell → ⊥) → p ≡ added p (parts_of k vs)
 none_added p k vs seven a b c d = rw (parts_none k vs a b c d) (ap (with_counts p) (summed_none p.counts seven))

@@ -1,7 +1,9 @@
--- What a line of text adds to a pattern: a point, an edge, a face with its wires, a shell with its listings (docs/GUIDE.md, A first garment by hand). Lines have kinds: 1 point, 2 edge, 3 face, 4 shell, 6 that there is none of them.
+-- What a line of text adds to a pattern: a point, an edge, a face with its wires, a shell with its listings (docs/GUIDE.md, A first garment by hand).
 use Rattle.std.specs.Prelude.{◌+◌, min, ℕ, Bool, List, [], ◌++◌, ◌∷◌, map, eqb, drop, get_or, length}
 use Rattle.std.specs.Float.{binary64}
 use Rattle.std.specs.Float.Ieee.{of_bits}
+use Rattle.draft_forms.specs.declared.LineKind.{LineKind}
+use Rattle.draft_forms.specs.declared.LineKind.TheVariants.{Edge as EdgeLine, Empty, Face as FaceLine, Point, Shell}
 use Rattle.edge.specs.Edges.{edge}
 use Rattle.edge.specs.declared.Edge.{Edge}
 use Rattle.face.specs.declared.Face.{Face}
@@ -11,8 +13,11 @@ use Rattle.text.specs.Text.{front}
 use Rattle.words.specs.Words.{short}
 
 -- how many words must be there after the first
-unfoldable pub needed_words : ℕ → ℕ
-needed_words k = pick (eqb k 2) 8 (pick (eqb k 4) 2 (pick (eqb k 6) 0 3))
+unfoldable pub needed_words : LineKind → ℕ
+needed_words EdgeLine = 8
+needed_words Shell = 2
+needed_words Empty = 0
+needed_words other = 3
 
 abbrev pub nothing : Content
 nothing = record { points = []; edges = []; uses = []; wires = []; faces = []; shells = []; listings = [] }
@@ -75,6 +80,10 @@ face_parts vs = record {
 abbrev pub shell_parts : List ℕ → Content
 shell_parts vs = record { points = []; edges = []; uses = []; wires = []; faces = []; shells = short (length (drop 2 vs)) ∷ []; listings = map short (drop 2 vs) }
 
--- what a line of kind k with these values says
-unfoldable pub parts_of : ℕ → List ℕ → Content
-parts_of k vs = pick (eqb k 1) (point_parts vs) (pick (eqb k 2) (edge_parts vs) (pick (eqb k 3) (face_parts vs) (pick (eqb k 4) (shell_parts vs) nothing)))
+-- what a line of a kind with these values says
+unfoldable pub parts_of : LineKind → List ℕ → Content
+parts_of Point vs = point_parts vs
+parts_of EdgeLine vs = edge_parts vs
+parts_of FaceLine vs = face_parts vs
+parts_of Shell vs = shell_parts vs
+parts_of other vs = nothing

@@ -12,6 +12,7 @@ ghost use Rattle.draft_parts.specs.Parts.{bare, edge_of, edge_parts, face_parts,
 ghost use Rattle.words.specs.Words.{short};
 ghost use Rattle.store.specs.Columns.{with_uses, with_wires};
 
+use draft_forms::LineKind;
 use edge::{Curve, Edge};
 use face::Face;
 use pattern::Counts;
@@ -23,20 +24,16 @@ use store_read::f64_of;
 use vertex::VertexID;
 use words::{put_saturated, saturated};
 
-// How many words a line of kind k must have after the first.
-pub fn needed(k: usize) -> usize
-    ensures { result ≡ needed_words k }
+// How many words a line of this kind must have after the first.
+pub fn needed(kind: LineKind) -> usize
+    ensures { result ≡ needed_words kind }
 {
-    if k == 2 {
-        return 8;
+    match kind {
+        LineKind::Edge => 8,
+        LineKind::Shell => 2,
+        LineKind::Empty => 0,
+        _ => 3,
     }
-    if k == 4 {
-        return 2;
-    }
-    if k == 6 {
-        return 0;
-    }
-    3
 }
 
 // Whether a pattern with these counts has no points, edges, faces and shells.
@@ -81,14 +78,12 @@ fn count_wires(v: &[u64]) -> Tail
 {
     let mut uses: usize = 0;
     let mut wires: usize = 0;
-    let mut i: usize = 0;
-    while i < v.len() {
-        if v[i] == 65536 {
+    for x in v {
+        if *x == 65536 {
             wires += 1;
         } else if wires > 0 {
             uses += 1;
         }
-        i += 1;
     }
     Tail {
         uses: uses,
@@ -96,40 +91,42 @@ fn count_wires(v: &[u64]) -> Tail
     }
 }
 
-// The counts after a line of kind k with these values.
-pub fn counts_after(k: usize, v: &[u64], counts: Counts) -> Counts
+// The counts after a line of this kind with these values.
+pub fn counts_after(kind: LineKind, v: &[u64], counts: Counts) -> Counts
     requires { count_faults counts ≡ [] }
-    ensures { result ≡ summed counts (counts_of (parts_of k v.now)) }
+    ensures { result ≡ summed counts (counts_of (parts_of kind v.now)) }
 {
     let mut after = counts;
     let n = v.len();
-    if k == 1 {
-        after[0] = counts[0] + 1;
-        return after;
-    }
-    if k == 2 {
-        after[1] = counts[1] + 1;
-        return after;
-    }
-    if k == 3 {
-        after[4] = counts[4] + 1;
-        if n < 3 {
-            return after;
+    match kind {
+        LineKind::Point => {
+            after[0] = counts[0] + 1;
+            after
         }
-        let more = count_wires(&v[3..n]);
-        after[2] = counts[2] + more.uses;
-        after[3] = counts[3] + more.wires;
-        return after;
-    }
-    if k == 4 {
-        after[5] = counts[5] + 1;
-        if n < 2 {
-            return after;
+        LineKind::Edge => {
+            after[1] = counts[1] + 1;
+            after
         }
-        after[6] = counts[6] + (n - 2);
-        return after;
+        LineKind::Face => {
+            after[4] = counts[4] + 1;
+            if n < 3 {
+                return after;
+            }
+            let more = count_wires(&v[3..n]);
+            after[2] = counts[2] + more.uses;
+            after[3] = counts[3] + more.wires;
+            after
+        }
+        LineKind::Shell => {
+            after[5] = counts[5] + 1;
+            if n < 2 {
+                return after;
+            }
+            after[6] = counts[6] + (n - 2);
+            after
+        }
+        _ => after,
     }
-    after
 }
 
 // Adds the label of a point.
@@ -178,19 +175,17 @@ fn add_wires(v: &[u64], t: &mut Tables, used: usize, wired: usize) -> Tail
     let mut u = used;
     let mut w = wired;
     let mut size: usize = 0;
-    let mut i: usize = 0;
-    while i < v.len() {
-        if v[i] == 65536 {
+    for x in v {
+        if *x == 65536 {
             t[WIRES + w] = 0;
             w += 1;
             size = 0;
         } else if w > wired {
-            t[USES + u] = saturated(v[i]);
+            t[USES + u] = saturated(*x);
             u += 1;
             size += 1;
             t[WIRES + (w - 1)] = small_length(size);
         }
-        i += 1;
     }
     Tail {
         uses: u - used,
@@ -232,25 +227,17 @@ fn add_shell(v: &[u64], t: &mut Tables)
     store_count(t, 6, (counts[6] + more) as u16);
 }
 
-// Adds what a line of kind k with these values says to the store.
-pub fn add_values(k: usize, v: &[u64], t: &mut Tables, spans: &mut Spans)
-    requires { (needed_words k ≤ length v.now) × (count_faults (summed (count_table t.old) (counts_of (parts_of k v.now))) ≡ []) }
-    ensures { held t.new spans.new ≡ added (held t.old spans.old) (parts_of k v.now) }
+// Adds what a line of this kind with these values says to the store.
+pub fn add_values(kind: LineKind, v: &[u64], t: &mut Tables, spans: &mut Spans)
+    requires { (needed_words kind ≤ length v.now) × (count_faults (summed (count_table t.old) (counts_of (parts_of kind v.now))) ≡ []) }
+    ensures { held t.new spans.new ≡ added (held t.old spans.old) (parts_of kind v.now) }
 {
     tables_known(t);
-    if k == 1 {
-        add_point(v, t);
-        return;
-    }
-    if k == 2 {
-        add_edge(v, t, spans);
-        return;
-    }
-    if k == 3 {
-        add_face(v, t);
-        return;
-    }
-    if k == 4 {
-        add_shell(v, t);
+    match kind {
+        LineKind::Point => add_point(v, t),
+        LineKind::Edge => add_edge(v, t, spans),
+        LineKind::Face => add_face(v, t),
+        LineKind::Shell => add_shell(v, t),
+        _ => {}
     }
 }

@@ -1,24 +1,19 @@
 -- A line: its words, then the limits, then its parts.
+use Rattle.std.specs.Prelude.{Err, Ok, Result}
 use Prim.Native.Nat.{◌≤◌, ℕ}
-use mathlib.Core.Bool.{Bool, false, true}
 use mathlib.Core.List.{List, [], ◌++◌, ◌∷◌, append-nil, map}
 use mathlib.Core.Path.{◌∙◌, ◌≡◌, ap, refl, sym}
-use native.Mathlib.Omega.{arith}
-use lib.Dec.{eqb}
 use lib.Ieee.{Float}
 use lib.ListN.{length}
-use borrow.Author.Tests.{ne_eqb}
 use Rattle.errors.proofs.Laws.{accepted_none}
 use Rattle.errors.specs.Faults.{first}
-use Rattle.errors.specs.declared.Check.{Check}
-use Rattle.errors.specs.declared.Check.TheVariants.{Accepted, Refused as CheckRefused}
 use Rattle.errors.specs.declared.Refusal.{Refusal}
 use Rattle.draft_forms.specs.LineForms.{line_kind, line_values}
+use Rattle.draft_forms.specs.declared.LineKind.{LineKind}
+use Rattle.draft_forms.specs.declared.LineKind.TheVariants.{Comment, Edge, Empty, Face, Point, Shell, Unknown}
 use Rattle.draft_parts.proofs.Added.{content_added, counts_joined}
-use Rattle.draft_parts.proofs.Counts.{parts_none}
 use Rattle.draft_parts.specs.Adding.{added, summed}
 use Rattle.draft_parts.specs.Parts.{joined, needed_words, nothing, parts_of}
-use Rattle.lists.specs.Lists.{pick}
 use Rattle.pattern.proofs.Counts.{limited}
 use Rattle.pattern.specs.Checks.{count_faults}
 use Rattle.pattern.specs.Contents.{Content, Pattern, content, counts_of}
@@ -27,20 +22,18 @@ use Rattle.store.specs.Store.{count_table, held}
 use Rattle.store_write.proofs.Parts.{counts_same}
 use Rattle.draft_text.proofs.Lines.{wrong_right}
 use Rattle.draft_text.specs.Gathering.{first_wrong, read_faults}
-use Rattle.draft_text.specs.TextPattern.{line_faults, line_parts, next_number, word_faults}
+use Rattle.draft_text.specs.TextPattern.{by_kind, line_faults, line_parts, next_number, word_faults}
 use Rattle.draft_text.specs.declared.Fault.{Fault}
-use Rattle.draft_text.specs.declared.Fault.TheVariants.{Refused, Word}
-use Rattle.draft_text.specs.declared.LineCheck.{LineCheck}
-use Rattle.draft_text.specs.declared.LineCheck.TheVariants.{Right, Wrong}
+use Rattle.draft_text.specs.declared.Fault.TheVariants.{Refused}
 
 -- an answer, and the next if that is right
-abbrev or_then : LineCheck → LineCheck → LineCheck
-or_then Right r = r
-or_then (Wrong f) r = Wrong f
+abbrev or_then : Result Unit Fault → Result Unit Fault → Result Unit Fault
+or_then (Ok x) r = r
+or_then (Err f) r = Err f
 
-abbrev of_check : Check → LineCheck
-of_check Accepted = Right
-of_check (CheckRefused f) = Wrong (Refused f)
+abbrev of_check : Result Unit Refusal → Result Unit Fault
+of_check (Ok x) = Ok x
+of_check (Err f) = Err (Refused f)
 
 first_append : (xs ys : List Fault) → first_wrong (xs ++ ys) ≡ or_then (first_wrong xs) (first_wrong ys)
 first_append [] ys = refl
@@ -50,11 +43,28 @@ first_limits : (fs : List Refusal) → first_wrong (map Refused fs) ≡ of_check
 first_limits [] = refl
 first_limits (f ∷ fs) = refl
 
-first_pick : (a b : Bool) (f : Fault) (xs ys : List Fault)
-    → first_wrong (pick a [] (pick b (f ∷ []) (xs ++ ys))) ≡ or_then (first_wrong (pick a [] (pick b (f ∷ []) xs))) (first_wrong (pick a [] ys))
-first_pick true b f xs ys = refl
-first_pick false true f xs ys = refl
-first_pick false false f xs ys = first_append xs ys
+-- the limits are no fault of a comment
+abbrev past_comment : LineKind → List Fault → List Fault
+past_comment Comment fs = []
+past_comment other fs = fs
+
+past_other : (k : LineKind) (fs : List Fault) → (k ≡ Comment → ⊥) → past_comment k fs ≡ fs
+past_other Point fs h = refl
+past_other Edge fs h = refl
+past_other Face fs h = refl
+past_other Shell fs h = refl
+past_other Comment fs h = absurd (h refl)
+past_other Empty fs h = refl
+past_other Unknown fs h = refl
+
+first_kind : (k : LineKind) (xs ys : List Fault) → first_wrong (by_kind k (xs ++ ys)) ≡ or_then (first_wrong (by_kind k xs)) (first_wrong (past_comment k ys))
+first_kind Point xs ys = first_append xs ys
+first_kind Edge xs ys = first_append xs ys
+first_kind Face xs ys = first_append xs ys
+first_kind Shell xs ys = first_append xs ys
+first_kind Comment xs ys = refl
+first_kind Empty xs ys = first_append xs ys
+first_kind Unknown xs ys = refl
 
 joined_none : (p : Content) → p ≡ joined p nothing
 joined_none p = λ i. record {
@@ -68,12 +78,12 @@ joined_none p = λ i. record {
 }
 
 -- the words of a line first, and then the limits
-turn_of : (p : Content) (counts : List ℕ) → counts_of p ≡ counts → (ws : List (List ℕ)) → first_wrong (line_faults p ws) ≡ or_then (first_wrong (read_faults counts ws)) (first_wrong (pick (eqb (line_kind ws) 5) [] (map Refused (count_faults (summed counts (counts_of (line_parts ws)))))))
+turn_of : (p : Content) (counts : List ℕ) → counts_of p ≡ counts → (ws : List (List ℕ)) → first_wrong (line_faults p ws) ≡ or_then (first_wrong (read_faults counts ws)) (first_wrong (past_comment (line_kind ws) (map Refused (count_faults (summed counts (counts_of (line_parts ws)))))))
 unfolding line_faults read_faults
 turn_of p counts are ws =
     let both = counts_joined p (line_parts ws) ∙ ap (λ (ns : List ℕ). summed ns (counts_of (line_parts ws))) are in
     rw (both, are)
-    (first_pick (eqb (line_kind ws) 5) (eqb (line_kind ws) 0) (Word 0 1) (word_faults (line_kind ws) (next_number (line_kind ws) counts) ws) (map Refused (count_faults (summed counts (counts_of (line_parts ws))))))
+    (first_kind (line_kind ws) (word_faults (line_kind ws) (next_number (line_kind ws) counts) ws) (map Refused (count_faults (summed counts (counts_of (line_parts ws))))))
 
 -- ---- a store within the limits, before the line
 
@@ -96,48 +106,48 @@ module _ {t : List ℕ} {spans : List Float} {counts : List ℕ} (r : Ready t sp
     abbrev after : List ℕ
     after = summed counts (counts_of (line_parts ws))
 
-    in_turn : first_wrong (line_faults p ws) ≡ or_then (first_wrong (read_faults counts ws)) (first_wrong (pick (eqb (line_kind ws) 5) [] (map Refused (count_faults after))))
+    in_turn : first_wrong (line_faults p ws) ≡ or_then (first_wrong (read_faults counts ws)) (first_wrong (past_comment (line_kind ws) (map Refused (count_faults after))))
     in_turn = turn_of p counts same_counts ws
 
     -- what is owed: the answer, and if it is right the counts and the content with the line's parts
-    abbrev pub Owed : LineCheck → List ℕ → Content → Type 0
-    Owed check ns q = (check ≡ first_wrong (line_faults p ws)) × (check ≡ Right → (count_faults ns ≡ []) × (q ≡ joined p (line_parts ws)))
+    abbrev pub Owed : Result Unit Fault → List ℕ → Content → Type 0
+    Owed check ns q = (check ≡ first_wrong (line_faults p ws)) × (check ≡ Ok tt → (count_faults ns ≡ []) × (q ≡ joined p (line_parts ws)))
 
-    pub line_wrong : (f : Fault) (ns : List ℕ) (q : Content) → Wrong f ≡ first_wrong (read_faults counts ws) → Owed (Wrong f) ns q
-    line_wrong f ns q e = (sym (in_turn ∙ rw (sym e)), wrong_right f)
+    pub line_wrong : (f : Fault) (ns : List ℕ) (q : Content) {a : Result Unit Fault} → a ≡ Err f → Err f ≡ first_wrong (read_faults counts ws) → Owed a ns q
+    line_wrong f ns q i e = (i ∙ sym (in_turn ∙ rw (sym e)), λ r. wrong_right f (sym i ∙ r))
 
-    pub line_comment : (k : ℕ) → Right ≡ first_wrong (read_faults counts ws) → k ≡ line_kind ws → k ≡ 5 → Owed Right (count_table t) p
+    pub line_comment : (k : LineKind) → Ok tt ≡ first_wrong (read_faults counts ws) → k ≡ line_kind ws → k ≡ Comment → Owed (Ok tt) (count_table t) p
+    unfolding parts_of
     line_comment k right kind e =
-        let five : line_kind ws ≡ 5 = sym kind ∙ e in
-        let none : line_parts ws ≡ nothing =
-        parts_none (line_kind ws) (line_values ws) (λ (q : line_kind ws ≡ 1). omega arith) (λ (q : line_kind ws ≡ 2). omega arith) (λ (q : line_kind ws ≡ 3). omega arith) (λ (q : line_kind ws ≡ 4). omega arith) in
-        (sym (in_turn ∙ rw (sym right, five)), λ _. (r.few, rw none (joined_none p)))
+        let comment : line_kind ws ≡ Comment = sym kind ∙ e in
+        let none : line_parts ws ≡ nothing = ap (λ (k : LineKind). parts_of k (line_values ws)) comment in
+        (sym (in_turn ∙ rw (sym right, comment)), λ _. (r.few, rw none (joined_none p)))
 
 -- what the code knows when it has the counts ns after a line of kind k with the values vs
-pub record Counted (t : List ℕ) (spans : List Float) (counts : List ℕ) (ws : List (List ℕ)) (k : ℕ) (vs ns : List ℕ) : Type 0 where
+pub record Counted (t : List ℕ) (spans : List Float) (counts : List ℕ) (ws : List (List ℕ)) (k : LineKind) (vs ns : List ℕ) : Type 0 where
   pub ready : Ready t spans counts
-  pub right : Right ≡ first_wrong (read_faults counts ws)
+  pub right : Ok tt ≡ first_wrong (read_faults counts ws)
   pub kind : k ≡ line_kind ws
-  pub other : k ≡ 5 → ⊥
+  pub other : k ≡ Comment → ⊥
   pub are : vs ≡ line_values ws
   pub counts_are : ns ≡ summed counts (counts_of (parts_of k vs))
 
-module _ {t : List ℕ} {spans : List Float} {counts : List ℕ} {ws : List (List ℕ)} {k : ℕ} {vs ns : List ℕ} (c : Counted t spans counts ws k vs ns) where
+module _ {t : List ℕ} {spans : List Float} {counts : List ℕ} {ws : List (List ℕ)} {k : LineKind} {vs ns : List ℕ} (c : Counted t spans counts ws k vs ns) where
   same : parts_of k vs ≡ line_parts ws
   same = rw (c.kind, c.are)
 
-  limits : (check : Check) → check ≡ first (count_faults ns) → first_wrong (line_faults (content (held t spans)) ws) ≡ of_check check
+  limits : (check : Result Unit Refusal) → check ≡ first (count_faults ns) → first_wrong (line_faults (content (held t spans)) ws) ≡ of_check check
   limits check e =
       in_turn c.ready ws
-      ∙ rw (sym c.right, ne_eqb (line_kind ws) 5 (λ q. c.other (c.kind ∙ q)))
+      ∙ rw (sym c.right, past_other (line_kind ws) (map Refused (count_faults (after c.ready ws))) (λ q. c.other (c.kind ∙ q)))
       (first_limits (count_faults (after c.ready ws))
       ∙ ap (λ (ms : List ℕ). of_check (first (count_faults ms))) (sym (c.counts_are ∙ ap (λ (r : Content). summed counts (counts_of r)) same))
       ∙ ap of_check (sym e))
 
-  pub line_limit : (f : Refusal) (ms : List ℕ) (q : Content) → CheckRefused f ≡ first (count_faults ns) → Owed c.ready ws (Wrong (Refused f)) ms q
-  line_limit f ms q e = (sym (limits (CheckRefused f) e), wrong_right (Refused f))
+  pub line_limit : (f : Refusal) (ms : List ℕ) (q : Content) {a : Result Unit Fault} → a ≡ Err (Refused f) → Err f ≡ first (count_faults ns) → Owed c.ready ws a ms q
+  line_limit f ms q i e = (i ∙ sym (limits (Err f) e), λ r. wrong_right (Refused f) (sym i ∙ r))
 
-  module _ (e : Accepted ≡ first (count_faults ns)) where
+  module _ (e : Ok tt ≡ first (count_faults ns)) where
     few_after : count_faults (summed (count_table t) (counts_of (parts_of k vs))) ≡ []
     few_after = rw (← c.ready.counts_are, ← c.counts_are) (accepted_none (count_faults ns) (sym e))
 
@@ -145,8 +155,8 @@ module _ {t : List ℕ} {spans : List Float} {counts : List ℕ} {ws : List (Lis
     pub line_room : needed_words (line_kind ws) ≤ length (line_values ws) → (needed_words k ≤ length vs) × (count_faults (summed (count_table t) (counts_of (parts_of k vs))) ≡ [])
     line_room l = (rw (c.kind, c.are) l, few_after)
 
-    pub line_right : (t' : List ℕ) (spans' : List Float) → held t' spans' ≡ added (held t spans) (parts_of k vs) → Owed c.ready ws Right (count_table t') (content (held t' spans'))
+    pub line_right : (t' : List ℕ) (spans' : List Float) → held t' spans' ≡ added (held t spans) (parts_of k vs) → Owed c.ready ws (Ok tt) (count_table t') (content (held t' spans'))
     line_right t' spans' a = (
-      sym (limits Accepted e),
+      sym (limits (Ok tt) e),
       λ _. (ap (λ (p : Pattern). count_faults p.counts) a ∙ few_after, ap content a ∙ content_added (held t spans) (parts_of k vs) (held_full t spans c.ready.long) (limited (summed (count_table t) (counts_of (parts_of k vs))) refl few_after) ∙ ap (joined (content (held t spans))) same),
     )

@@ -1,4 +1,7 @@
 -- The lines of a text, one after the other.
+use Rattle.draft_text.specs.declared.DraftError.{DraftError}
+use Rattle.draft_text.specs.declared.DraftError.TheVariants.{At}
+use Rattle.std.specs.Prelude.{Err, Ok, Result}
 use Prim.Native.Nat.{◌+◌, ◌-◌, ◌<◌, ◌≤◌, suc, ℕ}
 use mathlib.Core.Bool.{Bool, false, true}
 use mathlib.Core.List.{List, [], ◌++◌, ◌∷◌, map}
@@ -8,8 +11,10 @@ use native.Mathlib.Numerals.{add-one}
 use native.Mathlib.Omega.{arith}
 use lib.ListN.{get_or-eq_default, drop, drop_of_length-le, get_or, length, length-drop, length-take, replicate, take}
 use lib.Seq.{take-take}
-use borrow.Author.Tests.{le-ltb, lt-ltb, ne_eqb}
+use borrow.Author.Tests.{le-ltb, lt-ltb}
 use Rattle.draft_forms.specs.LineForms.{line_kind, line_values}
+use Rattle.draft_forms.specs.declared.LineKind.{LineKind}
+use Rattle.draft_forms.specs.declared.LineKind.TheVariants.{Comment, Edge, Empty, Face, Point, Shell, Unknown}
 use Rattle.draft_parts.specs.Adding.{summed}
 use Rattle.draft_parts.specs.Parts.{joined, parts_of}
 use Rattle.pattern.specs.Checks.{count_faults}
@@ -18,11 +23,8 @@ use Rattle.text.proofs.Words.{fed_nil, line_at}
 use Rattle.text.specs.Text.{before, is_feed, lines, trimmed, words}
 use Rattle.draft_text.proofs.Lines.{Matching, sliced}
 use Rattle.draft_text.specs.Gathering.{first_wrong, stopped}
-use Rattle.draft_text.specs.TextPattern.{first_made, gathered, line_faults, line_parts, line_with, said, text_faults}
+use Rattle.draft_text.specs.TextPattern.{first_made, gathered, is_empty, line_faults, line_parts, line_with, said, text_faults}
 use Rattle.draft_text.specs.declared.Fault.{Fault}
-use Rattle.draft_text.specs.declared.LineCheck.TheVariants.{Right, Wrong}
-use Rattle.draft_text.specs.declared.Made.{Made}
-use Rattle.draft_text.specs.declared.Made.TheVariants.{At}
 
 -- ---- the next line
 
@@ -68,11 +70,11 @@ going_on g h = record { low = omega (arith, h.within); number = omega (arith, g.
 
 -- ---- gathering
 
-first_of : (n : ℕ) (fs : List Fault) (f : Fault) (ms : List Made) (m : Made) → Wrong f ≡ first_wrong fs → first_made (map (At n) fs ++ ms) m ≡ At n f
+first_of : (n : ℕ) (fs : List Fault) (f : Fault) (ms : List DraftError) (m : Result ℕ DraftError) → Err f ≡ first_wrong fs → first_made (map (At n) fs ++ ms) m ≡ Err (At n f)
 first_of n [] f ms m e = absurd (let z : ◌≡◌ {A = ℕ} 0 1 = cc in omega arith)
 first_of n (g ∷ fs) f ms m e = let s : f ≡ g = cc in rw s
 
-none_of : (fs : List Fault) → Right ≡ first_wrong fs → fs ≡ []
+none_of : (fs : List Fault) → Ok tt ≡ first_wrong fs → fs ≡ []
 none_of [] e = refl
 none_of (f ∷ fs) e = absurd (let z : ◌≡◌ {A = ℕ} 0 1 = cc in omega arith)
 
@@ -80,7 +82,7 @@ none_of (f ∷ fs) e = absurd (let z : ◌≡◌ {A = ℕ} 0 1 = cc in omega ari
 pub record Gathering (text : List ℕ) (p₀ : Content) (at line : ℕ) (counts : List ℕ) (p : Content) : Type 0 where
   pub going : Going text at line
   pub few : count_faults counts ≡ []
-  pub faults : (m : Made) → first_made (text_faults p₀ 1 (lines text)) m ≡ first_made (text_faults p line (lines (drop at text))) m
+  pub faults : (m : Result ℕ DraftError) → first_made (text_faults p₀ 1 (lines text)) m ≡ first_made (text_faults p line (lines (drop at text))) m
   pub parts : gathered p₀ (lines text) ≡ gathered p (lines (drop at text))
 
 pub gathering_start : (text : List ℕ) (p : Content) (counts : List ℕ) → count_faults counts ≡ [] → Gathering text p 0 1 counts p
@@ -91,11 +93,11 @@ module _ {text : List ℕ} {p₀ : Content} {at line : ℕ} {counts : List ℕ} 
     abbrev ws : List (List ℕ)
     ws = words (take (at + n - at) (drop at text))
 
-    pub gathering_wrong : (f : Fault) → Wrong f ≡ first_wrong (line_faults p ws) → (m : Made) → first_made (text_faults p₀ 1 (lines text)) m ≡ stopped line (Wrong f) m
+    pub gathering_wrong : (f : Fault) → Err f ≡ first_wrong (line_faults p ws) → (m : Result ℕ DraftError) → first_made (text_faults p₀ 1 (lines text)) m ≡ stopped (Err (At line f)) m
     unfolding text_faults
     gathering_wrong f e m = g.faults m ∙ rw (line_here h) (first_of line (line_faults p ws) f (text_faults (joined p (line_parts ws)) (suc line) (lines (drop (end + 1) text))) m e)
 
-    pub gathering_right : (ns : List ℕ) (q : Content) → Right ≡ first_wrong (line_faults p ws) → count_faults ns ≡ [] → q ≡ joined p (line_parts ws) → Gathering text p₀ (end + 1) (line + 1) ns q
+    pub gathering_right : (ns : List ℕ) (q : Content) → Ok tt ≡ first_wrong (line_faults p ws) → count_faults ns ≡ [] → q ≡ joined p (line_parts ws) → Gathering text p₀ (end + 1) (line + 1) ns q
     unfolding text_faults gathered
     gathering_right ns q e l j = record {
       going = going_on g.going h;
@@ -104,9 +106,9 @@ module _ {text : List ℕ} {p₀ : Content} {at line : ℕ} {counts : List ℕ} 
       parts = g.parts ∙ rw (line_here h, j);
     }
 
-  pub gathering_all : length text ≤ at → ((m : Made) → first_made (text_faults p₀ 1 (lines text)) m ≡ m) × (Right ≡ Right → (count_faults counts ≡ []) × (p ≡ gathered p₀ (lines text)))
+  pub gathering_all : length text ≤ at → ((m : Result ℕ DraftError) → first_made (text_faults p₀ 1 (lines text)) m ≡ m) × ((count_faults counts ≡ []) × (p ≡ gathered p₀ (lines text)))
   unfolding text_faults gathered
-  gathering_all h = (λ m. g.faults m ∙ rw (rest_none text at h), λ _. (g.few, sym (g.parts ∙ rw (rest_none text at h))))
+  gathering_all h = (λ m. g.faults m ∙ rw (rest_none text at h), (g.few, sym (g.parts ∙ rw (rest_none text at h))))
 
 -- ---- the line with a record
 
@@ -114,7 +116,7 @@ pub seven_default : (p : Content) (b : ℕ) → 7 ≤ b → 0 ≡ get_or (counts
 seven_default p b h = sym (get_or-eq_default (counts_of p) 0 h)
 
 -- what a line adds to none
-pub line_counts : {ws : List (List ℕ)} {k n : ℕ} {all : Bool} {out : List ℕ} → Matching ws k n all out → (ns : List ℕ)
+pub line_counts : {ws : List (List ℕ)} {k : LineKind} {n : ℕ} {all : Bool} {out : List ℕ} → Matching ws k n all out → (ns : List ℕ)
     → ns ≡ summed (replicate 7 0) (counts_of (parts_of k (take (n - 0) (drop 0 out)))) → ns ≡ counts_of (line_parts ws)
 line_counts {ws} {k} {n} {all} {out} m ns e =
     e ∙ rw (sliced n out (line_values ws) m.are, m.kind) (simp zero-add)
@@ -142,6 +144,15 @@ module _ {text : List ℕ} {b r at line left : ℕ} (f : Finding text b r at lin
 
 -- ---- a line that says that the pattern is empty
 
+pub not_empty : (k : LineKind) → (k ≡ Empty → ⊥) → is_empty k ≡ false
+not_empty Point e = refl
+not_empty Edge e = refl
+not_empty Face e = refl
+not_empty Shell e = refl
+not_empty Comment e = refl
+not_empty Empty e = absurd (e refl)
+not_empty Unknown e = refl
+
 pub record Asking (text : List ℕ) (at : ℕ) : Type 0 where
   pub low : at ≤ length text + 1
   pub same : said (lines text) ≡ said (lines (drop at text))
@@ -150,14 +161,14 @@ pub asking_start : (text : List ℕ) → Asking text 0
 asking_start text = record { low = omega arith; same = refl }
 
 module _ {text : List ℕ} {at : ℕ} (a : Asking text at) where
-  module _ {end n : ℕ} (h : Here text at end n) (k : ℕ) (kind : k ≡ line_kind (words (take (at + n - at) (drop at text)))) where
-    pub asking_here : k ≡ 6 → true ≡ said (lines text)
+  module _ {end n : ℕ} (h : Here text at end n) (k : LineKind) (kind : k ≡ line_kind (words (take (at + n - at) (drop at text)))) where
+    pub asking_here : k ≡ Empty → true ≡ said (lines text)
     unfolding said
     asking_here e = sym (a.same ∙ rw (line_here h, ← kind, e))
 
-    pub asking_next : (k ≡ 6 → ⊥) → Asking text (end + 1)
+    pub asking_next : (k ≡ Empty → ⊥) → Asking text (end + 1)
     unfolding said
-    asking_next e = record { low = omega (arith, h.within); same = a.same ∙ rw (line_here h, ← kind, ne_eqb k 6 e) }
+    asking_next e = record { low = omega (arith, h.within); same = a.same ∙ rw (line_here h, ← kind, not_empty k e) }
 
   pub asking_all : length text ≤ at → false ≡ said (lines text)
   unfolding said

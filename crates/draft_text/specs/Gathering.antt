@@ -1,26 +1,21 @@
 -- The lines of a text in turn. Cited by inner contracts.
-use Rattle.std.specs.Prelude.{◌≤◌, ℕ, List, [], ◌∷◌, ◌≡◌, eqb, length, take}
+use Rattle.std.specs.Prelude.{◌≤◌, ℕ, List, [], ◌∷◌, ◌≡◌, Result, Ok, Err, length, take}
 use Rattle.draft_forms.specs.LineForms.{line_kind, line_values}
 use Rattle.draft_parts.specs.Parts.{needed_words}
-use Rattle.lists.specs.Lists.{pick}
-use Rattle.draft_text.specs.TextPattern.{next_number, word_faults}
+use Rattle.draft_text.specs.TextPattern.{by_kind, next_number, word_faults}
+use Rattle.draft_text.specs.declared.DraftError.{DraftError}
 use Rattle.draft_text.specs.declared.Fault.{Fault}
-use Rattle.draft_text.specs.declared.Fault.TheVariants.{Word}
-use Rattle.draft_text.specs.declared.LineCheck.{LineCheck}
-use Rattle.draft_text.specs.declared.LineCheck.TheVariants.{Right, Wrong}
-use Rattle.draft_text.specs.declared.Made.{Made}
-use Rattle.draft_text.specs.declared.Made.TheVariants.{At}
 
 -- the answer for a line: its first fault
-abbrev pub first_wrong : List Fault → LineCheck
-first_wrong [] = Right
-first_wrong (f ∷ fs) = Wrong f
+abbrev pub first_wrong : List Fault → Result Unit Fault
+first_wrong [] = Ok tt
+first_wrong (f ∷ fs) = Err f
 
 -- what is wrong with a line before the limits
 unfoldable pub read_faults : List ℕ → List (List ℕ) → List Fault
 read_faults counts ws =
     let k = line_kind ws in
-    pick (eqb k 5) [] (pick (eqb k 0) (Word 0 1 ∷ []) (word_faults k (next_number k counts) ws))
+    by_kind k (word_faults k (next_number k counts) ws)
 
 -- the first n values, read from a line that has the words it needs
 pub record Read (ws : List (List ℕ)) (n : ℕ) (values : List ℕ) : Type 0 where
@@ -28,7 +23,7 @@ pub record Read (ws : List (List ℕ)) (n : ℕ) (values : List ℕ) : Type 0 wh
   pub are : take n values ≡ line_values ws
   pub needed : needed_words (line_kind ws) ≤ length (line_values ws)
 
--- the answer where the line with number n has this one
-abbrev pub stopped : ℕ → LineCheck → Made → Made
-stopped n Right m = m
-stopped n (Wrong f) m = At n f
+-- the answer where the lines have this one
+abbrev pub stopped : Result Unit DraftError → Result ℕ DraftError → Result ℕ DraftError
+stopped (Ok x) m = m
+stopped (Err e) m = Err e

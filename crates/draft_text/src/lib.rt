@@ -1,8 +1,9 @@
 // A pattern file from text.
 #![tactic(auto)]
 
-ghost use Rattle.std.specs.Prelude.{◌≡◌, [], ◌≤◌, ◌*◌, length, get_or};
+ghost use Rattle.std.specs.Prelude.{◌≡◌, ℕ, Result, Ok, [], ◌≤◌, ◌*◌, length, get_or};
 ghost use Rattle.draft_forms.specs.LineForms.{line_kind};
+ghost use Rattle.draft_forms.specs.declared.LineKind.TheVariants.{Comment};
 ghost use Rattle.draft_parts.specs.Parts.{joined};
 ghost use Rattle.pattern.specs.Checks.{count_faults};
 ghost use Rattle.pattern.specs.Contents.{content, counts_of};
@@ -10,33 +11,32 @@ ghost use Rattle.store.specs.Store.{count_table, held};
 ghost use Rattle.text.specs.Text.{lines, words};
 ghost use Rattle.draft_text.specs.Gathering.{Read, first_wrong, read_faults, stopped};
 ghost use Rattle.draft_text.specs.TextPattern.{first_made, gathered, has_mark, line_faults, line_parts, line_with, made, made_in, said, text_faults, text_file};
-ghost use Rattle.draft_text.specs.declared.LineCheck.TheVariants.{Right};
+ghost use Rattle.draft_text.specs.declared.DraftError.{DraftError};
+ghost use Rattle.draft_text.specs.declared.Fault.TheVariants.{Refused};
 
-use draft_forms::{body_counted, kind_of, match_line};
+use draft_forms::{LineKind, body_counted, kind_of, match_line};
 use draft_parts::{add_values, counts_after, is_bare, needed};
-use errors::{Check, Refusal, body_of, record_of};
+use errors::Refusal;
 use pattern::{BODIES, Counts, LONGEST, check_counts};
 use store::{SPANS, Spans, TABLES, Tables, counts_in, tables_known};
 use store_check::check_records;
-use store_write::{Written, put_file};
+use store_write::put_file;
 use text::{line_end, trimmed_length};
 
-// What is wrong with a line: a word, counted from 1, of a line of a kind (1 point, 2 edge, 3 face, 4
-// shell, 6 empty, 0 none of them); its number, where another is expected after the lines of its kind
-// before; or a refusal of the reading checks.
+// What is wrong with a line: a word, counted from 1, of a line of a kind; its number, where another is
+// expected after the lines of its kind before; or a refusal of the reading checks.
 #[derive(Clone, Copy)]
 pub enum Fault {
-    Word(usize, usize),
-    Number(usize, usize),
+    Word(LineKind, usize),
+    Number(LineKind, usize),
     Refused(Refusal),
 }
 
-// The length of the file; or a fault, with the number of its line; or a text of more than 262,144 bytes,
+// Why a text is refused: a fault, with the number of its line; or a text of more than 262,144 bytes,
 // one that begins with a byte order mark, one that says nothing, not even that the pattern is empty, one that
 // says so beside records.
 #[derive(Clone, Copy)]
-pub enum Made {
-    Length(usize),
+pub enum DraftError {
     At(usize, Fault),
     TooLong,
     Marked,
@@ -44,145 +44,125 @@ pub enum Made {
     NotEmpty,
 }
 
-// The answer for a line.
-#[derive(Clone, Copy)]
-enum LineCheck {
-    Right,
-    Wrong(Fault),
+// The reading checks' refusal of a line.
+impl From<Refusal> for Fault {
+    ghost from_gives = { λ f r. r ≡ Refused f };
+
+    fn from(f: Refusal) -> Fault {
+        Fault::Refused(f)
+    }
 }
 
 // A line read: its kind, how many values it has, and whether its words are right.
 #[derive(Clone, Copy)]
 struct Line {
-    kind: usize,
+    kind: LineKind,
     words: usize,
-    check: LineCheck,
+    check: Result<(), Fault>,
 }
 
 // Reads the words of a line after records with these counts.
 fn read_line(line: &[u8], counts: Counts, values: &mut [u64]) -> Line
     requires { length line.now ≤ 2 * length values.old }
     ensures kind_value { (result.kind ≡ line_kind (words line.now)) × (result.check ≡ first_wrong (read_faults counts (words line.now))) }
-    ensures read { result.check ≡ Right → (result.kind ≡ 5 → ⊥) → Read (words line.now) result.words values.new }
+    ensures read { result.check ≡ Ok tt → (result.kind ≡ Comment → ⊥) → Read (words line.now) result.words values.new }
 {
     let first = kind_of(line);
-    let k = first.kind;
-    if k == 5 {
+    let kind = first.kind;
+    if let LineKind::Comment = kind {
         return Line {
-            kind: k,
+            kind,
             words: 0,
-            check: LineCheck::Right,
+            check: Ok(()),
         };
     }
-    if k == 0 {
+    if let LineKind::Unknown = kind {
         return Line {
-            kind: k,
+            kind,
             words: 0,
-            check: LineCheck::Wrong(Fault::Word(0, 1)),
+            check: Err(Fault::Word(kind, 1)),
         };
     }
     let end = first.end;
-    let m = match_line(k, line, end, values);
+    let m = match_line(kind, line, end, values);
     let n = m.words;
     let all = m.all;
     if n > 0 {
-        let next = counts[body_counted(k)];
+        let next = counts[body_counted(kind)];
         if values[0] != next as u64 {
             return Line {
-                kind: k,
+                kind,
                 words: n,
-                check: LineCheck::Wrong(Fault::Number(k, next)),
+                check: Err(Fault::Number(kind, next)),
             };
         }
     }
     if !all {
         return Line {
-            kind: k,
+            kind,
             words: n,
-            check: LineCheck::Wrong(Fault::Word(k, n + 2)),
+            check: Err(Fault::Word(kind, n + 2)),
         };
     }
-    if n < needed(k) {
+    if n < needed(kind) {
         return Line {
-            kind: k,
+            kind,
             words: n,
-            check: LineCheck::Wrong(Fault::Word(k, n + 2)),
+            check: Err(Fault::Word(kind, n + 2)),
         };
     }
     Line {
-        kind: k,
+        kind,
         words: n,
-        check: LineCheck::Right,
+        check: Ok(()),
     }
 }
 
 // Adds what a line says to the store, if nothing is wrong with it.
-fn add_line(line: &[u8], t: &mut Tables, spans: &mut Spans, values: &mut [u64]) -> LineCheck
+fn add_line(line: &[u8], t: &mut Tables, spans: &mut Spans, values: &mut [u64]) -> Result<(), Fault>
     requires { (length line.now ≤ 2 * length values.old) × (count_faults (count_table t.old) ≡ []) }
     ensures value { result ≡ first_wrong (line_faults (content (held t.old spans.old)) (words line.now)) }
-    ensures t_after { result ≡ Right → (count_faults (count_table t.new) ≡ []) × (content (held t.new spans.new) ≡ joined (content (held t.old spans.old)) (line_parts (words line.now))) }
+    ensures t_after { result ≡ Ok tt → (count_faults (count_table t.new) ≡ []) × (content (held t.new spans.new) ≡ joined (content (held t.old spans.old)) (line_parts (words line.now))) }
 {
     tables_known(t);
     let counts = counts_in(t);
     let read = read_line(line, counts, values);
-    let check = read.check;
-    match check {
-        LineCheck::Wrong(f) => {
-            return LineCheck::Wrong(f);
-        }
-        LineCheck::Right => {}
-    }
-    let k = read.kind;
-    if k == 5 {
-        return LineCheck::Right;
+    read.check?;
+    let kind = read.kind;
+    if let LineKind::Comment = kind {
+        return Ok(());
     }
     let n = read.words;
-    let after = counts_after(k, &values[0..n], counts);
-    let limits = check_counts(after);
-    match limits {
-        Check::Refused(f) => LineCheck::Wrong(Fault::Refused(f)),
-        Check::Accepted => {
-            add_values(k, &values[0..n], t, spans);
-            LineCheck::Right
-        }
-    }
+    let after = counts_after(kind, &values[0..n], counts);
+    check_counts(after)?;
+    add_values(kind, &values[0..n], t, spans);
+    Ok(())
 }
 
-// The first line that is wrong, if any.
-#[derive(Clone, Copy)]
-struct Gathered {
-    line: usize,
-    check: LineCheck,
-}
-
-// Adds what the lines of a text say to the store.
-fn gather(text: &[u8], t: &mut Tables, spans: &mut Spans, values: &mut [u64]) -> Gathered
+// Adds what the lines of a text say to the store, up to the first that is wrong.
+fn gather(
+    text: &[u8],
+    t: &mut Tables,
+    spans: &mut Spans,
+    values: &mut [u64],
+) -> Result<(), DraftError>
     requires { (length text.now ≤ 2 * length values.old) × (count_faults (count_table t.old) ≡ []) }
-    ensures m_value { (m : Made) → first_made (text_faults (content (held t.old spans.old)) 1 (lines text.now)) m ≡ stopped result.line result.check m }
-    ensures t_after { result.check ≡ Right → (count_faults (count_table t.new) ≡ []) × (content (held t.new spans.new) ≡ gathered (content (held t.old spans.old)) (lines text.now)) }
+    ensures m_value { (m : Result ℕ DraftError) → first_made (text_faults (content (held t.old spans.old)) 1 (lines text.now)) m ≡ stopped result m }
+    ensures t_after { result ≡ Ok tt → (count_faults (count_table t.new) ≡ []) × (content (held t.new spans.new) ≡ gathered (content (held t.old spans.old)) (lines text.now)) }
 {
     let mut line: usize = 1;
     let mut at: usize = 0;
+    // A `while` still: docs/DESIGN-PASS.md, point 3.
     while at < text.len() {
         let end = line_end(text, at);
         let last = at + trimmed_length(&text[at..end]);
-        let check = add_line(&text[at..last], t, spans, values);
-        match check {
-            LineCheck::Wrong(f) => {
-                return Gathered {
-                    line: line,
-                    check: LineCheck::Wrong(f),
-                };
-            }
-            LineCheck::Right => {}
+        if let Err(f) = add_line(&text[at..last], t, spans, values) {
+            return Err(DraftError::At(line, f));
         }
         line += 1;
         at = end + 1;
     }
-    Gathered {
-        line: line,
-        check: LineCheck::Right,
-    }
+    Ok(())
 }
 
 // How many records of body b a line adds.
@@ -191,11 +171,11 @@ fn line_count(line: &[u8], b: usize, values: &mut [u64]) -> usize
     ensures { result ≡ get_or (counts_of (line_parts (words line.now))) b 0 }
 {
     let first = kind_of(line);
-    let k = first.kind;
+    let kind = first.kind;
     let end = first.end;
-    let m = match_line(k, line, end, values);
+    let m = match_line(kind, line, end, values);
     let n = m.words;
-    let counts = counts_after(k, &values[0..n], [0; BODIES]);
+    let counts = counts_after(kind, &values[0..n], [0; BODIES]);
     if b < BODIES { counts[b] } else { 0 }
 }
 
@@ -207,6 +187,7 @@ fn line_with(text: &[u8], b: usize, r: usize, values: &mut [u64]) -> usize
     let mut left = r;
     let mut number: usize = 1;
     let mut at: usize = 0;
+    // A `while` still: docs/DESIGN-PASS.md, point 3.
     while at < text.len() {
         let end = line_end(text, at);
         let last = at + trimmed_length(&text[at..end]);
@@ -226,11 +207,12 @@ fn says_empty(text: &[u8]) -> bool
     ensures { result ≡ said (lines text.now) }
 {
     let mut at: usize = 0;
+    // A `while` still: docs/DESIGN-PASS.md, point 3.
     while at < text.len() {
         let end = line_end(text, at);
         let last = at + trimmed_length(&text[at..end]);
         let first = kind_of(&text[at..last]);
-        if first.kind == 6 {
+        if let LineKind::Empty = first.kind {
             return true;
         }
         at = end + 1;
@@ -267,46 +249,31 @@ fn is_marked(text: &[u8]) -> bool
 }
 
 // Reads a text, and writes the file of its pattern.
-pub fn make(text: &[u8], out: &mut [u8; LONGEST]) -> Made
+pub fn make(text: &[u8], out: &mut [u8; LONGEST]) -> Result<usize, DraftError>
     ensures { (result ≡ made text.now) × (out.new ≡ made_in (made text.now) (text_file text.now) out.old) }
 {
     if text.len() > 262144 {
-        return Made::TooLong;
+        return Err(DraftError::TooLong);
     }
     if is_marked(text) {
-        return Made::Marked;
+        return Err(DraftError::Marked);
     }
     let mut t = [0u16; TABLES];
     let mut spans = [0.0; SPANS];
     let mut values = [0u64; 131072];
-    let all = gather(text, &mut t, &mut spans, &mut values);
-    let check = all.check;
-    match check {
-        LineCheck::Wrong(f) => {
-            return Made::At(all.line, f);
-        }
-        LineCheck::Right => {}
-    }
+    gather(text, &mut t, &mut spans, &mut values)?;
     tables_known(&t);
     let bare = is_bare(counts_in(&t));
     if bare != says_empty(text) {
         if bare {
-            return Made::Nothing;
+            return Err(DraftError::Nothing);
         }
-        return Made::NotEmpty;
+        return Err(DraftError::NotEmpty);
     }
-    let judged = check_records(&t, &spans);
-    match judged {
-        Check::Refused(f) => {
-            let line = line_with(text, body_of(f), record_of(f), &mut values);
-            Made::At(line, Fault::Refused(f))
-        }
-        Check::Accepted => {
-            // `out` has room for the longest file.
-            match put_file(&t, &spans, out) {
-                Written::Length(n) => Made::Length(n),
-                _ => Made::TooLong,
-            }
-        }
+    if let Err(f) = check_records(&t, &spans) {
+        let line = line_with(text, f.body(), f.record(), &mut values);
+        return Err(DraftError::At(line, Fault::Refused(f)));
     }
+    // `out` has room for the longest file.
+    put_file(&t, &spans, out).map_err(|_| DraftError::TooLong)
 }

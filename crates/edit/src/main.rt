@@ -130,9 +130,7 @@ fn persist(
     file: &mut [u8; 41049],
     text: &mut [u8; 65536],
 ) -> Worked {
-    let mut turns: u64 = 100;
-    while turns > 0 {
-        turns -= 1;
+    for _ in 0..100 {
         let tried = attempt(rt, path, line, file, text);
         if !tried.changed {
             let work = tried.work;
@@ -264,6 +262,7 @@ fn lines(
     let mut from: usize = 0;
     let mut over = passing;
     let mut now = q;
+    // A `while` still: docs/DESIGN-PASS.md, point 3.
     while from < bytes.len() {
         let end = text::line_end(bytes, from);
         if end == bytes.len() {
@@ -290,11 +289,7 @@ fn keep(bytes: &mut [u8], m: usize, n: usize)
     requires { (n ≤ m) × (m ≤ length bytes.old) }
 {
     let first = m - n;
-    let mut i: usize = 0;
-    while i < n {
-        bytes[i] = bytes[first + i];
-        i += 1;
-    }
+    bytes.copy_within(first..m, 0);
 }
 
 // Does the jobs of the lines that are whole in the first n bytes, and moves what is left to the start.
@@ -366,9 +361,7 @@ fn serve(rt: &HostRuntime, path: &[u8], stop: bool, trial: bool) {
         passing: false,
         queue: begin(rt, path, &mut file, stop, trial),
     };
-    let mut turns: u64 = 18446744073709551615;
-    while turns > 0 {
-        turns -= 1;
+    for _ in 0..u64::MAX {
         rest = turn(rt, path, &mut buffer, &mut file, rest);
         let q = rest.queue;
         if !q.open {
@@ -416,8 +409,7 @@ fn main(rt: HostRuntime) {
     let mut name = [0u8; 4096];
     let mut n: usize = 0;
     let mut asked = Asked::Options(false, false);
-    let mut k: usize = 1;
-    while k < count {
+    for k in 1..count {
         match rt.arg(k, &mut name) {
             Ok(length) => n = length,
             Err(e) => {
@@ -426,7 +418,6 @@ fn main(rt: HostRuntime) {
             }
         }
         asked = queue::next(asked, queue::word_of(&name[..n]));
-        k += 1;
     }
     match asked {
         Asked::File(stop, trial) => {

@@ -1,12 +1,11 @@
-// The answers of the edits. They hold no array: the pattern stands beside them.
+// The refusals of the edits, their own: a call that edits answers the new numbers, or `CallError` of one of these.
 #![tactic(auto)]
 
 ghost use Rattle.std.specs.Prelude.{◌≡◌};
 ghost use Rattle.edit_answers.specs.Answers.{edit_number, face_edit_number};
+ghost use Rattle.errors.specs.declared.CallError.TheVariants.{Refused};
 
-use edge::EdgeID;
-use errors::{Refusal, WireError, wire_number};
-use vertex::VertexID;
+use errors::{CallError, WireError};
 
 // The refusal of an edit of a shell, its own.
 #[derive(Clone, Copy)]
@@ -60,71 +59,59 @@ pub enum FaceEditError {
     FaceRule,
 }
 
-// The answer of a cut: the numbers of the two new edges, the half at the edge's front first.
-#[derive(Clone, Copy)]
-pub enum CutAnswer {
-    Cut(EdgeID, EdgeID),
-    Refused(Refusal),
-    Not(EditError),
-}
-
-// The answer of a removal or a concat: the number of the new edge.
-#[derive(Clone, Copy)]
-pub enum JoinAnswer {
-    Joined(EdgeID),
-    Refused(Refusal),
-    Not(EditError),
-}
-
-// The answer of an added point: its number.
-#[derive(Clone, Copy)]
-pub enum VertexAnswer {
-    Added(VertexID),
-    Refused(Refusal),
-    Not(EditError),
-}
-
-// The answer of an edit of a face: how many uses and how many wires were written.
-#[derive(Clone, Copy)]
-pub enum FaceAnswer {
-    Written(usize, usize),
-    Refused(Refusal),
-    Not(FaceEditError),
-}
-
-// Document 01's number of an edit's own refusal.
-pub fn edit_number(e: EditError) -> usize
-    ensures { result ≡ edit_number e }
-{
-    match e {
-        EditError::Unnamed => 3,
-        EditError::VertexInShell => 14,
-        EditError::EdgeNotInShell => 15,
-        EditError::CurveRefuses => 16,
-        EditError::NoSpace => 17,
-        EditError::NotOneOrTwoWires => 23,
-        EditError::Unmatched => 24,
-        EditError::SameEnds => 25,
-        EditError::SpanRefused => 26,
-        EditError::SharedFace => 27,
-        EditError::Disconnected => 29,
+impl EditError {
+    // Document 01's number.
+    pub fn number(self) -> usize
+        ensures { result ≡ edit_number self }
+    {
+        match self {
+            EditError::Unnamed => 3,
+            EditError::VertexInShell => 14,
+            EditError::EdgeNotInShell => 15,
+            EditError::CurveRefuses => 16,
+            EditError::NoSpace => 17,
+            EditError::NotOneOrTwoWires => 23,
+            EditError::Unmatched => 24,
+            EditError::SameEnds => 25,
+            EditError::SpanRefused => 26,
+            EditError::SharedFace => 27,
+            EditError::Disconnected => 29,
+        }
     }
 }
 
-// Document 01's number of a face edit's own refusal.
-pub fn face_edit_number(e: FaceEditError) -> usize
-    ensures { result ≡ face_edit_number e }
-{
-    match e {
-        FaceEditError::Unnamed => 3,
-        FaceEditError::Wire(e) => wire_number(e),
-        FaceEditError::NotDisjointWires => 9,
-        FaceEditError::NoSpace => 17,
-        FaceEditError::NotOneWire => 18,
-        FaceEditError::EndsNotOnWire => 19,
-        FaceEditError::FacesDiffer => 20,
-        FaceEditError::OppositeEdges => 21,
-        FaceEditError::NothingRemains => 22,
-        FaceEditError::FaceRule => 28,
+impl FaceEditError {
+    // Document 01's number.
+    pub fn number(self) -> usize
+        ensures { result ≡ face_edit_number self }
+    {
+        match self {
+            FaceEditError::Unnamed => 3,
+            FaceEditError::Wire(e) => e.number(),
+            FaceEditError::NotDisjointWires => 9,
+            FaceEditError::NoSpace => 17,
+            FaceEditError::NotOneWire => 18,
+            FaceEditError::EndsNotOnWire => 19,
+            FaceEditError::FacesDiffer => 20,
+            FaceEditError::OppositeEdges => 21,
+            FaceEditError::NothingRemains => 22,
+            FaceEditError::FaceRule => 28,
+        }
+    }
+}
+
+impl From<EditError> for CallError<EditError> {
+    ghost from_gives = { λ e r. r ≡ Refused e };
+
+    fn from(e: EditError) -> CallError<EditError> {
+        CallError::Refused(e)
+    }
+}
+
+impl From<FaceEditError> for CallError<FaceEditError> {
+    ghost from_gives = { λ e r. r ≡ Refused e };
+
+    fn from(e: FaceEditError) -> CallError<FaceEditError> {
+        CallError::Refused(e)
     }
 }

@@ -2,30 +2,40 @@
 use Prim.Native.Nat.{◌+◌, ◌<◌, ◌≤◌, suc, zero, ℕ}
 use mathlib.Core.Bool.{Bool, false, true}
 use mathlib.Core.List.{List, [], ◌++◌, ◌∷◌}
-use mathlib.Core.Path.{◌∙◌, ◌≡◌, refl}
+use mathlib.Core.Path.{◌∙◌, ◌≡◌, ap, refl}
 use native.Mathlib.Numerals.{add-one}
 use native.Mathlib.Omega.{arith}
 use lib.ListN.{drop, drop_of_length-le, get_or, length, take}
 use lib.Seq.{drop-cons, get_or-take, length-take-le}
 use Rattle.errors.specs.Faults.{each, first}
-use Rattle.errors.specs.declared.Check.TheVariants.{Accepted, Refused}
+use Rattle.std.specs.Prelude.{Result, Ok, Err}
+use Rattle.std.specs.Result.{IsErrAnd}
+use Rattle.std.proofs.lemmas.Result.{err_from_is_err_and}
 use Rattle.errors.specs.declared.Refusal.{Refusal}
 use Rattle.lists.specs.Lists.{unless}
-use Rattle.errors.specs.Sequence.{and_then}
 
-pub accepted_none : (fs : List Refusal) → first fs ≡ Accepted → fs ≡ []
+pub accepted_none : (fs : List Refusal) → first fs ≡ Ok tt → fs ≡ []
 accepted_none [] h = refl
 accepted_none (f ∷ fs) h = cc
 
-pub refused_first : (fs gs : List Refusal) (f : Refusal) → first fs ≡ Refused f → first (fs ++ gs) ≡ Refused f
+pub refused_first : (fs gs : List Refusal) (f : Refusal) → first fs ≡ Err f → first (fs ++ gs) ≡ Err f
 refused_first [] gs f h = cc
 refused_first (g ∷ fs) gs f h = h
+
+-- what `?` hands on, as its conversion gives it
+pub handed_on : {T E : Type 0} (r : Result T E) (e : E) → IsErrAnd r (λ d. d ≡ e) → r ≡ Err e
+handed_on r e h = let d = err_from_is_err_and r h in d.1 ∙ ap Err d.2
+
+-- checks one after the other: `?`
+abbrev pub and_then : Result Unit Refusal → Result Unit Refusal → Result Unit Refusal
+and_then (Ok x) next = next
+and_then (Err f) next = Err f
 
 pub first_append : (fs gs : List Refusal) → first (fs ++ gs) ≡ and_then (first fs) (first gs)
 first_append [] gs = refl
 first_append (f ∷ fs) gs = refl
 
-pub passed_first : (fs gs : List Refusal) → first fs ≡ Accepted → first (fs ++ gs) ≡ first gs
+pub passed_first : (fs gs : List Refusal) → first fs ≡ Ok tt → first (fs ++ gs) ≡ first gs
 passed_first fs gs h = rw (accepted_none fs h)
 
 module _ {ℓ} {A : Type ℓ} where
@@ -62,12 +72,12 @@ module _ {ℓ} {A : Type ℓ} (f : ℕ → A → List Refusal) (d : A) where
     unfolding each
     rest_is = s.rest ∙ rw (drop-cons xs i d h, is, e)
 
-    pub passed_next : first (f m x) ≡ Accepted → Passed xs n (i + 1)
+    pub passed_next : first (f m x) ≡ Ok tt → Passed xs n (i + 1)
     passed_next a =
         let z : n + suc i ≡ suc m = omega arith in
         record { low = omega arith; rest = rw (add-one, z) (rest_is ∙ rw (accepted_none (f m x) a)) }
 
-    pub passed_stop : (r : Refusal) → first (f m x) ≡ Refused r → first (each f n xs) ≡ Refused r
+    pub passed_stop : (r : Refusal) → first (f m x) ≡ Err r → first (each f n xs) ≡ Err r
     passed_stop r a = rw rest_is (refused_first (f m x) (each f (suc m) (drop (suc i) xs)) r a)
 
   pub passed_all : (xs : List A) (n i : ℕ) → Passed xs n i → length xs ≤ i → each f n xs ≡ []
@@ -76,10 +86,10 @@ module _ {ℓ} {A : Type ℓ} (f : ℕ → A → List Refusal) (d : A) where
 
   -- the same over the first `count` records of a longer list, numbered from 0
   module _ (xs : List A) (count : ℕ) (fit : count ≤ length xs) (i : ℕ) (s : Passed (take count xs) 0 i) where
-    pub taken_next : i < count → first (f i (get_or xs i d)) ≡ Accepted → Passed (take count xs) 0 (i + 1)
+    pub taken_next : i < count → first (f i (get_or xs i d)) ≡ Ok tt → Passed (take count xs) 0 (i + 1)
     taken_next h a = passed_next (take count xs) 0 i i (get_or xs i d) s (omega (arith, length-take-le count xs fit)) (get_or-take count xs i d h) (omega arith) a
 
-    pub taken_stop : i < count → (r : Refusal) → first (f i (get_or xs i d)) ≡ Refused r → first (each f 0 (take count xs)) ≡ Refused r
+    pub taken_stop : i < count → (r : Refusal) → first (f i (get_or xs i d)) ≡ Err r → first (each f 0 (take count xs)) ≡ Err r
     taken_stop h r a = passed_stop (take count xs) 0 i i (get_or xs i d) s (omega (arith, length-take-le count xs fit)) (get_or-take count xs i d h) (omega arith) r a
 
     pub taken_all : count ≤ i → each f 0 (take count xs) ≡ []

@@ -1,7 +1,8 @@
 -- Number, body and record of each refusal (FORMAT 2.2, 6.1); what an answer says in numbers (FORMAT 6.2).
-use Rattle.std.specs.Prelude.{ℕ, List, [], ◌∷◌}
-use Rattle.errors.specs.declared.Check.{Check}
-use Rattle.errors.specs.declared.Check.TheVariants.{Accepted, Refused}
+use Rattle.std.specs.Prelude.{ℕ, List, [], ◌∷◌, Result, Ok, Err}
+use Rattle.errors.specs.declared.NotThere.{NotThere}
+use Rattle.errors.specs.declared.CallError.{CallError}
+use Rattle.errors.specs.declared.CallError.TheVariants.{Unread, Refused}
 use Rattle.errors.specs.declared.WireError.{WireError}
 use Rattle.errors.specs.declared.WireError.TheVariants.{EmptyWire, NotClosedWire, NotSimpleWire}
 use Rattle.errors.specs.declared.Refusal.{Refusal}
@@ -55,6 +56,19 @@ abbrev pub refused : ℕ → List ℕ → Reply
 refused n values = record { outcome = 2; number = n; values = values }
 
 -- the reading checks
-abbrev pub check_reply : Check → Reply
-check_reply Accepted = done []
-check_reply (Refused f) = unread f
+abbrev pub check_reply : Result Unit Refusal → Reply
+check_reply (Ok x) = done []
+check_reply (Err f) = unread f
+
+-- an answer of a call: what is done, with its values; the reading checks; the call's own refusal, with number and values
+abbrev pub call_reply : {T E : Type 0} → (T → List ℕ) → (E → Reply) → Result T (CallError E) → Reply
+call_reply values own (Ok x) = done (values x)
+call_reply values own (Err (Unread f)) = unread f
+call_reply values own (Err (Refused e)) = own e
+
+abbrev pub not_there : NotThere
+not_there = record {}
+
+-- 3
+abbrev pub not_there_reply : NotThere → Reply
+not_there_reply e = refused 3 []

@@ -1,15 +1,7 @@
--- Checks one after the other, as the code makes them. Cited by inner contracts.
-use Rattle.std.specs.Prelude.{List, [], ◌∷◌}
+-- The first of the faults of a wire, as the code answers it. Cited by inner contracts.
+use Rattle.std.specs.Prelude.{List, [], ◌∷◌, Result, Ok, Err}
 use Rattle.errors.specs.declared.WireError.{WireError}
-use Rattle.errors.specs.declared.WireCheck.{WireCheck}
-use Rattle.errors.specs.declared.WireCheck.TheVariants.{Simple, Refused as WireRefused}
-use Rattle.errors.specs.declared.Check.{Check}
-use Rattle.errors.specs.declared.Check.TheVariants.{Accepted, Refused}
 
-abbrev pub and_then : Check → Check → Check
-and_then Accepted next = next
-and_then (Refused f) next = Refused f
-
-abbrev pub first_of_wire : List WireError → WireCheck
-first_of_wire [] = Simple
-first_of_wire (e ∷ es) = WireRefused e
+abbrev pub first_of_wire : List WireError → Result Unit WireError
+first_of_wire [] = Ok tt
+first_of_wire (e ∷ es) = Err e

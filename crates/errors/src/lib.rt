@@ -3,7 +3,7 @@
 
 ghost use Rattle.std.specs.Prelude.{◌≡◌};
 ghost use Rattle.errors.specs.Numbers.{wire_number, number, body, record_number};
-ghost use Rattle.errors.specs.Sequence.{and_then};
+ghost use Rattle.errors.specs.declared.CallError.TheVariants.{Unread};
 
 // Why a wire is refused: numbers 6, 7 and 8.
 #[derive(Clone, Copy)]
@@ -30,81 +30,79 @@ pub enum Refusal {
     Wire(usize, WireError),
 }
 
-// The answer for a wire.
+// Why a call is refused: the pattern, by the reading checks; or what is asked, by the call itself.
 #[derive(Clone, Copy)]
-pub enum WireCheck {
-    Simple,
-    Refused(WireError),
+pub enum CallError<E> {
+    Unread(Refusal),
+    Refused(E),
 }
 
-// The answer of the reading checks.
-#[derive(Clone, Copy)]
-pub enum Check {
-    Accepted,
-    Refused(Refusal),
+// The reading checks come first, and their `?` ends the call.
+impl<E> From<Refusal> for CallError<E> {
+    ghost from_gives = { λ f r. r ≡ Unread f };
+
+    fn from(f: Refusal) -> CallError<E> {
+        CallError::Unread(f)
+    }
 }
 
-impl Check {
-    // The first refusal of two checks in sequence.
-    pub fn and_then(self, next: Check) -> Check
-        ensures { result ≡ and_then self next }
+// 3: a number that names nothing.
+#[derive(Clone, Copy)]
+pub struct NotThere;
+
+impl WireError {
+    // Document 01's number.
+    pub fn number(self) -> usize
+        ensures { result ≡ wire_number self }
     {
         match self {
-            Check::Refused(f) => Check::Refused(f),
-            Check::Accepted => next,
+            WireError::EmptyWire => 6,
+            WireError::NotClosedWire => 7,
+            WireError::NotSimpleWire => 8,
         }
     }
 }
 
-// Document 01's number of a wire's refusal.
-pub fn wire_number(e: WireError) -> usize
-    ensures { result ≡ wire_number e }
-{
-    match e {
-        WireError::EmptyWire => 6,
-        WireError::NotClosedWire => 7,
-        WireError::NotSimpleWire => 8,
+impl Refusal {
+    // Document 01's number.
+    pub fn number(self) -> usize
+        ensures { result ≡ number self }
+    {
+        match self {
+            Refusal::Layout(_) => 1,
+            Refusal::Limit(_) => 2,
+            Refusal::Unnamed(_, _) => 3,
+            Refusal::Span(_) => 4,
+            Refusal::SameVertex(_) => 5,
+            Refusal::Wire(_, e) => e.number(),
+        }
     }
-}
 
-// Document 01's number of a refusal.
-pub fn number_of(f: Refusal) -> usize
-    ensures { result ≡ number f }
-{
-    match f {
-        Refusal::Layout(_) => 1,
-        Refusal::Limit(_) => 2,
-        Refusal::Unnamed(_, _) => 3,
-        Refusal::Span(_) => 4,
-        Refusal::SameVertex(_) => 5,
-        Refusal::Wire(_, e) => wire_number(e),
+    // The body that the refusal names.
+    pub fn body(self) -> usize
+        ensures { result ≡ body self }
+    {
+        match self {
+            Refusal::Layout(b) => b,
+            Refusal::Limit(b) => b,
+            Refusal::Unnamed(b, _) => b,
+            Refusal::Span(_) => 1,
+            Refusal::SameVertex(_) => 1,
+            Refusal::Wire(_, _) => 3,
+        }
     }
-}
 
-// The body that a refusal names.
-pub fn body_of(f: Refusal) -> usize
-    ensures { result ≡ body f }
-{
-    match f {
-        Refusal::Layout(b) => b,
-        Refusal::Limit(b) => b,
-        Refusal::Unnamed(b, _) => b,
-        Refusal::Span(_) => 1,
-        Refusal::SameVertex(_) => 1,
-        Refusal::Wire(_, _) => 3,
-    }
-}
-
-// The record that a refusal names.
-pub fn record_of(f: Refusal) -> usize
-    ensures { result ≡ record_number f }
-{
-    match f {
-        Refusal::Layout(_) => 0,
-        Refusal::Limit(_) => 0,
-        Refusal::Unnamed(_, k) => k,
-        Refusal::Span(k) => k,
-        Refusal::SameVertex(k) => k,
-        Refusal::Wire(k, _) => k,
+    // The record that the refusal names.
+    pub fn record(self) -> usize
+        ensures { result ≡ record_number self }
+    {
+        match self {
+            Refusal::Layout(_) => 0,
+            Refusal::Limit(_) => 0,
+            Refusal::Unnamed(_, k) => k,
+            Refusal::Span(k) => k,
+            Refusal::SameVertex(k) => k,
+            Refusal::Wire(k, _) => k,
+        }
     }
 }

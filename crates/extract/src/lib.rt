@@ -28,10 +28,8 @@ pub fn tally_listings<'a>(
     ensures { result ≡ inserted_all no_uses (parts_of uses.now turned.now starts.now listings.now) }
 {
     let mut t = Tally::new();
-    let mut k: usize = 0;
-    while k < listings.len() {
-        t = tally_part(t, part_of(uses, turned, starts, listings[k]));
-        k += 1;
+    for &l in listings {
+        t = tally_part(t, part_of(uses, turned, starts, l));
     }
     t
 }
@@ -52,16 +50,8 @@ fn keep_listings<'a>(
     ensures kept_after { slots kept.new ≡ keep (front_of fronts.now backs.now) (back_of fronts.now backs.now) (only (is_odd odd.now) (parts_of uses.now turned.now starts.now listings.now)) (slots kept.old) }
     ensures holding { Holding fronts.now backs.now kept.new }
 {
-    let mut i: usize = 0;
-    while i < listings.len() {
-        keep_part(
-            kept,
-            part_of(uses, turned, starts, listings[i]),
-            odd,
-            fronts,
-            backs,
-        );
-        i += 1;
+    for &l in listings {
+        keep_part(kept, part_of(uses, turned, starts, l), odd, fronts, backs);
     }
 }
 
@@ -88,18 +78,16 @@ fn walk_listings<'a>(
         openings: 0,
         lookups: 0,
     };
-    let mut j: usize = 0;
-    while j < listings.len() {
+    for &l in listings {
         w = walk_part(
             kept,
-            part_of(uses, turned, starts, listings[j]),
+            part_of(uses, turned, starts, l),
             fronts,
             backs,
             out,
             lens,
             w,
         );
-        j += 1;
     }
     w
 }

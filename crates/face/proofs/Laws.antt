@@ -1,4 +1,5 @@
 -- Laws of faces: the wires one by one, the points that they share, face by face.
+use Rattle.std.specs.Prelude.{Err, Ok}
 use Prim.Native.Nat.{◌+◌, ◌-◌, ◌<◌, ◌≤◌, suc, ℕ}
 use mathlib.Core.Bool.{false, not, true}
 use mathlib.Core.List.{List, [], ◌++◌, ◌∷◌, map}
@@ -10,10 +11,8 @@ use lib.Seq.{drop-cons, take-add, take_all}
 use borrow.Author.Tests.{not-false, not-true}
 use Rattle.errors.proofs.Laws.{Passed, accepted_none, each_record, passed_next, passed_stop, refused_first}
 use Rattle.errors.specs.Faults.{each, first}
-use Rattle.errors.specs.declared.Check.TheVariants.{Accepted, Refused}
 use Rattle.errors.specs.declared.Refusal.{Refusal}
 use Rattle.errors.specs.declared.Refusal.TheVariants.{Wire}
-use Rattle.errors.specs.declared.WireCheck.TheVariants.{Refused as WireRefused, Simple}
 use Rattle.errors.specs.declared.WireError.{WireError}
 use Rattle.errors.specs.declared.WireError.TheVariants.{NotSimpleWire}
 use Rattle.face.specs.Faces.{face_faults, face_rule, outline_faults, shared_faults}
@@ -28,11 +27,11 @@ use Rattle.wire.specs.Wires.{points, wire_faults}
 use Rattle.errors.specs.Sequence.{first_of_wire}
 
 -- the answer for wire number w, as an answer of the checks
-pub wire_passes : (w : ℕ) (es : List WireError) → first_of_wire es ≡ Simple → first (map (Wire w) es) ≡ Accepted
+pub wire_passes : (w : ℕ) (es : List WireError) → first_of_wire es ≡ Ok tt → first (map (Wire w) es) ≡ Ok tt
 wire_passes w [] h = refl
 wire_passes w (e ∷ es) h = cc
 
-pub wire_stops : (w : ℕ) (es : List WireError) (e : WireError) → first_of_wire es ≡ WireRefused e → first (map (Wire w) es) ≡ Refused (Wire w e)
+pub wire_stops : (w : ℕ) (es : List WireError) (e : WireError) → first_of_wire es ≡ Err e → first (map (Wire w) es) ≡ (Err (Wire w e))
 wire_stops w [] e h = cc
 wire_stops w (d ∷ es) e h = cc
 
@@ -94,14 +93,14 @@ module _ (fronts backs : List ℕ) where
   module _
       (lengths uses : List ℕ) (w k at n : ℕ) (s : Passed (outline_faults fronts backs) [] (split lengths uses) w k)
       (t : Walk lengths k at) (h : k < length lengths) (is : n ≡ get_or lengths k 0) where
-    pub outline_next : first_of_wire (wire_faults fronts backs (take (at + n - at) (drop at uses))) ≡ Simple
+    pub outline_next : first_of_wire (wire_faults fronts backs (take (at + n - at) (drop at uses))) ≡ Ok tt
         → Passed (outline_faults fronts backs) [] (split lengths uses) w (k + 1)
     outline_next a =
         passed_next (outline_faults fronts backs) [] (split lengths uses) w k (w + k) _ s (rw (length_split lengths uses) h)
         (walk_part lengths k at n t h is uses) refl (wire_passes (w + k) (wire_faults fronts backs (take (at + n - at) (drop at uses))) a)
 
-    pub outline_stop : (e : WireError) → first_of_wire (wire_faults fronts backs (take (at + n - at) (drop at uses))) ≡ WireRefused e
-        → first (each (outline_faults fronts backs) w (split lengths uses)) ≡ Refused (Wire (w + k) e)
+    pub outline_stop : (e : WireError) → first_of_wire (wire_faults fronts backs (take (at + n - at) (drop at uses))) ≡ Err e
+        → first (each (outline_faults fronts backs) w (split lengths uses)) ≡ (Err (Wire (w + k) e))
     outline_stop e a =
         passed_stop (outline_faults fronts backs) [] (split lengths uses) w k (w + k) _ s (rw (length_split lengths uses) h)
         (walk_part lengths k at n t h is uses) refl (Wire (w + k) e) (wire_stops (w + k) (wire_faults fronts backs (take (at + n - at) (drop at uses))) e a)
@@ -157,7 +156,7 @@ module _ (fronts backs : List ℕ) where
           rest = rw (add-one, z) (unfold_rest ∙ rw (not-false (disjoint ps s.earlier) (sym seen ∙ m)));
         }
 
-    pub apart_stop : met stamp ps marks ≡ true → first (shared_faults fronts backs [] w (split lengths uses)) ≡ Refused (Wire (w + k) NotSimpleWire)
+    pub apart_stop : met stamp ps marks ≡ true → first (shared_faults fronts backs [] w (split lengths uses)) ≡ (Err (Wire (w + k) NotSimpleWire))
     apart_stop m = ap first unfold_rest ∙ rw (not-true (disjoint ps s.earlier) (sym seen ∙ m))
 
   pub apart_all : (wires : List (List ℕ)) (w stamp : ℕ) (marks : List ℕ) (i : ℕ) → Apart wires w stamp marks i → length wires ≤ i
@@ -182,14 +181,14 @@ module _ (fronts backs : List ℕ) where
         let h : k < length (split counts (split lengths uses)) = rw (length_split counts (split lengths uses)) t.inside in
         s.rest ∙ rw (drop-cons (split counts (split lengths uses)) k [] h, face_is t, face_long t)
 
-    pub ruled_next : first (face_faults fronts backs w (face_wires lengths uses w at n total)) ≡ Accepted → Ruled (split counts (split lengths uses)) (k + 1) (w + n)
+    pub ruled_next : first (face_faults fronts backs w (face_wires lengths uses w at n total)) ≡ Ok tt → Ruled (split counts (split lengths uses)) (k + 1) (w + n)
     ruled_next a = record {
       low = omega (arith, length_split counts (split lengths uses));
       rest = rw add-one (unfold_face ∙ rw (accepted_none (face_faults fronts backs w (face_wires lengths uses w at n total)) a));
     }
 
-    pub ruled_stop : (r : Refusal) → first (face_faults fronts backs w (face_wires lengths uses w at n total)) ≡ Refused r
-        → first (face_rule fronts backs 0 (split counts (split lengths uses))) ≡ Refused r
+    pub ruled_stop : (r : Refusal) → first (face_faults fronts backs w (face_wires lengths uses w at n total)) ≡ Err r
+        → first (face_rule fronts backs 0 (split counts (split lengths uses))) ≡ Err r
     ruled_stop r a = ap first unfold_face ∙ refused_first (face_faults fronts backs w (face_wires lengths uses w at n total)) _ r a
 
   pub ruled_all : (faces : List (List (List ℕ))) (i w : ℕ) → Ruled faces i w → length faces ≤ i → face_rule fronts backs 0 faces ≡ []

@@ -8,7 +8,7 @@ ghost use Rattle.errors.specs.Faults.{first as firstFault, each};
 ghost use Rattle.wire.specs.Named.{Named};
 ghost use Rattle.face.specs.Faces.{outline_faults, shared_faults, face_faults, face_rule};
 
-use errors::{Check, Refusal, WireCheck, WireError};
+use errors::{Refusal, WireError};
 use wire::{check_wire, outline, stamp_points};
 use words::{index, sum_of};
 
@@ -43,7 +43,7 @@ fn check_wires(
     marks: &mut [u16],
     first: usize,
     stamp: usize,
-) -> Check
+) -> Result<(), Refusal>
     requires named { Named fronts.now backs.now uses.now }
     requires lengths_in_bounds { (sum lengths.now ≤ length uses.now) × (first + length lengths.now ≤ 2048) × (stamp + length lengths.now < 65535) }
     requires marks_len { length marks.old ≡ 2048 }
@@ -52,21 +52,15 @@ fn check_wires(
     ensures below_2 { Below (stamp + length lengths.now) marks.new }
 {
     let mut at: usize = 0;
-    let mut k: usize = 0;
-    while k < lengths.len() {
-        let n = index(lengths[k]);
+    for (k, length) in lengths.iter().enumerate() {
+        let n = index(*length);
         let wire = outline(uses, at, n);
-        let answer = check_wire(wire, fronts, backs, marks, (stamp + k) as u16);
-        match answer {
-            WireCheck::Refused(e) => {
-                return Check::Refused(Refusal::Wire(first + k, e));
-            }
-            WireCheck::Simple => {}
+        if let Err(e) = check_wire(wire, fronts, backs, marks, (stamp + k) as u16) {
+            return Err(Refusal::Wire(first + k, e));
         }
         at += n;
-        k += 1;
     }
-    Check::Accepted
+    Ok(())
 }
 
 // No two of the wires share a point; each meets no point twice. `stamp` is above all marks.
@@ -78,7 +72,7 @@ fn disjoint_wires(
     marks: &mut [u16],
     first: usize,
     stamp: usize,
-) -> Check
+) -> Result<(), Refusal>
     requires named { Named fronts.now backs.now uses.now }
     requires lengths_in_bounds { (sum lengths.now ≤ length uses.now) × (first + length lengths.now ≤ 2048) × (stamp < 65535) }
     requires marks_len { length marks.old ≡ 2048 }
@@ -88,16 +82,14 @@ fn disjoint_wires(
     ensures below_2 { Below (stamp + 1) marks.new }
 {
     let mut start: usize = 0;
-    let mut k: usize = 0;
-    while k < lengths.len() {
-        let n = index(lengths[k]);
+    for (k, length) in lengths.iter().enumerate() {
+        let n = index(*length);
         if stamp_points(&uses[start..start + n], fronts, backs, marks, stamp as u16) {
-            return Check::Refused(Refusal::Wire(first + k, WireError::NotSimpleWire));
+            return Err(Refusal::Wire(first + k, WireError::NotSimpleWire));
         }
         start += n;
-        k += 1;
     }
-    Check::Accepted
+    Ok(())
 }
 
 // The face rule for one face.
@@ -109,7 +101,7 @@ fn check_face(
     marks: &mut [u16],
     first: usize,
     stamp: usize,
-) -> Check
+) -> Result<(), Refusal>
     requires named { Named fronts.now backs.now uses.now }
     requires lengths_in_bounds { (sum lengths.now ≤ length uses.now) × (first + length lengths.now ≤ 2048) × (stamp + length lengths.now < 65535) }
     requires marks_len { length marks.old ≡ 2048 }
@@ -117,18 +109,13 @@ fn check_face(
     ensures value { result ≡ firstFault (face_faults fronts.now backs.now first (split lengths.now uses.now)) }
     ensures below_2 { Below (stamp + length lengths.now + 1) marks.new }
 {
-    let alone = check_wires(uses, lengths, fronts, backs, marks, first, stamp);
-    match alone {
-        Check::Refused(f) => Check::Refused(f),
-        Check::Accepted => {
-            // One wire alone shares no point.
-            if lengths.len() < 2 {
-                return Check::Accepted;
-            }
-            let next = stamp + lengths.len();
-            disjoint_wires(uses, lengths, fronts, backs, marks, first, next)
-        }
+    check_wires(uses, lengths, fronts, backs, marks, first, stamp)?;
+    // One wire alone shares no point.
+    if lengths.len() < 2 {
+        return Ok(());
     }
+    let next = stamp + lengths.len();
+    disjoint_wires(uses, lengths, fronts, backs, marks, first, next)
 }
 
 // The face rule, face by face: the first `n` of `counts` are the faces' numbers of wires, `lengths`
@@ -140,7 +127,7 @@ pub fn check_faces(
     n: usize,
     fronts: &[u16],
     backs: &[u16],
-) -> Check
+) -> Result<(), Refusal>
     requires named { Named fronts.now backs.now uses.now }
     requires n_in_bounds { (n ≤ length counts.now) × (n ≤ 256) × (length lengths.now ≤ 2048) }
     requires counts_value { (sum (take n counts.now) ≡ length lengths.now) × (sum lengths.now ≡ length uses.now) }
@@ -149,12 +136,11 @@ pub fn check_faces(
     let mut marks = [0u16; 2048];
     let mut at: usize = 0;
     let mut first: usize = 0;
-    let mut k: usize = 0;
-    while k < n {
-        let wires = index(counts[k]);
+    for (k, count) in counts[..n].iter().enumerate() {
+        let wires = index(*count);
         let part = &lengths[first..first + wires];
         let total = sum_of(part, wires);
-        let answer = check_face(
+        check_face(
             &uses[at..at + total],
             part,
             fronts,
@@ -162,16 +148,9 @@ pub fn check_faces(
             &mut marks,
             first,
             first + k + 1,
-        );
-        match answer {
-            Check::Refused(f) => {
-                return Check::Refused(f);
-            }
-            Check::Accepted => {}
-        }
+        )?;
         at += total;
         first += wires;
-        k += 1;
     }
-    Check::Accepted
+    Ok(())
 }

@@ -1,4 +1,6 @@
 -- A face cut by one edge: both results keep the face rule, so the cut is never answered 28.
+use Rattle.errors.specs.declared.CallError.TheVariants.{Refused, Unread}
+use Rattle.std.specs.Prelude.{Err, Ok}
 use Prim.Native.Nat.{◌+◌, ◌<◌, ◌≤◌, ℕ}
 use mathlib.Core.Bool.{Bool, ◌&&◌, false, true, true≢false}
 use mathlib.Core.List.{List, [], ◌++◌, ◌∷◌, map, reverse}
@@ -9,8 +11,7 @@ use lib.Dec.{eqb, ltb}
 use lib.ListN.{length, length-append}
 use borrow.Author.Tests.{eq-eqb, eqb-false, eqb-true, ltb-true}
 use Rattle.edge.specs.Uses.{back_of, edge_number, front_of, turned}
-use Rattle.edit_answers.specs.Answers.{judged}
-use Rattle.edit_answers.specs.declared.FaceAnswer.TheVariants.{Not, Refused, Written}
+use Rattle.edit_answers.specs.Answers.{answer_of}
 use Rattle.edit_answers.specs.declared.FaceEditError.TheVariants.{EndsNotOnWire, FaceRule, NoSpace, NotOneWire, Unnamed}
 use Rattle.errors.specs.declared.Refusal.{Refusal}
 use Rattle.face_edits.proofs.AddTheorem.{stored_ruled}
@@ -138,7 +139,7 @@ edge_cut_kept c f u ok low named one on =
 
 -- the fourth refusal of five is not the first one, if it does not hold where the three before it do not
 not_fourth : (a b e r s : Bool) (m k : ℕ) → (a ≡ true → b ≡ true → e ≡ true → r ≡ true)
-    → judged [] (unless a Unnamed ++ unless b NotOneWire ++ (unless e EndsNotOnWire ++ (unless r FaceRule ++ unless s NoSpace))) Refused Not (Written m k) ≡ Not FaceRule → ⊥
+    → answer_of {T = ℕ × ℕ} [] (unless a Unnamed ++ unless b NotOneWire ++ (unless e EndsNotOnWire ++ (unless r FaceRule ++ unless s NoSpace))) (m, k) ≡ Err (Refused FaceRule) → ⊥
 not_fourth false b e r s m k h z = let y : true ≡ false = cc in true≢false y
 not_fourth true false e r s m k h z = let y : true ≡ false = cc in true≢false y
 not_fourth true true false r s m k h z = let y : true ≡ false = cc in true≢false y
@@ -170,10 +171,10 @@ module _ (p : Pattern) (f u m k : ℕ) (low : u < 65536) where
   rule_kept ok x y z = let both = edge_cut_kept c f u (pattern_passed p ok).content low x y z in rw (both.0, both.1)
 
   -- it is never answered 28
-  pub cut_by_edge_not_28 : cut_face_answer p f (u ∷ []) m k ≡ Not FaceRule → ⊥
+  pub cut_by_edge_not_28 : cut_face_answer p f (u ∷ []) m k ≡ (Err (Refused FaceRule)) → ⊥
   cut_by_edge_not_28 = go (pattern_faults p) refl
     where
-      go : (rs : List Refusal) → pattern_faults p ≡ rs → judged rs (cut_face_faults c f (u ∷ []) m k) Refused Not (Written (length (flat wires)) (length wires)) ≡ Not FaceRule → ⊥
+      go : (rs : List Refusal) → pattern_faults p ≡ rs → answer_of {T = ℕ × ℕ} rs (cut_face_faults c f (u ∷ []) m k) (length (flat wires), length wires) ≡ Err (Refused FaceRule) → ⊥
       go (r ∷ rs) ok h = let y : true ≡ false = cc in true≢false y
       go [] ok h =
           not_fourth (is_face c f && are_uses c (u ∷ [])) (eqb (length (boundaries c f)) 1) (ends_on fronts backs outline (u ∷ [])) rule (fits wires m k) (length (flat wires)) (length wires)

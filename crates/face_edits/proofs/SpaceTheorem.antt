@@ -1,12 +1,13 @@
 -- 17 is answered exactly if nothing else is wrong and the result is longer than a lent list.
+use Rattle.errors.specs.declared.CallError.TheVariants.{Refused, Unread}
+use Rattle.std.specs.Prelude.{Err, Ok}
 use Prim.Native.Nat.{◌/◌, ℕ}
 use mathlib.Core.Bool.{Bool, ◌&&◌, false, not, true, true≢false}
 use mathlib.Core.List.{List, [], ◌++◌, ◌∷◌, append_assoc, append-nil, map}
 use mathlib.Core.Path.{◌∙◌, ◌≡◌, ap, refl, sym}
 use lib.Dec.{eqb, ltb}
 use lib.ListN.{length, take}
-use Rattle.edit_answers.specs.Answers.{face_edit_number, judged}
-use Rattle.edit_answers.specs.declared.FaceAnswer.TheVariants.{Not, Refused, Written}
+use Rattle.edit_answers.specs.Answers.{answer_of, face_edit_number}
 use Rattle.edit_answers.specs.declared.FaceEditError.{FaceEditError}
 use Rattle.edit_answers.specs.declared.FaceEditError.TheVariants.{EndsNotOnWire, FaceRule, FacesDiffer, NoSpace, NotDisjointWires, NothingRemains, NotOneWire, OppositeEdges, Unnamed, Wire}
 use Rattle.errors.specs.declared.Refusal.{Refusal}
@@ -65,7 +66,7 @@ row_more room es fs h r = record {
   other = all_append Other es r.before h r.other;
 }
 
-not_only : (fs : List Refusal) (es : List FaceEditError) (m k : ℕ) → judged fs es Refused Not (Written m k) ≡ Not NoSpace → (fs ≡ []) × (take 1 es ≡ NoSpace ∷ [])
+not_only : (fs : List Refusal) (es : List FaceEditError) (m k : ℕ) → answer_of {T = ℕ × ℕ} fs es (m, k) ≡ Err (Refused NoSpace) → (fs ≡ []) × (take 1 es ≡ NoSpace ∷ [])
 not_only [] [] m k h = (refl, cc)
 not_only [] (e ∷ es) m k h = let z : e ≡ NoSpace = cc in (refl, ap (λ (d : FaceEditError). d ∷ []) z)
 not_only (f ∷ fs) es m k h = (cc, cc)
@@ -87,16 +88,16 @@ module _ (p : Pattern) (es : List FaceEditError) (wires : List (List ℕ)) (m k 
       ap others row.is ∙ only_append (λ (e : FaceEditError). not (eqb (face_edit_number e) 17)) row.before (unless room NoSpace)
       ∙ rw (others_all row.before row.other, no_others room) (append-nil row.before)
 
-  no_space : (face_answer p es wires ≡ Not NoSpace → OnlyLong p es wires m k) × (OnlyLong p es wires m k → face_answer p es wires ≡ Not NoSpace)
+  no_space : (face_answer p es wires ≡ (Err (Refused NoSpace)) → OnlyLong p es wires m k) × (OnlyLong p es wires m k → face_answer p es wires ≡ (Err (Refused NoSpace)))
   no_space = (only_if, then)
     where
-      only_if : face_answer p es wires ≡ Not NoSpace → OnlyLong p es wires m k
+      only_if : face_answer p es wires ≡ (Err (Refused NoSpace)) → OnlyLong p es wires m k
       only_if a =
           let t = not_only (pattern_faults p) es (length (flat wires)) (length wires) a in
           let s = first_full row.before room row.other (rw row.is at t.1) in
           (t.0, others_are ∙ s.0, s.1)
 
-      then : OnlyLong p es wires m k → face_answer p es wires ≡ Not NoSpace
+      then : OnlyLong p es wires m k → face_answer p es wires ≡ (Err (Refused NoSpace))
       then t =
           let none : row.before ≡ [] = sym others_are ∙ t.1 in
           let all : es ≡ NoSpace ∷ [] = row.is ∙ rw (none, t.2) in
@@ -115,8 +116,8 @@ module _ (p : Pattern) where
   backs = backs_in c
 
   pub add_no_space : (f : ℕ) (us : List ℕ) (m k : ℕ)
-      → (add_answer p f us m k ≡ Not NoSpace → OnlyLong p (add_faults c f us m k) (added c f us) m k)
-      × (OnlyLong p (add_faults c f us m k) (added c f us) m k → add_answer p f us m k ≡ Not NoSpace)
+      → (add_answer p f us m k ≡ (Err (Refused NoSpace)) → OnlyLong p (add_faults c f us m k) (added c f us) m k)
+      × (OnlyLong p (add_faults c f us m k) (added c f us) m k → add_answer p f us m k ≡ (Err (Refused NoSpace)))
   add_no_space f us m k =
       let wires = added c f us in
       let room = fits wires m k in
@@ -129,8 +130,8 @@ module _ (p : Pattern) where
       (row_last room)))
 
   pub cut_face_no_space : (f : ℕ) (us : List ℕ) (m k : ℕ)
-      → (cut_face_answer p f us m k ≡ Not NoSpace → OnlyLong p (cut_face_faults c f us m k) (cut_in_two c f us) m k)
-      × (OnlyLong p (cut_face_faults c f us m k) (cut_in_two c f us) m k → cut_face_answer p f us m k ≡ Not NoSpace)
+      → (cut_face_answer p f us m k ≡ (Err (Refused NoSpace)) → OnlyLong p (cut_face_faults c f us m k) (cut_in_two c f us) m k)
+      × (OnlyLong p (cut_face_faults c f us m k) (cut_in_two c f us) m k → cut_face_answer p f us m k ≡ (Err (Refused NoSpace)))
   cut_face_no_space f us m k =
       let wires = cut_in_two c f us in
       let room = fits wires m k in
@@ -146,8 +147,8 @@ module _ (p : Pattern) where
       (row_more room (unless rule FaceRule) (unless room NoSpace) (unless_other rule FaceRule refl) (row_last room))))
 
   pub glue_no_space : (f g m k : ℕ)
-      → (glue_answer p f g m k ≡ Not NoSpace → OnlyLong p (glue_faults c f g m k) (glued c f g) m k)
-      × (OnlyLong p (glue_faults c f g m k) (glued c f g) m k → glue_answer p f g m k ≡ Not NoSpace)
+      → (glue_answer p f g m k ≡ (Err (Refused NoSpace)) → OnlyLong p (glue_faults c f g m k) (glued c f g) m k)
+      × (OnlyLong p (glue_faults c f g m k) (glued c f g) m k → glue_answer p f g m k ≡ (Err (Refused NoSpace)))
   glue_no_space f g m k =
       let wires = glued c f g in
       let room = fits wires m k in

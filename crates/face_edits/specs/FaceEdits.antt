@@ -1,6 +1,5 @@
 -- The edits of a face: add an outline (try_add_boundary), cut a face (cut_by_wire), glue (glue_at_boundaries). They make wires, and change nothing stored (FORMAT 5). A face is given with a sign, as a listing: its number, plus 32,768 if reversed.
-use Rattle.std.specs.Prelude.{ℕ, suc, ◌/◌, Bool, true, false, ◌&&◌, List, [], ◌∷◌, ◌++◌, map, reverse, eqb, leb, ltb, drop, get_or, length, replicate, set, take}
-use Rattle.std.proofs.Math.Option.{Option, none, some}
+use Rattle.std.specs.Prelude.{ℕ, suc, ◌/◌, Bool, true, false, ◌&&◌, List, [], ◌∷◌, ◌++◌, map, reverse, eqb, leb, ltb, drop, get_or, length, replicate, set, take, Option, None, Some}
 use Rattle.lists.specs.Lists.{count, disjoint, flat, has, numbers, pick, unless}
 use Rattle.edge.specs.Edges.{back_number, front_number}
 use Rattle.edge.specs.Uses.{back_of, edge_number, front_of, turned}
@@ -144,33 +143,33 @@ cut_face_faults c f us m k =
 
 -- the first face's uses are kept by front point
 abbrev pub kept_of : Content → ℕ → Kept
-kept_of c f = keep (front_in c) (back_in c) (flat (boundaries c f)) (replicate (length c.points) none)
+kept_of c f = keep (front_in c) (back_in c) (flat (boundaries c f)) (replicate (length c.points) None)
 
 -- one use of the second face. If one kept at its back ends at its front, both go when the edge is the same, else none (21); otherwise it is kept at its front, replacing what was there
 abbrev pub meet : Content → ℕ → Option ℕ → Kept → Option Kept
-meet c u none kept = some (set kept (front_in c u) (some u))
-meet c u (some v) kept = pick (eqb (back_in c v) (front_in c u)) (pick (eqb (edge_number u) (edge_number v)) (some (set kept (back_in c u) none)) none) (some (set kept (front_in c u) (some u)))
+meet c u None kept = Some (set kept (front_in c u) (Some u))
+meet c u (Some v) kept = pick (eqb (back_in c v) (front_in c u)) (pick (eqb (edge_number u) (edge_number v)) (Some (set kept (back_in c u) None)) None) (Some (set kept (front_in c u) (Some u)))
 
 abbrev pub and_then : Option Kept → (Kept → Option Kept) → Option Kept
-and_then none next = none
-and_then (some kept) next = next kept
+and_then None next = None
+and_then (Some kept) next = next kept
 
 unfoldable pub meet_all : Content → List ℕ → Kept → Option Kept
-meet_all c [] kept = some kept
-meet_all c (u ∷ us) kept = and_then (meet c u (get_or kept (back_in c u) none) kept) (meet_all c us)
+meet_all c [] kept = Some kept
+meet_all c (u ∷ us) kept = and_then (meet c u (get_or kept (back_in c u) None) kept) (meet_all c us)
 
 -- what stays is chained, each outline from the lowest point left
 abbrev pub chain_at : Content → Option ℕ → ℕ → Kept → (Kept → List (List ℕ)) → List (List ℕ)
-chain_at c none p kept rest = rest kept
-chain_at c (some u) p kept rest = let r = chain (front_in c) (back_in c) (suc (length kept)) p kept 0 in r.opening ∷ rest r.kept
+chain_at c None p kept rest = rest kept
+chain_at c (Some u) p kept rest = let r = chain (front_in c) (back_in c) (suc (length kept)) p kept 0 in r.opening ∷ rest r.kept
 
 unfoldable pub chained : Content → List ℕ → Kept → List (List ℕ)
 chained c [] kept = []
-chained c (p ∷ ps) kept = chain_at c (get_or kept p none) p kept (chained c ps)
+chained c (p ∷ ps) kept = chain_at c (get_or kept p None) p kept (chained c ps)
 
 abbrev pub glued_of : Content → Option Kept → List (List ℕ)
-glued_of c none = []
-glued_of c (some kept) = chained c (numbers (length c.points)) kept
+glued_of c None = []
+glued_of c (Some kept) = chained c (numbers (length c.points)) kept
 
 abbrev pub meeting : Content → ℕ → ℕ → Option Kept
 meeting c f g = meet_all c (flat (boundaries c g)) (kept_of c f)
@@ -179,8 +178,8 @@ abbrev pub glued : Content → ℕ → ℕ → List (List ℕ)
 glued c f g = glued_of c (meeting c f g)
 
 abbrev pub is_some : Option Kept → Bool
-is_some none = false
-is_some (some kept) = true
+is_some None = false
+is_some (Some kept) = true
 
 abbrev pub surface_of : Content → ℕ → ℕ
 surface_of c f = (get_or c.faces (face_number f) zero_face).surface

@@ -5,15 +5,16 @@ use mathlib.Core.List.{List, [], ◌∷◌, map}
 use mathlib.Core.Logic.{⊎_elim}
 use mathlib.Core.Path.{◌∙◌, ◌≡◌, ap, refl, sym}
 use native.Mathlib.Nat.{sub-zero}
-use native.Mathlib.Numerals.{add-one}
 use native.Mathlib.Omega.{arith}
 use lib.Dec.{eqb, leb, ltb}
 use lib.ListN.{drop, get_or, length, length-drop, take}
-use lib.Seq.{length-take-le, take_all, take-suc, take-take}
-use borrow.Author.Tests.{eq-eqb, eqb-false, leb-true, ltb-false, ltb-true, ne_eqb}
+use lib.Seq.{length-take-le, take-take}
+use borrow.Author.Tests.{eqb-false, leb-true, ltb-false, ltb-true, ne_eqb}
+use Rattle.std.proofs.lemmas.Bool.Decides.{nat_tests}
+use Rattle.std.specs.List.{list_all}
 use Rattle.face_parts.specs.Parts.{part_of}
 use Rattle.lists.proofs.Alike.{no_dup_count}
-use Rattle.lists.proofs.Count.{All, all_each, count_append, count_only_le}
+use Rattle.lists.proofs.Count.{All, all_each, count_only_le}
 use Rattle.lists.proofs.Laws.{cases}
 use Rattle.lists.proofs.Split.{drop_take}
 use Rattle.lists.specs.Lists.{count, no_dup, only, split, sum}
@@ -45,36 +46,6 @@ module _ {ℓ} {A : Type ℓ} where
         (λ (e : q x ≡ false). rw e (omega (arith, count_le xs)))
         (cases (q x))
 
-    -- one element does not pass
-    count_fails : (d : A) (xs : List A) (i : ℕ) → i < length xs → q (get_or xs i d) ≡ false → count q xs < length xs
-    unfolding count
-    count_fails d [] i h e = absurd (omega arith)
-    count_fails d (x ∷ xs) zero h e = rw e (omega (arith, count_le xs))
-    count_fails d (x ∷ xs) (suc i) h e =
-        let rest = count_fails d xs i (omega arith) e in
-        ⊎_elim
-        (λ (b : q x ≡ true). rw b (omega (arith, rest)))
-        (λ (b : q x ≡ false). rw b (omega (arith, rest)))
-        (cases (q x))
-
-    -- a loop over the elements: the first i have passed
-    pub passed_start : (xs : List A) → count q (take 0 xs) ≡ 0
-    unfolding count
-    passed_start xs = refl
-
-    pub passed_next : (d : A) (xs : List A) (i : ℕ) → i < length xs → count q (take i xs) ≡ i → q (get_or xs i d) ≡ true → count q (take (i + 1) xs) ≡ i + 1
-    unfolding count
-    passed_next d xs i h s e =
-        rw (add-one, take-suc xs i d h, count_append q (take i xs) (get_or xs i d ∷ []), s, e) (omega arith)
-
-    pub passed_stop : (d : A) (xs : List A) (i : ℕ) → i < length xs → q (get_or xs i d) ≡ false → false ≡ eqb (count q xs) (length xs)
-    passed_stop d xs i h e = sym (ne_eqb (count q xs) (length xs) (λ z. omega (arith, count_fails d xs i h e)))
-
-    pub passed_all : (xs : List A) (i : ℕ) → count q (take i xs) ≡ i → length xs ≤ i → true ≡ eqb (count q xs) (length xs)
-    passed_all xs i s h =
-        let e : count q xs ≡ i = rw (take_all i xs h) at s in
-        sym (eq-eqb (count q xs) (length xs) (omega (arith, e, count_le xs)))
-
     -- so many pass: each does
     pub all_pass : (xs : List A) → count q xs ≡ length xs → All (λ (x : A). q x ≡ true) xs
     unfolding count
@@ -89,6 +60,17 @@ module _ {ℓ} {A : Type ℓ} where
   unfolding split sum
   split_lengths [] xs h = refl
   split_lengths (n ∷ ns) xs h = rw (length-take-le n xs (omega arith), split_lengths ns (drop n xs) (omega (arith, length-drop n xs)))
+
+-- so many pass as there are: all do
+module _ (q : ℕ → Bool) where
+  pub all_counted : (xs : List ℕ) → list_all q xs ≡ eqb (count q xs) (length xs)
+  unfolding count
+  all_counted [] = refl
+  all_counted (x ∷ xs) =
+      ⊎_elim
+      (λ (e : q x ≡ true). rw (e, all_counted xs) (grind (arith, nat_tests)))
+      (λ (e : q x ≡ false). rw e (sym (ne_eqb (0 + count q xs) (suc (length xs)) (λ z. omega (arith, count_le q xs)))))
+      (cases (q x))
 
 -- n numbers of the store, lent from `at` on
 module _ (t xs : List ℕ) (at n : ℕ) where

@@ -88,12 +88,5 @@ pub fn first_backs(t: &Tables, n: usize) -> &[u16]
 pub fn are_uses(wire: &[u16], edges: usize) -> bool
     ensures { result ≡ name_edges wire.now edges }
 {
-    let mut i: usize = 0;
-    while i < wire.len() {
-        if index(wire[i] % 32768) >= edges {
-            return false;
-        }
-        i += 1;
-    }
-    true
+    wire.iter().all(|u| index(*u % 32768) < edges)
 }

@@ -2,61 +2,62 @@
 use Prim.Native.Nat.{ℕ}
 use mathlib.Core.List.{List, [], ◌∷◌}
 use mathlib.Core.Path.{◌∙◌, ◌≡◌, ap, refl, sym}
-use Rattle.answers.specs.Values.{cut_values, refused, unread}
+use Rattle.answers.specs.Values.{answer, cut_values, unread}
 use Rattle.answers.specs.declared.Answer.{Answer}
 use Rattle.curve.specs.declared.Parameter.{Parameter}
 use Rattle.edge.specs.declared.EdgeID.{EdgeID}
-use Rattle.edit_answers.specs.Answers.{edit_number, judged}
-use Rattle.edit_answers.specs.declared.CutAnswer.{CutAnswer}
-use Rattle.edit_answers.specs.declared.CutAnswer.TheVariants.{Cut, Not, Refused}
+use Rattle.edit_answers.specs.Answers.{answer_of, cut_reply}
 use Rattle.edit_answers.specs.declared.EditError.{EditError}
+use Rattle.errors.specs.declared.CallError.{CallError}
+use Rattle.errors.specs.declared.CallError.TheVariants.{Refused, Unread}
 use Rattle.errors.specs.declared.Refusal.{Refusal}
 use Rattle.file_cut.specs.FileCut.{cut_bytes, cut_file, cut_file_bytes}
 use Rattle.pattern.specs.Checks.{pattern_faults}
 use Rattle.pattern.specs.Contents.{Pattern, content}
 use Rattle.pattern_file.specs.File.{file_bytes}
-use Rattle.shell_edits.specs.Answers.{after_cut, cut_answer, next_edge}
-use Rattle.shell_edits.specs.Edits.{cut_faults}
-use Rattle.store_write.specs.Writing.{write_answer, write_bytes, written}
-use Rattle.store_write.specs.declared.Written.{Written}
+use Rattle.shell_edits.specs.Answers.{after_cut, cut_answer}
+use Rattle.std.specs.Prelude.{Err, Ok, Result}
+use Rattle.store_write.specs.Writing.{write_answer, write_bytes, written, written_bytes}
+use Rattle.store_write.specs.declared.NoSpace.{NoSpace}
 
 -- only a pattern without fault is cut
-judged_cut : (fs : List Refusal) (es : List EditError) (a b c d : EdgeID) → judged fs es Refused Not (Cut a b) ≡ Cut c d → fs ≡ []
-judged_cut [] es a b c d h = refl
-judged_cut (f ∷ fs) es a b c d h = cc
+done_fine : {T E : Type 0} (fs : List Refusal) (es : List E) (a b : T) → answer_of fs es a ≡ Ok b → fs ≡ []
+done_fine [] es a b h = refl
+done_fine (f ∷ fs) es a b h = cc
+
+-- refused, the answer is told without a file
+alone : (x : CallError EditError) (w : Result ℕ (CallError NoSpace)) → answer (cut_reply (Err x)) ≡ cut_values (Err x) w
+alone (Unread f) w = refl
+alone (Refused e) w = refl
 
 module _ (p : Pattern) (n e v : ℕ) (at : Parameter) (o : List ℕ) where
+  abbrev Told : Answer → List ℕ → Type 0
+  Told a bs = (a ≡ cut_file p n e v at o) × (bs ≡ cut_file_bytes p n e v at o)
+
   -- refused by the reading checks
   module _ (f : Refusal) (fs : List Refusal) (h : pattern_faults p ≡ f ∷ fs) where
     pub refuses_answer : cut_file p n e v at o ≡ unread f
-    refuses_answer = ap (λ (gs : List Refusal). cut_values (judged gs (cut_faults (content p) n e v at) Refused Not (Cut (next_edge p 0) (next_edge p 1))) (written (after_cut p n e v at) o)) h
+    refuses_answer = rw h
 
     pub refuses_bytes : cut_file_bytes p n e v at o ≡ o
-    refuses_bytes = ap (λ (gs : List Refusal). cut_bytes (judged gs (cut_faults (content p) n e v at) Refused Not (Cut (next_edge p 0) (next_edge p 1))) (after_cut p n e v at) o) h
+    refuses_bytes = rw h
 
-  module _ {r : CutAnswer} (is : r ≡ cut_answer p n e v at) where
-    pub file_unread : {f : Refusal} {a : Answer} → r ≡ Refused f → a ≡ unread f → (a ≡ cut_file p n e v at o) × (o ≡ cut_file_bytes p n e v at o)
-    file_unread h u =
-        let k = sym h ∙ is in
-        (u ∙ ap (λ (x : CutAnswer). cut_values x (written (after_cut p n e v at) o)) k, ap (λ (x : CutAnswer). cut_bytes x (after_cut p n e v at) o) k)
+  module _ {r : Result (EdgeID × EdgeID) (CallError EditError)} (is : r ≡ cut_answer p n e v at) where
+    abbrev q : Pattern
+    q = after_cut p n e v at
 
-    pub file_refused : {x : EditError} {a : Answer} {i : ℕ} → r ≡ Not x → i ≡ edit_number x → a ≡ refused i 0 → (a ≡ cut_file p n e v at o) × (o ≡ cut_file_bytes p n e v at o)
-    file_refused h j u =
-        let k = sym h ∙ is in
-        (u ∙ ap (λ (i : ℕ). refused i 0) j ∙ ap (λ (x : CutAnswer). cut_values x (written (after_cut p n e v at) o)) k, ap (λ (x : CutAnswer). cut_bytes x (after_cut p n e v at) o) k)
+    pub told_refused : {x : CallError EditError} {a : Answer} → r ≡ Err x → a ≡ answer (cut_reply r) → Told a o
+    told_refused {x} h u = (u ∙ rw h (alone x (written q o)) ∙ ap (λ y. cut_values y (written q o)) is, ap (λ y. cut_bytes y q o) (sym h ∙ is))
 
-    module _ {a b : EdgeID} (h : r ≡ Cut a b) where
+    module _ {new : EdgeID × EdgeID} (h : r ≡ Ok new) where
       pub cut_fine : pattern_faults p ≡ []
-      cut_fine = judged_cut (pattern_faults p) (cut_faults (content p) n e v at) (next_edge p 0) (next_edge p 1) a b (sym is ∙ h)
+      cut_fine = done_fine (pattern_faults p) _ _ new (sym is ∙ h)
 
-      -- the file of pattern q, which has no fault
-      pub file_cut_lem : (q : Pattern) → q ≡ after_cut p n e v at → pattern_faults q ≡ [] → (w : Written) (o' : List ℕ) (x : Answer)
-          → w ≡ write_answer [] (file_bytes (content q)) o → o' ≡ write_bytes [] (file_bytes (content q)) o → x ≡ cut_values (Cut a b) w
-          → (x ≡ cut_file p n e v at o) × (o' ≡ cut_file_bytes p n e v at o)
-      file_cut_lem q after fine w o' x hw ho hx =
-          let k = sym h ∙ is in (
-            hx ∙ ap (cut_values (Cut a b)) (hw ∙ ap (λ (fs : List Refusal). write_answer fs (file_bytes (content q)) o) (sym fine) ∙ ap (λ (q : Pattern). written q o) after)
-                ∙ ap (λ (x : CutAnswer). cut_values x (written (after_cut p n e v at) o)) k,
-            ho ∙ ap (λ (fs : List Refusal). write_bytes fs (file_bytes (content q)) o) (sym fine) ∙ ap (λ (q : Pattern). cut_bytes (Cut a b) q o) after
-                ∙ ap (λ (x : CutAnswer). cut_bytes x (after_cut p n e v at) o) k,
+      -- the file of pattern x, which has no fault
+      pub told_cut : (x : Pattern) → x ≡ q → pattern_faults x ≡ [] → {w : Result ℕ (CallError NoSpace)} {o' : List ℕ} {a : Answer}
+          → w ≡ write_answer [] (file_bytes (content x)) o → o' ≡ write_bytes [] (file_bytes (content x)) o → a ≡ cut_values r w → Told a o'
+      told_cut x after fine hw ho ha =
+          let file = hw ∙ ap (λ fs. write_answer fs (file_bytes (content x)) o) (sym fine) ∙ ap (λ y. written y o) after in (
+            ha ∙ (λ i. cut_values (is i) (file i)),
+            ho ∙ ap (λ fs. write_bytes fs (file_bytes (content x)) o) (sym fine) ∙ ap (λ y. written_bytes y o) after ∙ ap (λ y. cut_bytes y q o) (sym h ∙ is),
           )

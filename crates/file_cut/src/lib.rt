@@ -6,12 +6,10 @@ ghost use Rattle.std.specs.Prelude.{◌≡◌};
 ghost use Rattle.store.specs.Store.{held};
 ghost use Rattle.file_cut.specs.FileCut.{cut_file, cut_file_bytes, file_cut, file_cut_bytes};
 
-use answers::{Answer, cut_values, refused, unread};
+use answers::{Answer, call_values, edit_values, unread};
 use curve::{Parameter, parameter_of};
 use cut_edge::cut_edge;
 use edge::EdgeID;
-use edit_answers::{CutAnswer, edit_number};
-use errors::Check;
 use store::{SPANS, Spans, TABLES, Tables};
 use store_read::load;
 use store_write::put_file;
@@ -32,9 +30,8 @@ fn cut_stored(
 {
     let done = cut_edge(t, spans, n, EdgeID(e), VertexID(v), at);
     match done {
-        CutAnswer::Refused(f) => unread(f),
-        CutAnswer::Not(x) => refused(edit_number(x), 0),
-        CutAnswer::Cut(a, b) => cut_values(CutAnswer::Cut(a, b), put_file(t, spans, out)),
+        Err(_) => call_values(done),
+        Ok(_) => edit_values(done, put_file(t, spans, out)),
     }
 }
 
@@ -45,9 +42,8 @@ pub fn file_cut(file: &[u8], n: usize, e: u16, v: u16, bits: u64, out: &mut [u8]
 {
     let mut t: Tables = [0u16; TABLES];
     let mut spans: Spans = [0.0; SPANS];
-    let table = load(file, &mut t, &mut spans);
-    match table {
-        Check::Refused(f) => unread(f),
-        Check::Accepted => cut_stored(&mut t, &mut spans, n, e, v, parameter_of(bits), out),
+    match load(file, &mut t, &mut spans) {
+        Err(f) => unread(f),
+        Ok(()) => cut_stored(&mut t, &mut spans, n, e, v, parameter_of(bits), out),
     }
 }

@@ -1,4 +1,6 @@
 -- The cut on a file: the file that it writes is accepted, and holds the cut content; the same cut of that file is answered 14; when it is answered 17.
+use Rattle.errors.specs.declared.CallError.TheVariants.{Refused, Unread}
+use Rattle.std.specs.Prelude.{Err, Ok}
 use Prim.Native.Nat.{◌+◌, ◌<◌, ℕ}
 use mathlib.Core.Bool.{◌&&◌, true}
 use mathlib.Core.List.{List, [], map}
@@ -14,8 +16,7 @@ use Rattle.answers.specs.declared.Answer.{Answer}
 use Rattle.curve.specs.Curves.{cut_curve, parameter_of}
 use Rattle.curve.specs.declared.Parameter.{Parameter}
 use Rattle.edge.specs.Uses.{edge_number}
-use Rattle.edit_answers.specs.Answers.{judged}
-use Rattle.edit_answers.specs.declared.CutAnswer.TheVariants.{Cut, Not, Refused}
+use Rattle.edit_answers.specs.Answers.{answer_of, judged}
 use Rattle.edit_answers.specs.declared.EditError.{EditError}
 use Rattle.edit_answers.specs.declared.EditError.TheVariants.{Unnamed}
 use Rattle.errors.proofs.Laws.{none_left, unless_passes}
@@ -110,7 +111,7 @@ module _ (s : List ℕ) (bytes : Bytes s) (n e v bits : ℕ) (out : List ℕ) wh
         (halves_fit (edge_at c e) v bits (curve_fits c e fit inside)) (cut_wires_low c n e fit few_edges)
 
     after_is : after ≡ written_bytes (stored_in p new) out
-    after_is = λ i. after_read (first (ok i)) out (cut_bytes (judged (passes i) (cut i) Refused Not (Cut (next_edge p 0) (next_edge p 1))) (stored_new i) out)
+    after_is = λ i. after_read (first (ok i)) out (cut_bytes (answer_of (passes i) (cut i) (next_edge p 0, next_edge p 1)) (stored_new i) out)
 
   abbrev faults : List EditError
   faults = cut_faults (file_content s) n e v at

@@ -1,4 +1,8 @@
 -- The file of an edited pattern, as it is written to a slice that is long enough, and a file that is edited.
+use Rattle.errors.specs.declared.CallError.{CallError}
+use Rattle.errors.specs.declared.CallError.TheVariants.{Refused, Unread}
+use Rattle.std.specs.Prelude.{Err, Ok, Result}
+use Rattle.store_write.specs.declared.NoSpace.{NoSpace}
 use Prim.Native.Nat.{◌%◌, ◌-◌, ◌/◌, ◌<◌, ◌≤◌, suc, ℕ}
 use mathlib.Core.Bool.{Bool, false, true, true≢false}
 use mathlib.Core.List.{List, [], ◌++◌, ◌∷◌, map}
@@ -15,11 +19,8 @@ use Rattle.answers.specs.Values.{answer, cut_values, join_values, refused, unrea
 use Rattle.answers.specs.declared.Answer.{Answer}
 use Rattle.edge.specs.declared.Edge.{Edge}
 use Rattle.edge.specs.declared.EdgeID.{EdgeID}
-use Rattle.edit_answers.specs.Answers.{edit_number, judged}
-use Rattle.edit_answers.specs.declared.CutAnswer.TheVariants.{Cut, Not, Refused}
+use Rattle.edit_answers.specs.Answers.{answer_of, edit_number}
 use Rattle.edit_answers.specs.declared.EditError.{EditError}
-use Rattle.edit_answers.specs.declared.JoinAnswer.TheVariants.{Joined, Not as Join-as-Not, Refused as Join-as-Refused}
-use Rattle.edit_answers.specs.declared.VertexAnswer.TheVariants.{Added, Not as Vertex-as-Not, Refused as Vertex-as-Refused}
 use Rattle.errors.proofs.Laws.{none_left, none_right}
 use Rattle.errors.specs.Faults.{first}
 use Rattle.errors.specs.Numbers.{done, number, wire_number}
@@ -43,9 +44,7 @@ use Rattle.pattern_file.specs.File.{edge_bytes, face_bytes, file_bytes, file_con
 use Rattle.shell_edits.specs.Theorems.{first_number}
 use Rattle.store_read.proofs.Fresh.{blank, fresh_faults}
 use Rattle.store_read.specs.Loading.{loaded, pattern_of}
-use Rattle.store_write.specs.Writing.{write_answer, write_bytes, written, written_bytes, written_reply}
-use Rattle.store_write.specs.declared.Written.{Written}
-use Rattle.store_write.specs.declared.Written.TheVariants.{Length, NoSpace, Refused as Written-as-Refused}
+use Rattle.store_write.specs.Writing.{write_answer, write_bytes, written, written_bytes, written_reply, no_space}
 use Rattle.vertex.specs.declared.VertexID.{VertexID}
 use Rattle.words.specs.Words.{bytes16, bytes32, bytes64}
 
@@ -112,10 +111,10 @@ module _ (c : Content) (few : count_faults (counts_of c) ≡ []) (ok : content_f
   abbrev file : List ℕ
   file = file_bytes c
 
-  written_file : (bs : List ℕ) → write_answer [] file out ≡ Length n → bs ≡ write_bytes [] file out → FileOf c n bs
+  written_file : (bs : List ℕ) → write_answer [] file out ≡ Ok n → bs ≡ write_bytes [] file out → FileOf c n bs
   written_file bs h e = go (leb (length file) (length out)) h e
     where
-      go : (b : Bool) → pick b (Length (length file)) (NoSpace (length file)) ≡ Length n → bs ≡ pick b (file ++ drop (length file) out) out → FileOf c n bs
+      go : (b : Bool) → pick b (Ok (length file)) (Err (Refused (no_space (length file)))) ≡ Ok n → bs ≡ pick b (file ++ drop (length file) out) out → FileOf c n bs
       go true h e =
           let long : length file ≡ n = cc in
           let same : take n bs ≡ file = ap (take n) e ∙ rw (← long) (take-append_seam file (drop (length file) out)) in
@@ -145,7 +144,7 @@ module _ (p : Pattern) (full : Full p) (c : Content) (ok : pattern_faults (store
   new_answer : (out : List ℕ) → written q out ≡ write_answer [] (file_bytes c) out
   new_answer out = λ i. write_answer (ok i) (file_bytes (new_content i)) out
 
-  edited_file : Fits c → (out : List ℕ) (n : ℕ) → written q out ≡ Length n → FileOf c n (written_bytes q out)
+  edited_file : Fits c → (out : List ℕ) (n : ℕ) → written q out ≡ Ok n → FileOf c n (written_bytes q out)
   edited_file fit out n h =
       let bytes : write_bytes (pattern_faults q) (file_bytes (content q)) out ≡ write_bytes [] (file_bytes c) out = λ i. write_bytes (ok i) (file_bytes (new_content i)) out in
       written_file c new_few new_fine fit out n (written_bytes q out) (sym (new_answer out) ∙ h) bytes
@@ -184,41 +183,41 @@ content_read s ok = none_right (table_faults s) (content_faults (file_content s)
 
 -- ---- what an edit of a file answers: x and y are the new numbers, fs the faults of the file, gs those of its pattern, es the edit's refusals, w the answer of writing
 
-abbrev pub ended : ℕ → ℕ → List Refusal → List Refusal → List EditError → Written → Answer
+abbrev pub ended : ℕ → ℕ → List Refusal → List Refusal → List EditError → Result ℕ (CallError NoSpace) → Answer
 ended x y (f ∷ fs) gs es w = unread f
 ended x y [] (g ∷ gs) es w = unread g
 ended x y [] [] (e ∷ es) w = refused (edit_number e) 0
 ended x y [] [] [] w = answer (with_file (done (x ∷ y ∷ [])) (written_reply w))
 
-pub cut_ended : (fs gs : List Refusal) (es : List EditError) (a b : EdgeID) (w : Written) → when_read (first fs) (cut_values (judged gs es Refused Not (Cut a b)) w) ≡ ended a.0 b.0 fs gs es w
+pub cut_ended : (fs gs : List Refusal) (es : List EditError) (a b : EdgeID) (w : Result ℕ (CallError NoSpace)) → when_read (first fs) (cut_values (answer_of gs es (a, b)) w) ≡ ended a.0 b.0 fs gs es w
 cut_ended (f ∷ fs) gs es a b w = refl
 cut_ended [] (g ∷ gs) es a b w = refl
 cut_ended [] [] (e ∷ es) a b w = refl
 cut_ended [] [] [] a b w = refl
 
-pub join_ended : (fs gs : List Refusal) (es : List EditError) (a : EdgeID) (w : Written) → when_read (first fs) (join_values (judged gs es Join-as-Refused Join-as-Not (Joined a)) w) ≡ ended a.0 0 fs gs es w
+pub join_ended : (fs gs : List Refusal) (es : List EditError) (a : EdgeID) (w : Result ℕ (CallError NoSpace)) → when_read (first fs) (join_values (answer_of gs es a) w) ≡ ended a.0 0 fs gs es w
 join_ended (f ∷ fs) gs es a w = refl
 join_ended [] (g ∷ gs) es a w = refl
 join_ended [] [] (e ∷ es) a w = refl
 join_ended [] [] [] a w = refl
 
-pub vertex_ended : (fs gs : List Refusal) (es : List EditError) (v : VertexID) (w : Written) → when_read (first fs) (vertex_values (judged gs es Vertex-as-Refused Vertex-as-Not (Added v)) w) ≡ ended v.0 0 fs gs es w
+pub vertex_ended : (fs gs : List Refusal) (es : List EditError) (v : VertexID) (w : Result ℕ (CallError NoSpace)) → when_read (first fs) (vertex_values (answer_of gs es v) w) ≡ ended v.0 0 fs gs es w
 vertex_ended (f ∷ fs) gs es v w = refl
 vertex_ended [] (g ∷ gs) es v w = refl
 vertex_ended [] [] (e ∷ es) v w = refl
 vertex_ended [] [] [] v w = refl
 
 -- done: nothing was wrong, the third value is the length of what was written, the others are the new numbers
-done_ended : (x y : ℕ) (fs gs : List Refusal) (es : List EditError) (w : Written) → (ended x y fs gs es w).outcome ≡ 0
-    → (fs ≡ []) × (es ≡ []) × (w ≡ Length (ended x y fs gs es w).third) × ((ended x y fs gs es w).first ≡ x) × ((ended x y fs gs es w).second ≡ y)
+done_ended : (x y : ℕ) (fs gs : List Refusal) (es : List EditError) (w : Result ℕ (CallError NoSpace)) → (ended x y fs gs es w).outcome ≡ 0
+    → (fs ≡ []) × (es ≡ []) × (w ≡ (Ok (ended x y fs gs es w).third)) × ((ended x y fs gs es w).first ≡ x) × ((ended x y fs gs es w).second ≡ y)
 done_ended x y (f ∷ fs) gs es w h = absurd (omega (arith, h))
 done_ended x y [] (g ∷ gs) es w h = absurd (omega (arith, h))
 done_ended x y [] [] (e ∷ es) w h = absurd (omega (arith, h))
-done_ended x y [] [] [] (Length n) h = (refl, refl, refl, refl, refl)
-done_ended x y [] [] [] (Written-as-Refused f) h = absurd (omega (arith, h))
-done_ended x y [] [] [] (NoSpace n) h = absurd (omega (arith, h))
+done_ended x y [] [] [] (Ok n) h = (refl, refl, refl, refl, refl)
+done_ended x y [] [] [] (Err (Unread f)) h = absurd (omega (arith, h))
+done_ended x y [] [] [] (Err (Refused e)) h = absurd (omega (arith, h))
 
-pub new_numbers : (a : Answer) (x y : ℕ) (fs gs : List Refusal) (es : List EditError) (w : Written) → a ≡ ended x y fs gs es w → a.outcome ≡ 0 → (a.first ≡ x) × (a.second ≡ y)
+pub new_numbers : (a : Answer) (x y : ℕ) (fs gs : List Refusal) (es : List EditError) (w : Result ℕ (CallError NoSpace)) → a ≡ ended x y fs gs es w → a.outcome ≡ 0 → (a.first ≡ x) × (a.second ≡ y)
 new_numbers a x y fs gs es w is h =
     let t = done_ended x y fs gs es w (ap (λ (b : Answer). b.outcome) (sym is) ∙ h) in
     (ap (λ (b : Answer). b.first) is ∙ t.3, ap (λ (b : Answer). b.second) is ∙ t.4)
@@ -238,31 +237,31 @@ number_low (SameVertex k) = omega arith
 number_low (Wire k e) = wire_low e
 
 -- 17: by the edit's own rule, or since there is no room for the file
-seventeen : (x y : ℕ) (fs gs : List Refusal) (es : List EditError) (w : Written) → (ended x y fs gs es w).number ≡ 17
-    → (fs ≡ []) × ((first_number es ≡ 17) ⊎ ((es ≡ []) × (w ≡ NoSpace (ended x y fs gs es w).first)))
+seventeen : (x y : ℕ) (fs gs : List Refusal) (es : List EditError) (w : Result ℕ (CallError NoSpace)) → (ended x y fs gs es w).number ≡ 17
+    → (fs ≡ []) × ((first_number es ≡ 17) ⊎ ((es ≡ []) × (w ≡ (Err (Refused (no_space (ended x y fs gs es w).first))))))
 seventeen x y (f ∷ fs) gs es w h = absurd (omega (arith, h, number_low f))
 seventeen x y [] (g ∷ gs) es w h = absurd (omega (arith, h, number_low g))
 seventeen x y [] [] (e ∷ es) w h = (refl, inl h)
-seventeen x y [] [] [] (Length n) h = absurd (omega (arith, h))
-seventeen x y [] [] [] (Written-as-Refused f) h = absurd (omega (arith, h, number_low f))
-seventeen x y [] [] [] (NoSpace n) h = (refl, inr (refl, refl))
+seventeen x y [] [] [] (Ok n) h = absurd (omega (arith, h))
+seventeen x y [] [] [] (Err (Unread f)) h = absurd (omega (arith, h, number_low f))
+seventeen x y [] [] [] (Err (Refused e)) h = (refl, inr (refl, refl))
 
-pub refused_ended : (x y : ℕ) (fs gs : List Refusal) (es : List EditError) (w : Written) (k : ℕ) → fs ≡ [] → gs ≡ [] → first_number es ≡ suc k → ended x y fs gs es w ≡ refused (suc k) 0
+pub refused_ended : (x y : ℕ) (fs gs : List Refusal) (es : List EditError) (w : Result ℕ (CallError NoSpace)) (k : ℕ) → fs ≡ [] → gs ≡ [] → first_number es ≡ suc k → ended x y fs gs es w ≡ refused (suc k) 0
 refused_ended x y fs gs [] w k e f h = absurd (omega (arith, h))
 refused_ended x y fs gs (z ∷ es) w k e f h = rw (e, f) (ap (λ (i : ℕ). refused i 0) h)
 
-short_ended : (x y : ℕ) (fs gs : List Refusal) (es : List EditError) (w : Written) (n : ℕ) → fs ≡ [] → gs ≡ [] → es ≡ [] → w ≡ NoSpace n → ended x y fs gs es w ≡ refused 17 n
+short_ended : (x y : ℕ) (fs gs : List Refusal) (es : List EditError) (w : Result ℕ (CallError NoSpace)) (n : ℕ) → fs ≡ [] → gs ≡ [] → es ≡ [] → w ≡ (Err (Refused (no_space n))) → ended x y fs gs es w ≡ refused 17 n
 short_ended x y fs gs es w n e f g h = rw (e, f, g, h)
 
 -- the answer of writing tells whether the file is longer than the slice
-short_of : (file out : List ℕ) (n : ℕ) → write_answer [] file out ≡ NoSpace n → length out < length file
+short_of : (file out : List ℕ) (n : ℕ) → write_answer [] file out ≡ (Err (Refused (no_space n))) → length out < length file
 short_of file out n h = go (leb (length file) (length out)) refl h
   where
-    go : (b : Bool) → leb (length file) (length out) ≡ b → pick b (Length (length file)) (NoSpace (length file)) ≡ NoSpace n → length out < length file
+    go : (b : Bool) → leb (length file) (length out) ≡ b → pick b (Ok (length file)) (Err (Refused (no_space (length file)))) ≡ (Err (Refused (no_space n))) → length out < length file
     go true e h = let y : true ≡ false = cc in absurd (true≢false y)
     go false e h = leb-false (length file) (length out) e
 
-of_short : (file out : List ℕ) → length out < length file → write_answer [] file out ≡ NoSpace (length file)
+of_short : (file out : List ℕ) → length out < length file → write_answer [] file out ≡ (Err (Refused (no_space (length file))))
 of_short file out h = rw (lt-leb (length file) (length out) h)
 
 -- ---- an edit of file s, with these refusals, that makes content `new`; what it answers, and the slice afterwards
@@ -288,7 +287,7 @@ module _ (s out : List ℕ) (es : List EditError) (new : Content) (answer : Answ
   abbrev p : Pattern
   p = pattern_of s
 
-  abbrev w : Written
+  abbrev w : Result ℕ (CallError NoSpace)
   w = written e.q out
 
   written_so : file_faults s ≡ [] → es ≡ [] → w ≡ write_answer [] (file_bytes new) out
@@ -299,7 +298,7 @@ module _ (s out : List ℕ) (es : List EditError) (new : Content) (answer : Answ
   edit_file done =
       let t = done_ended e.x e.y (file_faults s) (pattern_faults p) es w (ap (λ (a : Answer). a.outcome) (sym e.told) ∙ done) in
       let m = e.made t.0 t.1 in
-      let long : written (stored_in p new) out ≡ Length answer.third = ap (λ (r : Pattern). written r out) (sym m.stored_so) ∙ t.2 ∙ ap (λ (a : Answer). Length a.third) (sym e.told) in
+      let long : written (stored_in p new) out ≡ (Ok answer.third) = ap (λ (r : Pattern). written r out) (sym m.stored_so) ∙ t.2 ∙ ap (λ (a : Answer). (Ok a.third)) (sym e.told) in
       rw m.left (edited_file p (read_full s t.0) new m.fine m.fits out answer.third long)
 
   pub edit_accepted : answer.outcome ≡ 0 → (file_faults s ≡ []) × (es ≡ [])

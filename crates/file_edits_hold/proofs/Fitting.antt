@@ -1,4 +1,5 @@
 -- Every number of an edited content is one of its record's width: so the file of it is read back.
+use Rattle.std.specs.Prelude.{None, Option, Some}
 use Prim.Native.Nat.{◌+◌, ◌<◌, ◌≤◌, suc, zero, ℕ}
 use mathlib.Core.Bool.{Bool, false, true}
 use mathlib.Core.List.{List, [], ◌++◌, ◌∷◌}
@@ -10,7 +11,6 @@ use lib.Ieee.Bits.{of_bits-fits}
 use lib.Ieee.Fits.{add-fits}
 use lib.ListN.{get_or-map, drop, get_or, length, take}
 use Rattle.curve.specs.Curves.{back_half, cut_curve, front_half, parameter_of, refuses}
-use Rattle.curve.specs.declared.Halves.TheVariants.{Both, Refused}
 use Rattle.curve.specs.declared.Parameter.TheVariants.{At, Nowhere}
 use Rattle.edge.specs.Edges.{back_number, front_number}
 use Rattle.edge.specs.Uses.{edge_number, turned}
@@ -30,8 +30,6 @@ use Rattle.shell_edits.proofs.Joining.{all_swapped}
 use Rattle.shell_edits.specs.Edits.{cut_wire, cut_wires, each_wire, edge_of, edited, end_place, ending_wires, first_wire, halves_of, joined_edge, last_wire, remove_wires, swap_found, vertex_content, wires_in, wires_of}
 use Rattle.shell_edits.specs.NewEdges.{half_edges}
 use Rattle.wire.specs.Wires.{find_from}
-use Rattle.wire.specs.declared.Found.{Found}
-use Rattle.wire.specs.declared.Found.TheVariants.{At as Found-as-At, Nothing}
 use Rattle.wire_swaps.specs.Swaps.{swap_subwire}
 
 abbrev CurveFits : Curve → Type 0
@@ -113,9 +111,9 @@ module _ (a : ℕ) (small : a + 1 < 32768) where
   cut_low : (e : ℕ) (us : List ℕ) → All Low us → All Low (cut_wire e a us)
   cut_low e us h = go (find_from 0 e us)
     where
-      go : (f : Found) → All Low (swap_found a us f)
-      go Nothing = h
-      go (Found-as-At i) = all_append Low (take i us) (halves_of a (get_or us i 0) ++ drop (suc i) us) (all_take Low i us h) (all_append Low (halves_of a (get_or us i 0)) (drop (suc i) us) (halves_low (get_or us i 0)) (all_drop Low (suc i) us h))
+      go : (f : Option ℕ) → All Low (swap_found a us f)
+      go None = h
+      go (Some i) = all_append Low (take i us) (halves_of a (get_or us i 0) ++ drop (suc i) us) (all_take Low i us h) (all_append Low (halves_of a (get_or us i 0)) (drop (suc i) us) (halves_low (get_or us i 0)) (all_drop Low (suc i) us h))
 
 pub cut_wires_low : (c : Content) (n e : ℕ) → Fits c → length c.edges + 1 < 32768 → All Low (flat (cut_wires c n e))
 cut_wires_low c n e fit small =
@@ -127,7 +125,7 @@ module _ (d : Edge) (p bits : ℕ) (fit : CurveFits d.curve) where
   pub halves_fit : All (λ (e : Edge). CurveFits e.curve) (half_edges d p (cut_curve d.curve (parameter_of bits)))
   halves_fit = go (nan_bits binary64 bits)
     where
-      cut : (b : Bool) → All (λ (e : Edge). CurveFits e.curve) (half_edges d p (pick b Refused (Both (front_half d.curve (of_bits binary64 bits)) (back_half d.curve (of_bits binary64 bits)))))
+      cut : (b : Bool) → All (λ (e : Edge). CurveFits e.curve) (half_edges d p (pick b None (Some (front_half d.curve (of_bits binary64 bits), back_half d.curve (of_bits binary64 bits)))))
       cut true = tt
       cut false = ((fit.0, of_bits-fits binary64 bits), ((of_bits-fits binary64 bits, fit.1), tt))
 

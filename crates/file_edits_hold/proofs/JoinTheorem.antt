@@ -1,4 +1,6 @@
 -- The removal of a point and the joining of two uses on a file: the file written is accepted, and holds the edited content; the point removed again is answered 23; when they are answered 17.
+use Rattle.errors.specs.declared.CallError.TheVariants.{Refused, Unread}
+use Rattle.std.specs.Prelude.{Err, Ok}
 use Prim.Native.Nat.{◌<◌, ℕ}
 use mathlib.Core.Bool.{Bool, ◌&&◌, ◌||◌, false, not, true}
 use mathlib.Core.List.{List, [], ◌++◌, ◌∷◌, map, map-append}
@@ -10,10 +12,9 @@ use lib.ListN.{length, length-append, take}
 use Rattle.answers.specs.Read.{after_read}
 use Rattle.answers.specs.Values.{refused}
 use Rattle.answers.specs.declared.Answer.{Answer}
-use Rattle.edit_answers.specs.Answers.{judged}
+use Rattle.edit_answers.specs.Answers.{answer_of, judged}
 use Rattle.edit_answers.specs.declared.EditError.{EditError}
 use Rattle.edit_answers.specs.declared.EditError.TheVariants.{NotOneOrTwoWires, SharedFace, Unmatched, Unnamed}
-use Rattle.edit_answers.specs.declared.JoinAnswer.TheVariants.{Joined, Not, Refused}
 use Rattle.errors.proofs.Laws.{none_left, none_right, unless_passes}
 use Rattle.errors.specs.Faults.{first}
 use Rattle.errors.specs.declared.Refusal.{Refusal}
@@ -142,7 +143,7 @@ module _ (s : List ℕ) (bytes : Bytes s) (out : List ℕ) where
           (joined_fits c u w fit, tt) (remove_wires_low c n v fit few_edges)
 
       after_is : after ≡ written_bytes (stored_in p new) out
-      after_is = λ i. after_read (first (ok i)) out (join_bytes (judged (file_passes s ok i) (removes i) Refused Not (Joined (next_edge p 0))) (stored_new i) out)
+      after_is = λ i. after_read (first (ok i)) out (join_bytes (answer_of (file_passes s ok i) (removes i) (next_edge p 0)) (stored_new i) out)
 
     abbrev faults : List EditError
     faults = remove_faults (file_content s) n v
@@ -223,7 +224,7 @@ module _ (s : List ℕ) (bytes : Bytes s) (out : List ℕ) where
           (joined_fits c u v fit, tt) (all_each (λ (x : ℕ). x < 65536) 0 c.uses fit.uses)
 
       slice_is : slice ≡ written_bytes (stored_in p joined) out
-      slice_is = λ i. after_read (first (ok i)) out (join_bytes (judged (file_passes s ok i) (joins i) Refused Not (Joined (next_edge p 0))) (stored_joined i) out)
+      slice_is = λ i. after_read (first (ok i)) out (join_bytes (answer_of (file_passes s ok i) (joins i) (next_edge p 0)) (stored_joined i) out)
 
     abbrev refusals : List EditError
     refusals = concat_faults (file_content s) u v

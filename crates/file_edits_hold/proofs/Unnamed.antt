@@ -1,4 +1,9 @@
 -- A number above 65,534 names nothing: on an accepted file each edit answers 3, whatever else it is given.
+use Rattle.edge.specs.declared.EdgeID.{EdgeID}
+use Rattle.errors.specs.declared.CallError.{CallError}
+use Rattle.errors.specs.declared.CallError.TheVariants.{Refused, Unread}
+use Rattle.std.specs.Prelude.{Err, Result}
+use Rattle.store_write.specs.declared.NoSpace.{NoSpace}
 use Prim.Native.Nat.{ℕ, ◌<◌, ◌≤◌}
 use mathlib.Core.Bool.{◌&&◌, and-false, false}
 use mathlib.Core.List.{List, [], ◌∷◌}
@@ -15,14 +20,8 @@ use Rattle.curve.specs.Curves.{parameter_of}
 use Rattle.curve.specs.declared.Parameter.{Parameter}
 use Rattle.edge.specs.Uses.{edge_number}
 use Rattle.edit_answers.specs.Answers.{face_edit_number, judged}
-use Rattle.edit_answers.specs.declared.CutAnswer.TheVariants.{Not, Refused}
-use Rattle.edit_answers.specs.declared.CutAnswer.{CutAnswer}
 use Rattle.edit_answers.specs.declared.EditError.{EditError}
-use Rattle.edit_answers.specs.declared.FaceAnswer.TheVariants.{Not as Face-as-Not, Refused as Face-as-Refused}
-use Rattle.edit_answers.specs.declared.FaceAnswer.{FaceAnswer}
 use Rattle.edit_answers.specs.declared.FaceEditError.{FaceEditError}
-use Rattle.edit_answers.specs.declared.JoinAnswer.TheVariants.{Not as Join-as-Not, Refused as Join-as-Refused}
-use Rattle.edit_answers.specs.declared.JoinAnswer.{JoinAnswer}
 use Rattle.errors.proofs.Laws.{none_left}
 use Rattle.errors.specs.Faults.{first}
 use Rattle.errors.specs.declared.Refusal.{Refusal}
@@ -45,16 +44,15 @@ use Rattle.shell_edits.specs.Theorems.{first_number}
 use Rattle.store_read.proofs.Fresh.{blank, fresh_faults}
 use Rattle.store_read.specs.Loading.{loaded, pattern_of}
 use Rattle.store_write.specs.Writing.{written}
-use Rattle.store_write.specs.declared.Written.{Written}
 use Rattle.words.specs.Words.{short}
 
 -- ---- an answer whose first refusal is 3
 
-cut_3 : (fs : List Refusal) (es : List EditError) (a : CutAnswer) (w : Written) → fs ≡ [] → first_number es ≡ 3 → cut_values (judged fs es Refused Not a) w ≡ refused 3 0
+cut_3 : (fs : List Refusal) (es : List EditError) (a : Result (EdgeID × EdgeID) (CallError EditError)) (w : Result ℕ (CallError NoSpace)) → fs ≡ [] → first_number es ≡ 3 → cut_values (judged fs es (λ x. Err (Unread x)) (λ x. Err (Refused x)) a) w ≡ refused 3 0
 cut_3 fs [] a w ok h = cc
 cut_3 fs (e ∷ es) a w ok h = rw (ok, h)
 
-join_3 : (fs : List Refusal) (es : List EditError) (a : JoinAnswer) (w : Written) → fs ≡ [] → first_number es ≡ 3 → join_values (judged fs es Join-as-Refused Join-as-Not a) w ≡ refused 3 0
+join_3 : (fs : List Refusal) (es : List EditError) (a : Result EdgeID (CallError EditError)) (w : Result ℕ (CallError NoSpace)) → fs ≡ [] → first_number es ≡ 3 → join_values (judged fs es (λ x. Err (Unread x)) (λ x. Err (Refused x)) a) w ≡ refused 3 0
 join_3 fs [] a w ok h = cc
 join_3 fs (e ∷ es) a w ok h = rw (ok, h)
 
@@ -62,7 +60,7 @@ abbrev first_face : List FaceEditError → ℕ
 first_face [] = 0
 first_face (e ∷ es) = face_edit_number e
 
-face_3 : (fs : List Refusal) (es : List FaceEditError) (a : FaceAnswer) → fs ≡ [] → first_face es ≡ 3 → face_values (judged fs es Face-as-Refused Face-as-Not a) ≡ refused 3 0
+face_3 : (fs : List Refusal) (es : List FaceEditError) (a : Result (ℕ × ℕ) (CallError FaceEditError)) → fs ≡ [] → first_face es ≡ 3 → face_values (judged fs es (λ x. Err (Unread x)) (λ x. Err (Refused x)) a) ≡ refused 3 0
 face_3 fs [] a ok h = cc
 face_3 fs (e ∷ es) a ok h = rw (ok, h)
 

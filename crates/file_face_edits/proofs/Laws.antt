@@ -8,15 +8,15 @@ use Rattle.answers.proofs.Read.{if_loaded, if_refused, when_loaded, when_refused
 use Rattle.answers.specs.Read.{if_read, when_read}
 use Rattle.answers.specs.Values.{face_values, unread}
 use Rattle.answers.specs.declared.Answer.{Answer}
-use Rattle.edit_answers.specs.declared.FaceAnswer.{FaceAnswer}
 use Rattle.edit_answers.specs.declared.FaceEditError.{FaceEditError}
 use Rattle.errors.specs.Faults.{first}
-use Rattle.errors.specs.declared.Check.TheVariants.{Accepted, Refused}
+use Rattle.errors.specs.declared.CallError.{CallError}
 use Rattle.errors.specs.declared.Refusal.{Refusal}
 use Rattle.face_edits.specs.FaceAnswers.{face_answer, face_out}
 use Rattle.face_parts.proofs.Owed.{Owed}
 use Rattle.lists.specs.Lists.{flat}
 use Rattle.pattern_file.specs.File.{table_faults}
+use Rattle.std.specs.Prelude.{Err, Ok, Result}
 use Rattle.store_read.proofs.Fresh.{blank}
 use Rattle.store_read.specs.Loading.{check_of, loaded, pattern_of}
 use Rattle.pattern.specs.Contents.{Pattern}
@@ -34,13 +34,13 @@ module _ (s uses lens : List ℕ) (es : Pattern → List FaceEditError) (ws : Pa
   FileOwed a uses' lens' = (a ≡ when_read (check_of s) (answer (pattern_of s)))
       × ((uses' ≡ sets uses 0 (flat (if_read (check_of s) (out (pattern_of s))))) × (lens' ≡ sets lens 0 (map length (if_read (check_of s) (out (pattern_of s))))))
 
-  pub refused_owed : (f : Refusal) → first (table_faults s) ≡ Refused f → (a : Answer) → a ≡ unread f → FileOwed a uses lens
+  pub refused_owed : (f : Refusal) → first (table_faults s) ≡ Err f → (a : Answer) → a ≡ unread f → FileOwed a uses lens
   unfolding flat
   refused_owed f h a is =
       let none = if_refused s f h (out (pattern_of s)) in
       (when_refused s f h (answer (pattern_of s)) is, (ap (λ (w : List (List ℕ)). sets uses 0 (flat w)) none, ap (λ (w : List (List ℕ)). sets lens 0 (map length w)) none))
 
-  pub loaded_owed : (q : Pattern) → q ≡ loaded blank s → first (table_faults s) ≡ Accepted → (r : FaceAnswer) (uses' lens' : List ℕ) → Owed q (es q) (ws q) uses lens r uses' lens'
+  pub loaded_owed : (q : Pattern) → q ≡ loaded blank s → first (table_faults s) ≡ Ok tt → (r : Result (ℕ × ℕ) (CallError FaceEditError)) (uses' lens' : List ℕ) → Owed q (es q) (ws q) uses lens r uses' lens'
       → (a : Answer) → a ≡ face_values r → FileOwed a uses' lens'
   loaded_owed q done right r uses' lens' o a is =
       let written = if_loaded s q done right out (λ p f fs h. rw h) refl in (

@@ -7,9 +7,8 @@ ghost use Rattle.lists.specs.Lists.{flat};
 ghost use Rattle.file_face_edits.specs.FileFaceEdits.{file_add, file_add_out, file_cut_face, file_cut_face_out, file_glue, file_glue_out};
 
 use add_boundary::try_add_boundary;
-use answers::{Answer, face_values, unread};
+use answers::{Answer, call_values, unread};
 use cut_face::{cut_by_edge, cut_by_wire};
-use errors::Check;
 use glue::glue_at_boundaries;
 use store::{SPANS, TABLES};
 use store_read::load;
@@ -22,10 +21,9 @@ pub fn file_add(file: &[u8], f: u16, wire: &[u16], uses: &mut [u16], lens: &mut 
 {
     let mut t = [0u16; TABLES];
     let mut spans = [0.0; SPANS];
-    let table = load(file, &mut t, &mut spans);
-    match table {
-        Check::Refused(r) => unread(r),
-        Check::Accepted => face_values(try_add_boundary(&t, &spans, f, wire, uses, lens)),
+    match load(file, &mut t, &mut spans) {
+        Err(r) => unread(r),
+        Ok(()) => call_values(try_add_boundary(&t, &spans, f, wire, uses, lens)),
     }
 }
 
@@ -43,10 +41,9 @@ pub fn file_cut_by_wire(
 {
     let mut t = [0u16; TABLES];
     let mut spans = [0.0; SPANS];
-    let table = load(file, &mut t, &mut spans);
-    match table {
-        Check::Refused(r) => unread(r),
-        Check::Accepted => face_values(cut_by_wire(&t, &spans, f, wire, uses, lens)),
+    match load(file, &mut t, &mut spans) {
+        Err(r) => unread(r),
+        Ok(()) => call_values(cut_by_wire(&t, &spans, f, wire, uses, lens)),
     }
 }
 
@@ -58,10 +55,9 @@ pub fn file_cut_by_edge(file: &[u8], f: u16, u: u16, uses: &mut [u16], lens: &mu
 {
     let mut t = [0u16; TABLES];
     let mut spans = [0.0; SPANS];
-    let table = load(file, &mut t, &mut spans);
-    match table {
-        Check::Refused(r) => unread(r),
-        Check::Accepted => face_values(cut_by_edge(&t, &spans, f, u, uses, lens)),
+    match load(file, &mut t, &mut spans) {
+        Err(r) => unread(r),
+        Ok(()) => call_values(cut_by_edge(&t, &spans, f, u, uses, lens)),
     }
 }
 
@@ -73,9 +69,8 @@ pub fn file_glue(file: &[u8], f: u16, g: u16, uses: &mut [u16], lens: &mut [u16]
 {
     let mut t = [0u16; TABLES];
     let mut spans = [0.0; SPANS];
-    let table = load(file, &mut t, &mut spans);
-    match table {
-        Check::Refused(r) => unread(r),
-        Check::Accepted => face_values(glue_at_boundaries(&t, &spans, f, g, uses, lens)),
+    match load(file, &mut t, &mut spans) {
+        Err(r) => unread(r),
+        Ok(()) => call_values(glue_at_boundaries(&t, &spans, f, g, uses, lens)),
     }
 }

@@ -6,7 +6,6 @@ ghost use Rattle.std.specs.Prelude.{◌≡◌};
 ghost use Rattle.file_remove.specs.FileRemove.{file_remove, file_remove_bytes};
 
 use answers::{Answer, unread};
-use errors::Check;
 use file_concat::put_joined_file;
 use remove_vertex::remove_vertex_by_concat_edges;
 use store::{SPANS, TABLES};
@@ -20,10 +19,9 @@ pub fn file_remove(file: &[u8], n: usize, v: u16, out: &mut [u8]) -> Answer
 {
     let mut t = [0u16; TABLES];
     let mut spans = [0.0; SPANS];
-    let table = load(file, &mut t, &mut spans);
-    match table {
-        Check::Refused(f) => unread(f),
-        Check::Accepted => {
+    match load(file, &mut t, &mut spans) {
+        Err(f) => unread(f),
+        Ok(()) => {
             let joined = remove_vertex_by_concat_edges(&mut t, &mut spans, n, VertexID(v));
             put_joined_file(joined, &t, &spans, out)
         }

@@ -1,4 +1,5 @@
 -- What a lent list holds after a report on a file: what the call on the store wrote, if the file was read.
+use Rattle.std.specs.Prelude.{Err, Ok, Result}
 use Prim.Native.Nat.{◌<◌, ℕ}
 use mathlib.Core.Bool.{false, true, true≢false}
 use mathlib.Core.List.{List, [], ◌∷◌}
@@ -10,8 +11,6 @@ use Rattle.answers.specs.Read.{if_read}
 use Rattle.calls.proofs.Answers.{presence_there}
 use Rattle.errors.proofs.Laws.{accepted_none, none_left}
 use Rattle.errors.specs.Faults.{first}
-use Rattle.errors.specs.declared.Check.TheVariants.{Accepted, Refused}
-use Rattle.errors.specs.declared.Check.{Check}
 use Rattle.errors.specs.declared.Refusal.{Refusal}
 use Rattle.file_reports.specs.FileReports.{FilePromised, file_counts_out}
 use Rattle.lists.specs.Lists.{flat}
@@ -30,33 +29,33 @@ flat_none = refl
 
 -- g makes the numbers of a list of what is reported
 module _ {ℓ} {A : Type ℓ} (g : List A → List ℕ) (s l : List ℕ) where
-  pub list_refused : g [] ≡ [] → (f : Refusal) → first (table_faults s) ≡ Refused f → (xs : List A) → l ≡ sets l 0 (g (if_read (check_of s) xs))
+  pub list_refused : g [] ≡ [] → (f : Refusal) → first (table_faults s) ≡ Err f → (xs : List A) → l ≡ sets l 0 (g (if_read (check_of s) xs))
   list_refused none f h xs = ap (sets l 0) (sym none ∙ ap g (if_refused s f h xs))
 
-  pub list_loaded : (q : Pattern) → q ≡ loaded blank s → first (table_faults s) ≡ Accepted → (call : Pattern → List A)
+  pub list_loaded : (q : Pattern) → q ≡ loaded blank s → first (table_faults s) ≡ Ok tt → (call : Pattern → List A)
       → ((p : Pattern) (f : Refusal) (fs : List Refusal) → pattern_faults p ≡ f ∷ fs → call p ≡ []) → (out : List ℕ) → out ≡ sets l 0 (g (call q))
       → out ≡ sets l 0 (g (if_read (check_of s) (call (pattern_of s))))
   list_loaded q done right call refuses out is = is ∙ ap (λ (xs : List A). sets l 0 (g xs)) (if_loaded s q done right call refuses refl)
 
 -- ---- the counts of a file
 module _ (s l : List ℕ) where
-  pub counts_refused : (f : Refusal) → check_of s ≡ Refused f → l ≡ sets l 0 (file_counts_out s)
-  counts_refused f h = ap (λ (k : Check). sets l 0 (if_read k (counts_of (file_content s)))) (sym h)
+  pub counts_refused : (f : Refusal) → check_of s ≡ Err f → l ≡ sets l 0 (file_counts_out s)
+  counts_refused f h = ap (λ (k : Result Unit Refusal). sets l 0 (if_read k (counts_of (file_content s)))) (sym h)
 
-  pub counts_loaded : (q : Pattern) → q ≡ loaded blank s → check_of s ≡ Accepted → (out : List ℕ) → out ≡ sets l 0 q.counts → out ≡ sets l 0 (file_counts_out s)
+  pub counts_loaded : (q : Pattern) → q ≡ loaded blank s → check_of s ≡ Ok tt → (out : List ℕ) → out ≡ sets l 0 q.counts → out ≡ sets l 0 (file_counts_out s)
   counts_loaded q done ok out is =
       let right : table_faults s ≡ [] = none_left (table_faults s) (content_faults (file_content s)) (accepted_none (file_faults s) ok) in
-      is ∙ ap (λ (p : Pattern). sets l 0 p.counts) (fresh_pattern s q done (ap first right)) ∙ ap (λ (k : Check). sets l 0 (if_read k (counts_of (file_content s)))) (sym ok)
+      is ∙ ap (λ (p : Pattern). sets l 0 p.counts) (fresh_pattern s q done (ap first right)) ∙ ap (λ (k : Result Unit Refusal). sets l 0 (if_read k (counts_of (file_content s)))) (sym ok)
 
 -- ---- what is promised of the openings
-table_apart : (s : List ℕ) (f : Refusal) → first (table_faults s) ≡ Refused f → file_faults s ≡ [] → true ≡ false
-table_apart s f h ok = let e : table_faults s ≡ [] = none_left (table_faults s) (content_faults (file_content s)) ok in let k : Refused f ≡ Accepted = sym h ∙ ap first e in cc
+table_apart : (s : List ℕ) (f : Refusal) → first (table_faults s) ≡ Err f → file_faults s ≡ [] → true ≡ false
+table_apart s f h ok = let e : table_faults s ≡ [] = none_left (table_faults s) (content_faults (file_content s)) ok in let k : Err f ≡ (Ok tt) = sym h ∙ ap first e in cc
 
 module _ (s : List ℕ) (n : ℕ) where
-  pub kept_refused : (f : Refusal) → first (table_faults s) ≡ Refused f → FilePromised s n
+  pub kept_refused : (f : Refusal) → first (table_faults s) ≡ Err f → FilePromised s n
   kept_refused f h ok here = absurd (true≢false (table_apart s f h ok))
 
-  pub kept_loaded : (q : Pattern) → q ≡ loaded blank s → first (table_faults s) ≡ Accepted → ShellPromised q n → FilePromised s n
+  pub kept_loaded : (q : Pattern) → q ≡ loaded blank s → first (table_faults s) ≡ Ok tt → ShellPromised q n → FilePromised s n
   kept_loaded q done right kept ok here =
       let e : content q ≡ file_content s = ap content (fresh_pattern s q done right) ∙ content_of_stored (file_content s) in
       let fine : pattern_faults q ≡ [] = ap pattern_faults (fresh_pattern s q done right) ∙ fresh_faults s q done right ∙ ok in

@@ -6,11 +6,7 @@ ghost use Rattle.std.proofs.lemmas.List.Edits.{sets};
 ghost use Rattle.lists.specs.Lists.{flat};
 ghost use Rattle.file_reports.specs.FileReports.{file_check, file_components, file_components_out, file_condition, file_connected, file_counts_out, file_openings, file_openings_out, file_outline, FilePromised, file_singular, file_singular_out, file_solid, file_written, file_written_bytes};
 
-use answers::{
-    Answer, check_values, done_with, figure_values, place_values, solid_values, unread,
-    written_values,
-};
-use errors::Check;
+use answers::{Answer, call_values, check_values, done_with, unread};
 use group_calls::{connected_components, is_connected, singular_vertices};
 use pattern::BODIES;
 use shell_calls::{extract_boundaries, shell_condition};
@@ -37,10 +33,9 @@ pub fn file_counts(file: &[u8], counts: &mut [u16; BODIES]) -> Answer
 {
     let mut t = [0u16; TABLES];
     let mut spans = [0.0; SPANS];
-    let checked = read(file, &mut t, &mut spans);
-    match checked {
-        Check::Refused(f) => unread(f),
-        Check::Accepted => {
+    match read(file, &mut t, &mut spans) {
+        Err(f) => unread(f),
+        Ok(()) => {
             tables_known(&t);
             copy_u16s(&t[0..BODIES], counts, 0);
             done_with(0, 0, 0)
@@ -54,10 +49,9 @@ pub fn file_outline(file: &[u8], w: usize) -> Answer
 {
     let mut t = [0u16; TABLES];
     let mut spans = [0.0; SPANS];
-    let table = load(file, &mut t, &mut spans);
-    match table {
-        Check::Refused(f) => unread(f),
-        Check::Accepted => place_values(wire_place(&t, &spans, w)),
+    match load(file, &mut t, &mut spans) {
+        Err(f) => unread(f),
+        Ok(()) => call_values(wire_place(&t, &spans, w)),
     }
 }
 
@@ -68,10 +62,9 @@ pub fn rewrite_file(file: &[u8], out: &mut [u8]) -> Answer
 {
     let mut t = [0u16; TABLES];
     let mut spans = [0.0; SPANS];
-    let table = load(file, &mut t, &mut spans);
-    match table {
-        Check::Refused(f) => unread(f),
-        Check::Accepted => written_values(write(&t, &spans, out)),
+    match load(file, &mut t, &mut spans) {
+        Err(f) => unread(f),
+        Ok(()) => call_values(write(&t, &spans, out)),
     }
 }
 
@@ -81,10 +74,9 @@ pub fn file_condition(file: &[u8], n: usize) -> Answer
 {
     let mut t = [0u16; TABLES];
     let mut spans = [0.0; SPANS];
-    let table = load(file, &mut t, &mut spans);
-    match table {
-        Check::Refused(f) => unread(f),
-        Check::Accepted => figure_values(shell_condition(&t, &spans, n)),
+    match load(file, &mut t, &mut spans) {
+        Err(f) => unread(f),
+        Ok(()) => call_values(shell_condition(&t, &spans, n)),
     }
 }
 
@@ -97,10 +89,9 @@ pub fn file_openings(file: &[u8], n: usize, out: &mut [u16; 2048], lens: &mut [u
 {
     let mut t = [0u16; TABLES];
     let mut spans = [0.0; SPANS];
-    let table = load(file, &mut t, &mut spans);
-    match table {
-        Check::Refused(f) => unread(f),
-        Check::Accepted => figure_values(extract_boundaries(&t, &spans, n, out, lens)),
+    match load(file, &mut t, &mut spans) {
+        Err(f) => unread(f),
+        Ok(()) => call_values(extract_boundaries(&t, &spans, n, out, lens)),
     }
 }
 
@@ -110,10 +101,9 @@ pub fn file_connected(file: &[u8], n: usize) -> Answer
 {
     let mut t = [0u16; TABLES];
     let mut spans = [0.0; SPANS];
-    let table = load(file, &mut t, &mut spans);
-    match table {
-        Check::Refused(f) => unread(f),
-        Check::Accepted => figure_values(is_connected(&t, &spans, n)),
+    match load(file, &mut t, &mut spans) {
+        Err(f) => unread(f),
+        Ok(()) => call_values(is_connected(&t, &spans, n)),
     }
 }
 
@@ -125,10 +115,9 @@ pub fn file_components(file: &[u8], n: usize, out: &mut [u16; 512], lens: &mut [
 {
     let mut t = [0u16; TABLES];
     let mut spans = [0.0; SPANS];
-    let table = load(file, &mut t, &mut spans);
-    match table {
-        Check::Refused(f) => unread(f),
-        Check::Accepted => figure_values(connected_components(&t, &spans, n, out, lens)),
+    match load(file, &mut t, &mut spans) {
+        Err(f) => unread(f),
+        Ok(()) => call_values(connected_components(&t, &spans, n, out, lens)),
     }
 }
 
@@ -139,10 +128,9 @@ pub fn file_singular(file: &[u8], n: usize, out: &mut [u16; 2048]) -> Answer
 {
     let mut t = [0u16; TABLES];
     let mut spans = [0.0; SPANS];
-    let table = load(file, &mut t, &mut spans);
-    match table {
-        Check::Refused(f) => unread(f),
-        Check::Accepted => figure_values(singular_vertices(&t, &spans, n, out)),
+    match load(file, &mut t, &mut spans) {
+        Err(f) => unread(f),
+        Ok(()) => call_values(singular_vertices(&t, &spans, n, out)),
     }
 }
 
@@ -152,9 +140,8 @@ pub fn file_solid(file: &[u8]) -> Answer
 {
     let mut t = [0u16; TABLES];
     let mut spans = [0.0; SPANS];
-    let table = load(file, &mut t, &mut spans);
-    match table {
-        Check::Refused(f) => unread(f),
-        Check::Accepted => solid_values(try_new(&t, &spans)),
+    match load(file, &mut t, &mut spans) {
+        Err(f) => unread(f),
+        Ok(()) => call_values(try_new(&t, &spans)),
     }
 }

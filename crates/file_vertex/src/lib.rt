@@ -7,9 +7,7 @@ ghost use Rattle.store.specs.Store.{held};
 ghost use Rattle.file_vertex.specs.FileVertex.{file_vertex, file_vertex_bytes, vertex_file, vertex_file_bytes};
 
 use add_vertex::add_vertex;
-use answers::{Answer, refused, unread, vertex_values};
-use edit_answers::{VertexAnswer, edit_number};
-use errors::Check;
+use answers::{Answer, call_values, edit_values, unread};
 use store::{SPANS, Spans, TABLES, Tables};
 use store_read::load;
 use store_write::put_file;
@@ -21,9 +19,8 @@ fn add_stored(t: &mut Tables, spans: &Spans, label: usize, out: &mut [u8]) -> An
 {
     let added = add_vertex(t, spans, label);
     match added {
-        VertexAnswer::Refused(f) => unread(f),
-        VertexAnswer::Not(x) => refused(edit_number(x), 0),
-        VertexAnswer::Added(v) => vertex_values(VertexAnswer::Added(v), put_file(t, spans, out)),
+        Err(_) => call_values(added),
+        Ok(_) => edit_values(added, put_file(t, spans, out)),
     }
 }
 
@@ -34,9 +31,8 @@ pub fn file_add_vertex(file: &[u8], label: usize, out: &mut [u8]) -> Answer
 {
     let mut t: Tables = [0u16; TABLES];
     let mut spans: Spans = [0.0; SPANS];
-    let table = load(file, &mut t, &mut spans);
-    match table {
-        Check::Refused(f) => unread(f),
-        Check::Accepted => add_stored(&mut t, &spans, label, out),
+    match load(file, &mut t, &mut spans) {
+        Err(f) => unread(f),
+        Ok(()) => add_stored(&mut t, &spans, label, out),
     }
 }

@@ -1,7 +1,8 @@
 -- The values of the words of a line, read one after the other.
+use Rattle.std.specs.Prelude.{None, Option, Some}
 use Prim.Native.Nat.{◌*◌, ◌+◌, ◌<◌, ◌≤◌, suc, ℕ}
 use mathlib.Core.Bool.{Bool, false, true}
-use mathlib.Core.List.{List, [], ◌∷◌}
+use mathlib.Core.List.{List, [], ◌∷◌, map}
 use mathlib.Core.Path.{◌∙◌, ◌≡◌, ap, refl, sym}
 use native.Mathlib.Nat.{add-zero, zero-add}
 use native.Mathlib.Numerals.{add-one}
@@ -10,42 +11,41 @@ use lib.Dec.{eqb}
 use lib.ListN.{drop, get_or, length, length-drop, set, take}
 use lib.Seq.{drop-drop, get_or-drop, length-sets, sets, take_all}
 use borrow.Author.Tests.{eq-eqb, ne_eqb}
-use Rattle.forms.specs.Forms.{token, values}
+use Rattle.forms.specs.Forms.{said, values}
+use Rattle.forms.specs.declared.WordKind.{WordKind}
 use Rattle.lists.proofs.Sets.{sets_next}
-use Rattle.text.specs.declared.Token.{Token}
-use Rattle.text.specs.declared.Token.TheVariants.{Not, Value}
 
-module _ (kinds : List ℕ) (rest : ℕ) where
+module _ (kinds : List WordKind) (rest : Option WordKind) where
   values_nil : (i : ℕ) → values kinds rest i [] ≡ []
   unfolding values
   values_nil i = refl
 
-  values_not : (i : ℕ) (w : List ℕ) (ws : List (List ℕ)) → token (get_or kinds i rest) w ≡ Not → values kinds rest i (w ∷ ws) ≡ []
+  values_not : (i : ℕ) (w : List ℕ) (ws : List (List ℕ)) → said (get_or (map Some kinds) i rest) w ≡ None → values kinds rest i (w ∷ ws) ≡ []
   unfolding values
   values_not i w ws h = rw h
 
-  values_next : (i : ℕ) (w : List ℕ) (ws : List (List ℕ)) (v : ℕ) → token (get_or kinds i rest) w ≡ Value v
+  values_next : (i : ℕ) (w : List ℕ) (ws : List (List ℕ)) (v : ℕ) → said (get_or (map Some kinds) i rest) w ≡ Some v
       → values kinds rest i (w ∷ ws) ≡ v ∷ values kinds rest (suc i) ws
   unfolding values
   values_next i w ws v h = rw h
 
 -- the loop after i words: their values are written, and the rest of the words is left
-pub record Reading (kinds : List ℕ) (rest : ℕ) (ws : List (List ℕ)) (l out : List ℕ) (i : ℕ) (left : List (List ℕ)) : Type 0 where
+pub record Reading (kinds : List WordKind) (rest : Option WordKind) (ws : List (List ℕ)) (l out : List ℕ) (i : ℕ) (left : List (List ℕ)) : Type 0 where
   pub low : i ≤ length (values kinds rest 0 ws)
   pub words : length ws ≡ i + length left
   pub to_come : drop i (values kinds rest 0 ws) ≡ values kinds rest i left
   pub so_far : out ≡ sets l 0 (take i (values kinds rest 0 ws))
 
-pub reading_start : (kinds : List ℕ) (rest : ℕ) (ws : List (List ℕ)) (l : List ℕ) → Reading kinds rest ws l l 0 ws
+pub reading_start : (kinds : List WordKind) (rest : Option WordKind) (ws : List (List ℕ)) (l : List ℕ) → Reading kinds rest ws l l 0 ws
 reading_start kinds rest ws l = record { low = omega arith; words = omega arith; to_come = refl; so_far = refl }
 
 -- what is owed at the end
-abbrev pub Read : List ℕ → ℕ → List (List ℕ) → List ℕ → List ℕ → ℕ → Bool → Type 0
+abbrev pub Read : List WordKind → Option WordKind → List (List ℕ) → List ℕ → List ℕ → ℕ → Bool → Type 0
 Read kinds rest ws l out i all =
     (out ≡ sets l 0 (values kinds rest 0 ws))
     × ((i ≡ length (values kinds rest 0 ws)) × (all ≡ eqb (length (values kinds rest 0 ws)) (length ws)))
 
-module _ {kinds : List ℕ} {rest : ℕ} {ws : List (List ℕ)} {l out : List ℕ} {i : ℕ} {left : List (List ℕ)} (r : Reading kinds rest ws l out i left) where
+module _ {kinds : List WordKind} {rest : Option WordKind} {ws : List (List ℕ)} {l out : List ℕ} {i : ℕ} {left : List (List ℕ)} (r : Reading kinds rest ws l out i left) where
   pub reading_long : length out ≡ length l
   reading_long = ap length r.so_far ∙ length-sets l 0 (take i (values kinds rest 0 ws))
 
@@ -67,16 +67,16 @@ module _ {kinds : List ℕ} {rest : ℕ} {ws : List (List ℕ)} {l out : List �
         let e : i < length l = omega (arith, r.words, ap length has) in
         (e, omega (arith, reading_long))
 
-    module _ {k : ℕ} {t : Token} (kind : k ≡ get_or kinds i rest) (is : t ≡ token k w) where
-      told : token (get_or kinds i rest) w ≡ t
+    module _ {k : Option WordKind} {t : Option ℕ} (kind : k ≡ get_or (map Some kinds) i rest) (is : t ≡ said k w) where
+      told : said (get_or (map Some kinds) i rest) w ≡ t
       told = rw (← kind) (sym is)
 
-      pub reading_not : t ≡ Not → Read kinds rest ws l out i false
+      pub reading_not : t ≡ None → Read kinds rest ws l out i false
       reading_not h =
           let e = ended (rw has (values_not kinds rest i w more (told ∙ h))) in
           (e.0, (e.1, sym (ne_eqb (length (values kinds rest 0 ws)) (length ws) (λ q. omega (arith, e.1, r.words, ap length has)))))
 
-      pub reading_next : {v : ℕ} → t ≡ Value v → Reading kinds rest ws l (set out i v) (i + 1) more
+      pub reading_next : {v : ℕ} → t ≡ Some v → Reading kinds rest ws l (set out i v) (i + 1) more
       reading_next {v} h =
           let all = values kinds rest 0 ws in
           let e : drop i all ≡ v ∷ values kinds rest (suc i) more = r.to_come ∙ rw has (values_next kinds rest i w more v (told ∙ h)) in

@@ -7,8 +7,8 @@ ghost use Rattle.lists.specs.Lists.{flat};
 ghost use Rattle.store.specs.Store.{held};
 ghost use Rattle.face_edits.specs.FaceAnswers.{glue_answer, glue_out};
 
-use edit_answers::{FaceAnswer, FaceEditError};
-use errors::Check;
+use edit_answers::FaceEditError;
+use errors::CallError;
 use face_parts::{face_part, first_backs, first_fronts, uses_of};
 use glue_wires::glue_parts;
 use store::{Spans, Tables, counts_in, face_in, tables_known};
@@ -24,35 +24,29 @@ pub fn glue_at_boundaries(
     g: u16,
     uses: &mut [u16],
     lens: &mut [u16],
-) -> FaceAnswer
+) -> Result<(usize, usize), CallError<FaceEditError>>
     ensures value { result ≡ glue_answer (held t.now spans.now) f g (length uses.old) (length lens.old) }
     ensures uses_after { uses.new ≡ sets uses.old 0 (flat (glue_out (held t.now spans.now) f g (length uses.old) (length lens.old))) }
     ensures lens_after { lens.new ≡ sets lens.old 0 (map length (glue_out (held t.now spans.now) f g (length uses.old) (length lens.old))) }
 {
     tables_known(t);
-    let answer = check(t, spans);
-    match answer {
-        Check::Refused(r) => {
-            return FaceAnswer::Refused(r);
-        }
-        Check::Accepted => {}
-    }
+    check(t, spans)?;
     let counts = counts_in(t);
     let i = index(f % 32768);
     let j = index(g % 32768);
     if i >= counts[4] {
-        return FaceAnswer::Not(FaceEditError::Unnamed);
+        return Err(CallError::Refused(FaceEditError::Unnamed));
     }
     if j >= counts[4] {
-        return FaceAnswer::Not(FaceEditError::Unnamed);
+        return Err(CallError::Refused(FaceEditError::Unnamed));
     }
     let a = face_in(t, i);
     let b = face_in(t, j);
     if a.surface != b.surface {
-        return FaceAnswer::Not(FaceEditError::FacesDiffer);
+        return Err(CallError::Refused(FaceEditError::FacesDiffer));
     }
     if f / 32768 != g / 32768 {
-        return FaceAnswer::Not(FaceEditError::FacesDiffer);
+        return Err(CallError::Refused(FaceEditError::FacesDiffer));
     }
     let first = face_part(t, i);
     let second = face_part(t, j);
@@ -66,4 +60,5 @@ pub fn glue_at_boundaries(
         uses,
         lens,
     )
+    .map_err(CallError::Refused)
 }

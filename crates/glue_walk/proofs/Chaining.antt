@@ -1,7 +1,7 @@
 -- The outlines, chained from the lowest point left: one pass over the points.
+use Rattle.std.specs.Prelude.{Option, None, Some}
 use Prim.Native.Nat.{◌+◌, ◌-◌, ◌<◌, ◌≤◌, suc, ℕ}
 use mathlib.Core.List.{List, [], ◌++◌, ◌∷◌, append_assoc, append-nil, map}
-use mathlib.Core.Option.{Option, none, some}
 use mathlib.Core.Path.{◌∙◌, ◌≡◌, ap, refl, sym}
 use native.Mathlib.Numerals.{add-one}
 use native.Mathlib.Omega.{arith}
@@ -40,7 +40,7 @@ laid_then ws vs out₀ lens₀ before out lens mid out' lens' after p q =
 -- one point
 module _ (fronts backs kept₀ out₀ lens₀ : List ℕ) (before : Chained) (r : Room fronts backs kept₀ out₀ lens₀ before) (q : ℕ) (l : q < length kept₀) where
   abbrev here : Outline
-  here = outline_at (front_of fronts backs) (back_of fronts backs) (get_or (slots kept₀) q none) q (slots kept₀)
+  here = outline_at (front_of fronts backs) (back_of fronts backs) (get_or (slots kept₀) q None) q (slots kept₀)
 
   here_bare : get_or kept₀ q 0 ≡ 65535 → here ≡ record { wires = []; kept = slots kept₀ }
   here_bare e = rw (slots_get kept₀ q l, slot_none (get_or kept₀ q 0) e)
@@ -99,13 +99,13 @@ module _ (fronts backs kept₀ out₀ lens₀ : List ℕ) (before : Chained) (r 
 
 -- one point of the definition
 chained_turn : (c : Content) (p : ℕ) (ps : List ℕ) (kept : Kept)
-    → chained c (p ∷ ps) kept ≡ (let o = outline_at (front_in c) (back_in c) (get_or kept p none) p kept in o.wires ++ chained c ps o.kept)
+    → chained c (p ∷ ps) kept ≡ (let o = outline_at (front_in c) (back_in c) (get_or kept p None) p kept in o.wires ++ chained c ps o.kept)
 unfolding chained
-chained_turn c p ps kept = go (get_or kept p none)
+chained_turn c p ps kept = go (get_or kept p None)
   where
     go : (o : Option ℕ) → chain_at c o p kept (chained c ps) ≡ (let t = outline_at (front_in c) (back_in c) o p kept in t.wires ++ chained c ps t.kept)
-    go none = refl
-    go (some u) = refl
+    go None = refl
+    go (Some u) = refl
 
 -- the points before q are passed
 pub record Chaining (fronts backs kept₀ out₀ lens₀ kept out lens : List ℕ) (w : Chained) (q : ℕ) : Type 0 where
@@ -152,7 +152,7 @@ module _ (fronts backs kept₀ out₀ lens₀ : List ℕ) where
 
     module _ (l : q < length kept) (kept' out' lens' : List ℕ) (w' : Chained) where
       abbrev turn : Outline
-      turn = outline_at (front_of fronts backs) (back_of fronts backs) (get_or (slots kept) q none) q (slots kept)
+      turn = outline_at (front_of fronts backs) (back_of fronts backs) (get_or (slots kept) q None) q (slots kept)
 
       -- the points from q on, and the outline there
       module _ (c : Content) (col : Columns c fronts backs) where
@@ -165,8 +165,8 @@ module _ (fronts backs kept₀ out₀ lens₀ : List ℕ) where
             let at : get_or ps q 0 ≡ q = get_d_tabulate (length kept₀) (λ (k : ℕ). k) q 0 (omega (arith, s.long)) in
             rw at at (drop-cons {A = ℕ} ps q 0 m)
 
-        outline_is : outline_at (front_in c) (back_in c) (get_or (slots kept) q none) q (slots kept) ≡ turn
-        outline_is = λ i. outline_at (front_of (col.begin i) (col.end i)) (front_of (col.end i) (col.begin i)) (get_or (slots kept) q none) q (slots kept)
+        outline_is : outline_at (front_in c) (back_in c) (get_or (slots kept) q None) q (slots kept) ≡ turn
+        outline_is = λ i. outline_at (front_of (col.begin i) (col.end i)) (front_of (col.end i) (col.begin i)) (get_or (slots kept) q None) q (slots kept)
 
         turn_is : slots kept' ≡ turn.kept → chained c (drop q ps) (slots kept) ≡ turn.wires ++ chained c (drop (suc q) ps) (slots kept')
         turn_is left =

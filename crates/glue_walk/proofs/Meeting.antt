@@ -1,9 +1,9 @@
 -- The uses of the second face, met one after the other.
+use Rattle.std.specs.Prelude.{None, Some}
 use Prim.Native.Nat.{◌%◌, ◌+◌, ◌<◌, ◌≤◌, ℕ}
 use mathlib.Core.Bool.{Bool, ◌&&◌, false, not, true}
 use mathlib.Core.List.{List}
 use mathlib.Core.Logic.{⊎_elim}
-use mathlib.Core.Option.{none, some}
 use mathlib.Core.Path.{◌∙◌, ◌≡◌, ap, refl, sym}
 use native.Mathlib.Numerals.{add-one}
 use native.Mathlib.Omega.{arith}
@@ -23,7 +23,7 @@ use Rattle.glue_walk.proofs.Keeping.{no_mark}
 
 -- u has been met, with this answer, and these are kept after it
 abbrev pub Met : List ℕ → List ℕ → ℕ → List ℕ → List ℕ → Bool → Type 0
-Met fronts backs u kept kept' r = (c : Content) → Columns c fronts backs → meet c u (get_or (slots kept) (back_in c u) none) (slots kept) ≡ met_as r (slots kept')
+Met fronts backs u kept kept' r = (c : Content) → Columns c fronts backs → meet c u (get_or (slots kept) (back_in c u) None) (slots kept) ≡ met_as r (slots kept')
 
 -- the ends of a use
 module _ (c : Content) (fronts backs : List ℕ) (col : Columns c fronts backs) (u : ℕ) where
@@ -48,19 +48,19 @@ module _ (fronts backs kept : List ℕ) (u : ℕ) (s : EndColumns fronts backs) 
   gone_holds = holding_out fronts backs kept b h
 
   module _ (c : Content) (col : Columns c fronts backs) where
-    found : get_or (slots kept) (back_in c u) none ≡ slot (get_or kept b 0)
+    found : get_or (slots kept) (back_in c u) None ≡ slot (get_or kept b 0)
     found = rw (back_is c fronts backs col u, ← eb) (slots_get kept b back_place)
 
-    now_kept : set (slots kept) (front_in c u) (some u) ≡ slots (set kept a u)
+    now_kept : set (slots kept) (front_in c u) (Some u) ≡ slots (set kept a u)
     now_kept = rw (front_is c fronts backs col u, ← ea, slots_set kept a u, slot_some u (no_mark fronts backs s (length kept) u f))
 
-    now_gone : set (slots kept) (back_in c u) none ≡ slots (set kept b 65535)
+    now_gone : set (slots kept) (back_in c u) None ≡ slots (set kept b 65535)
     now_gone = rw (back_is c fronts backs col u, ← eb, slots_set kept b 65535)
 
-    is_bare : get_or kept b 0 ≡ 65535 → get_or (slots kept) (back_in c u) none ≡ none
+    is_bare : get_or kept b 0 ≡ 65535 → get_or (slots kept) (back_in c u) None ≡ None
     is_bare z = found ∙ slot_none (get_or kept b 0) z
 
-    is_there_lem : (v : ℕ) → v ≡ get_or kept b 0 → (v ≡ 65535 → ⊥) → get_or (slots kept) (back_in c u) none ≡ some v
+    is_there_lem : (v : ℕ) → v ≡ get_or kept b 0 → (v ≡ 65535 → ⊥) → get_or (slots kept) (back_in c u) None ≡ Some v
     is_there_lem v is n = found ∙ rw (← is) (slot_some v n)
 
     ends_at_lem : (v : ℕ) (r : Bool) → eqb (back_of fronts backs v) a ≡ r → eqb (back_in c v) (front_in c u) ≡ r

@@ -1,6 +1,5 @@
 -- What the walk of a glue needs and leaves: the uses of the faces, the kept uses in an array, the chained outlines.
-use Rattle.std.specs.Prelude.{◌+◌, ◌<◌, ◌≤◌, suc, ℕ, Bool, false, true, List, [], ◌∷◌, map, ◌≡◌, get_or, length}
-use Rattle.std.proofs.Math.Option.{Option, none, some}
+use Rattle.std.specs.Prelude.{◌+◌, ◌<◌, ◌≤◌, suc, ℕ, Bool, false, true, List, [], ◌∷◌, map, ◌≡◌, get_or, length, Option, None, Some}
 use Rattle.std.proofs.lemmas.List.Edits.{sets}
 use Rattle.edge.specs.Uses.{back_of, edge_number, front_of}
 use Rattle.face_edits.specs.FaceEdits.{backs_in, fronts_in, meet}
@@ -37,17 +36,17 @@ pub record Columns (c : Content) (fronts backs : List ℕ) : Type 0 where
 
 -- what is kept after a use that could be met, or 21
 abbrev pub met_as : Bool → Kept → Option Kept
-met_as true kept = some kept
-met_as false kept = none
+met_as true kept = Some kept
+met_as false kept = None
 
 -- what is kept after the second face's uses, or up to the first of them that cannot be met
 abbrev pub kept_up_to : Option Kept → Kept → (Kept → Kept) → Kept
-kept_up_to none kept next = kept
-kept_up_to (some met) kept next = next met
+kept_up_to None kept next = kept
+kept_up_to (Some met) kept next = next met
 
 unfoldable pub kept_met : Content → List ℕ → Kept → Kept
 kept_met c [] kept = kept
-kept_met c (u ∷ us) kept = kept_up_to (meet c u (get_or kept (back_in c u) none) kept) kept (kept_met c us)
+kept_met c (u ∷ us) kept = kept_up_to (meet c u (get_or kept (back_in c u) None) kept) kept (kept_met c us)
 
 -- the outline from point p, if a use is kept there, and what is kept after it
 pub record Outline : Type 0 where
@@ -55,13 +54,13 @@ pub record Outline : Type 0 where
   pub kept : Kept
 
 abbrev pub outline_at : (ℕ → ℕ) → (ℕ → ℕ) → Option ℕ → ℕ → Kept → Outline
-outline_at front back none p kept = record { wires = []; kept = kept }
-outline_at front back (some u) p kept = let r = chain front back (suc (length kept)) p kept 0 in record { wires = r.opening ∷ []; kept = r.kept }
+outline_at front back None p kept = record { wires = []; kept = kept }
+outline_at front back (Some u) p kept = let r = chain front back (suc (length kept)) p kept 0 in record { wires = r.opening ∷ []; kept = r.kept }
 
 -- what is kept after the outlines from these points
 unfoldable pub kept_chained : Content → List ℕ → Kept → Kept
 kept_chained c [] kept = kept
-kept_chained c (p ∷ ps) kept = kept_chained c ps (outline_at (front_in c) (back_in c) (get_or kept p none) p kept).kept
+kept_chained c (p ∷ ps) kept = kept_chained c ps (outline_at (front_in c) (back_in c) (get_or kept p None) p kept).kept
 
 abbrev pub nothing : Chained
 nothing = record { uses = 0; wires = 0 }

@@ -2,8 +2,7 @@
 // chained. The kept uses are a slice with a place for each point, 65535 where none is kept.
 #![tactic(auto)]
 
-ghost use Rattle.std.specs.Prelude.{◌≡◌, ◌&&◌, false, not, ◌<◌, eqb, get_or, length};
-ghost use Rattle.std.proofs.Math.Option.{none};
+ghost use Rattle.std.specs.Prelude.{◌≡◌, ◌&&◌, false, not, ◌<◌, eqb, get_or, length, None};
 ghost use Rattle.edge.specs.Uses.{back_of, edge_number, front_of};
 ghost use Rattle.face_edits.specs.FaceEdits.{chained, meet, meet_all};
 ghost use Rattle.lists.specs.Lists.{numbers};
@@ -29,12 +28,9 @@ pub fn keep_face(kept: &mut [u16], part: &[u16], fronts: &[u16], backs: &[u16])
     ensures kept_after { slots kept.new ≡ keep (front_of fronts.now backs.now) (back_of fronts.now backs.now) part.now (slots kept.old) }
     ensures holding_2 { Holding fronts.now backs.now kept.new }
 {
-    let mut i: usize = 0;
-    while i < part.len() {
-        let u = part[i];
-        let p = front_of(u, fronts, backs);
-        keep_at(kept, p, u);
-        i += 1;
+    for u in part {
+        let p = front_of(*u, fronts, backs);
+        keep_at(kept, p, *u);
     }
 }
 
@@ -55,7 +51,7 @@ fn meet_use(kept: &mut [u16], u: u16, fronts: &[u16], backs: &[u16]) -> bool
     requires end_columns { EndColumns fronts.now backs.now }
     requires fits { Fits fronts.now backs.now (length kept.old) u }
     requires holding { Holding fronts.now backs.now kept.old }
-    ensures kept_value { (c : Content) → Columns c fronts.now backs.now → meet c u (get_or (slots kept.old) (back_in c u) none) (slots kept.old) ≡ met_as result (slots kept.new) }
+    ensures kept_value { (c : Content) → Columns c fronts.now backs.now → meet c u (get_or (slots kept.old) (back_in c u) None) (slots kept.old) ≡ met_as result (slots kept.new) }
     ensures holding_2 { Holding fronts.now backs.now kept.new }
     ensures kept_unchanged { result ≡ false → kept.new ≡ kept.old }
 {
@@ -82,12 +78,10 @@ pub fn meet_all(kept: &mut [u16], part: &[u16], fronts: &[u16], backs: &[u16]) -
     ensures holding_2 { Holding fronts.now backs.now kept.new }
     ensures kept_after { (c : Content) → Columns c fronts.now backs.now → slots kept.new ≡ kept_met c part.now (slots kept.old) }
 {
-    let mut i: usize = 0;
-    while i < part.len() {
-        if !meet_use(kept, part[i], fronts, backs) {
+    for u in part {
+        if !meet_use(kept, *u, fronts, backs) {
             return false;
         }
-        i += 1;
     }
     true
 }
@@ -104,8 +98,8 @@ fn chain_at(
 ) -> Chained
     requires q_in_bounds { q < length kept.old }
     requires room { Room fronts.now backs.now kept.old out.old lens.old w }
-    ensures laid { Laid (outline_at (front_of fronts.now backs.now) (back_of fronts.now backs.now) (get_or (slots kept.old) q none) q (slots kept.old)).wires out.old lens.old w out.new lens.new result }
-    ensures kept_after { slots kept.new ≡ (outline_at (front_of fronts.now backs.now) (back_of fronts.now backs.now) (get_or (slots kept.old) q none) q (slots kept.old)).kept }
+    ensures laid { Laid (outline_at (front_of fronts.now backs.now) (back_of fronts.now backs.now) (get_or (slots kept.old) q None) q (slots kept.old)).wires out.old lens.old w out.new lens.new result }
+    ensures kept_after { slots kept.new ≡ (outline_at (front_of fronts.now backs.now) (back_of fronts.now backs.now) (get_or (slots kept.old) q None) q (slots kept.old)).kept }
     ensures room_2 { Room fronts.now backs.now kept.new out.new lens.new result }
 {
     if kept[q] == 65535 {
@@ -137,10 +131,8 @@ pub fn chain_all(
     ensures kept_after { (c : Content) → Columns c fronts.now backs.now → slots kept.new ≡ kept_chained c (numbers (length kept.old)) (slots kept.old) }
 {
     let mut w = Chained { uses: 0, wires: 0 };
-    let mut q: usize = 0;
-    while q < kept.len() {
+    for q in 0..kept.len() {
         w = chain_at(kept, q, fronts, backs, out, lens, w);
-        q += 1;
     }
     w
 }

@@ -2,7 +2,6 @@
 use Prim.Native.Nat.{◌-◌, ◌<◌, ◌≤◌, ℕ}
 use mathlib.Core.Bool.{Bool, ◌&&◌, false, not, true}
 use mathlib.Core.List.{List, [], ◌++◌, ◌∷◌, append-nil, map}
-use mathlib.Core.Option.{Option, none, some}
 use mathlib.Core.Path.{◌∙◌, ◌≡◌, ap, refl, sym}
 use native.Mathlib.Nat.{sub-zero}
 use native.Mathlib.Omega.{arith}
@@ -13,14 +12,9 @@ use borrow.Author.Tests.{le-leb, le-ltb, lt-leb, lt-ltb}
 use Rattle.edge.specs.Edges.{back_number, edge, front_number}
 use Rattle.edge.specs.Uses.{back_of, front_of}
 use Rattle.edge.specs.declared.Edge.{Edge}
-use Rattle.edit_answers.specs.declared.FaceAnswer.{FaceAnswer}
-use Rattle.edit_answers.specs.declared.FaceAnswer.TheVariants.{Not, Written}
 use Rattle.edit_answers.specs.declared.FaceEditError.{FaceEditError}
 use Rattle.edit_answers.specs.declared.FaceEditError.TheVariants.{FaceRule, NoSpace, NothingRemains, OppositeEdges}
-use Rattle.errors.proofs.Laws.{accepted_none}
 use Rattle.errors.specs.Faults.{first}
-use Rattle.errors.specs.declared.Check.{Check}
-use Rattle.errors.specs.declared.Check.TheVariants.{Accepted, Refused}
 use Rattle.errors.specs.declared.Refusal.{Refusal}
 use Rattle.face.specs.Faces.{face_faults, face_rule}
 use Rattle.face_edits.specs.FaceEdits.{backs_in, chained, fits, fronts_in, glued, glued_of, keeps_rule, left_faults, meet_all, meeting, met_faults, no_fault}
@@ -33,6 +27,7 @@ use Rattle.openings.specs.Slots.{Holding, slots}
 use Rattle.pattern.specs.Contents.{Content, zero_edge}
 use Rattle.shell.specs.Openings.{Kept, keep}
 use Rattle.shell_edits.proofs.Accepted.{sum_lengths}
+use Rattle.std.specs.Prelude.{Err, Ok, Result, is_err, Option, None, Some}
 use Rattle.wire.specs.Named.{Named}
 use Rattle.glue_walk.specs.declared.Chained.{Chained}
 use Rattle.glue_walk.specs.Walks.{Columns, EndColumns, Fits, Laid, Room, PartFits, met_as, nothing}
@@ -47,22 +42,16 @@ module _ (fronts backs : List ℕ) where
   unfolding face_rule split
   rule_one ws n e = rw (take_all n ws (omega (arith, e)), append-nil (face_faults fronts backs 0 ws))
 
-  module _ (out parts : List ℕ) (a : Check) (is : a ≡ first (face_rule fronts backs 0 (split (length parts ∷ []) (split parts out)))) where
+  module _ (out parts : List ℕ) (a : Result Unit Refusal) (is : a ≡ first (face_rule fronts backs 0 (split (length parts ∷ []) (split parts out)))) where
     rule_is : a ≡ first (face_faults fronts backs 0 (split parts out))
     rule_is = is ∙ ap first (rule_one (split parts out) (length parts) (length_split parts out))
 
-    pub rule_kept : a ≡ Accepted → false ≡ not (keeps_rule fronts backs (split parts out))
-    rule_kept e = rw (accepted_none (face_faults fronts backs 0 (split parts out)) (sym rule_is ∙ e))
-
-    pub rule_broken : (f : Refusal) → a ≡ Refused f → true ≡ not (keeps_rule fronts backs (split parts out))
-    rule_broken f e = go (face_faults fronts backs 0 (split parts out)) (sym rule_is ∙ e)
+    pub rule_judged : (r : Bool) → r ≡ is_err a → r ≡ not (keeps_rule fronts backs (split parts out))
+    rule_judged r e = e ∙ ap is_err rule_is ∙ go (face_faults fronts backs 0 (split parts out))
       where
-        go : (fs : List Refusal) → first fs ≡ Refused f → true ≡ not (no_fault fs)
-        go [] z = absurd (accepted≢ z)
-          where
-            accepted≢ : Accepted ≡ Refused f → ⊥
-            accepted≢ z = let y : ◌≡◌ {A = ℕ} 0 1 = cc in omega arith
-        go (g ∷ fs) z = refl
+        go : (fs : List Refusal) → is_err (first fs) ≡ not (no_fault fs)
+        go [] = refl
+        go (f ∷ fs) = refl
 
 -- ---- what is judged, as tests
 
@@ -70,20 +59,20 @@ abbrev three : Bool → Bool → Bool → List FaceEditError
 three a b d = unless a NothingRemains ++ (unless b FaceRule ++ unless d NoSpace)
 
 module _ (ws : List (List ℕ)) (us ls : List ℕ) (a b d : Bool) where
-  pub is_22 : a ≡ false → Wrote (three a b d) ws us ls us ls (Not NothingRemains)
+  pub is_22 : a ≡ false → Wrote (three a b d) ws us ls us ls (Err NothingRemains)
   unfolding flat
   is_22 e = rw e (record { answer = refl; uses = refl; lengths = refl })
 
-  pub is_28 : a ≡ true → b ≡ false → Wrote (three a b d) ws us ls us ls (Not FaceRule)
+  pub is_28 : a ≡ true → b ≡ false → Wrote (three a b d) ws us ls us ls (Err FaceRule)
   unfolding flat
   is_28 e f = rw (e, f) (record { answer = refl; uses = refl; lengths = refl })
 
-  pub is_17 : a ≡ true → b ≡ true → d ≡ false → Wrote (three a b d) ws us ls us ls (Not NoSpace)
+  pub is_17 : a ≡ true → b ≡ true → d ≡ false → Wrote (three a b d) ws us ls us ls (Err NoSpace)
   unfolding flat
   is_17 e f g = rw (e, f, g) (record { answer = refl; uses = refl; lengths = refl })
 
   pub is_done_lem : a ≡ true → b ≡ true → d ≡ true → (us' ls' : List ℕ) → us' ≡ sets us 0 (flat ws) → ls' ≡ sets ls 0 (map length ws)
-      → (r : FaceAnswer) → r ≡ Written (length (flat ws)) (length ws) → Wrote (three a b d) ws us ls us' ls' r
+      → (r : Result (ℕ × ℕ) FaceEditError) → r ≡ Ok (length (flat ws), length ws) → Wrote (three a b d) ws us ls us' ls' r
   is_done_lem e f g us' ls' x y r z = rw (e, f, g) (record { answer = z; uses = x; lengths = y })
 
 -- ---- of a pattern with these columns: the wires stand in `out`, with their lengths in `parts`
@@ -103,7 +92,7 @@ module _ (c : Content) (ws : List (List ℕ)) (fronts backs out parts us ls : Li
       twice true = refl
       twice false = refl
 
-  pub none_left_22 : length parts ≡ 0 → Wrote (left_faults c ws (length us) (length ls)) ws us ls us ls (Not NothingRemains)
+  pub none_left_22 : length parts ≡ 0 → Wrote (left_faults c ws (length us) (length ls)) ws us ls us ls (Err NothingRemains)
   none_left_22 e = is_22 ws us ls (ltb 0 (length ws)) (keeps_rule (fronts_in c) (backs_in c) ws) (fits ws (length us) (length ls)) (le-ltb 0 (length ws) (omega (arith, e, number_is)))
 
   module _ (n : length parts ≡ 0 → ⊥) where
@@ -114,7 +103,7 @@ module _ (c : Content) (ws : List (List ℕ)) (fronts backs out parts us ls : Li
         positive m h e = omega (arith, h, e)
 
     module _ (r : Bool) (t : r ≡ not (keeps_rule fronts backs (split parts out))) where
-      pub rule_28 : r ≡ true → Wrote (left_faults c ws (length us) (length ls)) ws us ls us ls (Not FaceRule)
+      pub rule_28 : r ≡ true → Wrote (left_faults c ws (length us) (length ls)) ws us ls us ls (Err FaceRule)
       rule_28 e = is_28 ws us ls (ltb 0 (length ws)) (keeps_rule (fronts_in c) (backs_in c) ws) (fits ws (length us) (length ls)) some_left (keeps_is r t ∙ ap not e)
 
       module _ (k : r ≡ false) where
@@ -130,28 +119,28 @@ module _ (c : Content) (ws : List (List ℕ)) (fronts backs out parts us ls : Li
             and_false true = refl
             and_false false = refl
 
-        pub space_17 : length us < length out → Wrote (left_faults c ws (length us) (length ls)) ws us ls us ls (Not NoSpace)
+        pub space_17 : length us < length out → Wrote (left_faults c ws (length us) (length ls)) ws us ls us ls (Err NoSpace)
         space_17 h = is_17 ws us ls (ltb 0 (length ws)) (keeps_rule (fronts_in c) (backs_in c) ws) (fits ws (length us) (length ls)) some_left (keeps_is r t ∙ ap not k) (fit_not_uses h)
 
-        pub places_17 : length ls < length parts → Wrote (left_faults c ws (length us) (length ls)) ws us ls us ls (Not NoSpace)
+        pub places_17 : length ls < length parts → Wrote (left_faults c ws (length us) (length ls)) ws us ls us ls (Err NoSpace)
         places_17 h = is_17 ws us ls (ltb 0 (length ws)) (keeps_rule (fronts_in c) (backs_in c) ws) (fits ws (length us) (length ls)) some_left (keeps_is r t ∙ ap not k) (fit_not_lens h)
 
         pub all_written : length out ≤ length us → length parts ≤ length ls → (us' ls' : List ℕ) → us' ≡ sets us 0 out → ls' ≡ sets ls 0 parts
-            → Wrote (left_faults c ws (length us) (length ls)) ws us ls us' ls' (Written (length out) (length parts))
+            → Wrote (left_faults c ws (length us) (length ls)) ws us ls us' ls' (Ok (length out, length parts))
         all_written h l us' ls' x y =
             let e : length (flat ws) ≡ length out = ap length eo in
             let f : fits ws (length us) (length ls) ≡ true =
             rw (le-leb (length (flat ws)) (length us) (omega (arith, e)), le-leb (length ws) (length ls) (omega (arith, number_is))) in
             is_done_lem ws us ls (ltb 0 (length ws)) (keeps_rule (fronts_in c) (backs_in c) ws) (fits ws (length us) (length ls)) some_left (keeps_is r t ∙ ap not k) f us' ls'
-            (rw eo x) (rw ep y) (Written (length out) (length parts)) (rw (e, number_is))
+            (rw eo x) (rw ep y) (Ok (length out, length parts)) (rw (e, number_is))
 
 -- ---- 21, and the rest
 module _ (c : Content) (o : Option Kept) (us ls : List ℕ) (m k : ℕ) where
-  pub is_21 : o ≡ none → Wrote (met_faults c o m k) (glued_of c o) us ls us ls (Not OppositeEdges)
+  pub is_21 : o ≡ None → Wrote (met_faults c o m k) (glued_of c o) us ls us ls (Err OppositeEdges)
   unfolding flat
   is_21 e = rw e (record { answer = refl; uses = refl; lengths = refl })
 
-  pub is_rest : (kept : Kept) → o ≡ some kept → (us' ls' : List ℕ) (r : FaceAnswer) → Wrote (left_faults c (glued_of c (some kept)) m k) (glued_of c (some kept)) us ls us' ls' r
+  pub is_rest : (kept : Kept) → o ≡ Some kept → (us' ls' : List ℕ) (r : Result (ℕ × ℕ) FaceEditError) → Wrote (left_faults c (glued_of c (Some kept)) m k) (glued_of c (Some kept)) us ls us' ls' r
       → Wrote (met_faults c o m k) (glued_of c o) us ls us' ls' r
   is_rest kept e us' ls' r w = rw e w
 
@@ -264,18 +253,18 @@ bare_start fronts backs kept bare e = go (length kept) bare
 module _ (fronts backs first second kept₀ kept₁ kept₂ : List ℕ) (n : ℕ) (bare : kept₀ ≡ replicate n 65535)
     (kept : slots kept₁ ≡ keep (front_of fronts backs) (back_of fronts backs) first (slots kept₀))
     (r : Bool) (met : (c : Content) → Columns c fronts backs → meet_all c second (slots kept₁) ≡ met_as r (slots kept₂)) where
-  slots_first : slots kept₀ ≡ replicate n none
+  slots_first : slots kept₀ ≡ replicate n None
   slots_first = ap slots bare ∙ slots_bare n
 
   meeting_is : (c : Content) (f g : ℕ) → Shown c f g fronts backs first second n → meeting c f g ≡ met_as r (slots kept₂)
   meeting_is c f g s =
-      (λ i. meet_all c (s.other i) (keep (front_of (s.columns.begin i) (s.columns.end i)) (front_of (s.columns.end i) (s.columns.begin i)) (s.one i) (replicate (s.all i) none)))
+      (λ i. meet_all c (s.other i) (keep (front_of (s.columns.begin i) (s.columns.end i)) (front_of (s.columns.end i) (s.columns.begin i)) (s.one i) (replicate (s.all i) None)))
       ∙ ap (λ (k : Kept). meet_all c second (keep (front_of fronts backs) (back_of fronts backs) first k)) (sym slots_first)
       ∙ ap (meet_all c second) (sym kept)
       ∙ met c s.columns
 
   pub glue_21 : r ≡ false → (c : Content) (f g : ℕ) → Shown c f g fronts backs first second n → (us ls : List ℕ) (m k : ℕ)
-      → Wrote (met_faults c (meeting c f g) m k) (glued c f g) us ls us ls (Not OppositeEdges)
+      → Wrote (met_faults c (meeting c f g) m k) (glued c f g) us ls us ls (Err OppositeEdges)
   glue_21 e c f g s us ls m k = is_21 c (meeting c f g) us ls m k (meeting_is c f g s ∙ ap (λ (b : Bool). met_as b (slots kept₂)) e)
 
   module _ (e : r ≡ true) (l : length kept₂ ≡ n) where
@@ -286,10 +275,10 @@ module _ (fronts backs first second kept₀ kept₁ kept₂ : List ℕ) (n : ℕ
         let bare-each : Every P (slots kept₀) = rw slots_first (every_bare P n) in
         let first-each : Every P (slots kept₁) = rw kept (keep_every P (front_of fronts backs) (back_of fronts backs) first (slots kept₀) (all_within fronts backs n first a) bare-each) in
         let c = content_with fronts backs in
-        let m : meet_all c second (slots kept₁) ≡ some (slots kept₂) = met c (columns_with fronts backs a.ends.alike) ∙ ap (λ (b : Bool). met_as b (slots kept₂)) e in
+        let m : meet_all c second (slots kept₁) ≡ Some (slots kept₂) = met c (columns_with fronts backs a.ends.alike) ∙ ap (λ (b : Bool). met_as b (slots kept₂)) e in
         rw l (meet_every P c second (slots kept₁) (slots kept₂) (all_within fronts backs n second b) first-each m)
 
-    pub glue_rest : (c : Content) (f g : ℕ) → Shown c f g fronts backs first second n → (us ls us' ls' : List ℕ) (a : FaceAnswer)
+    pub glue_rest : (c : Content) (f g : ℕ) → Shown c f g fronts backs first second n → (us ls us' ls' : List ℕ) (a : Result (ℕ × ℕ) FaceEditError)
         → ((d : Content) → Columns d fronts backs
         → Wrote (left_faults d (chained d (numbers (length kept₂)) (slots kept₂)) (length us) (length ls)) (chained d (numbers (length kept₂)) (slots kept₂)) us ls us' ls' a)
         → Wrote (met_faults c (meeting c f g) (length us) (length ls)) (glued c f g) us ls us' ls' a

@@ -10,8 +10,7 @@ ghost use Rattle.wire.specs.Named.{Named};
 ghost use Rattle.glue_walk.specs.Walks.{Columns, EndColumns, PartFits};
 ghost use Rattle.glue_wires.specs.Glues.{EachFits, Shown, Wrote};
 
-use edit_answers::{FaceAnswer, FaceEditError};
-use errors::Check;
+use edit_answers::FaceEditError;
 use face::check_faces;
 use glue_walk::{chain_all, keep_face, meet_all};
 use words::copy_u16s;
@@ -24,11 +23,7 @@ fn breaks_rule(out: &[u16], parts: &[u16], fronts: &[u16], backs: &[u16]) -> boo
 {
     let n = parts.len();
     let counts = [n as u16; 1];
-    let answer = check_faces(out, parts, &counts, 1, fronts, backs);
-    match answer {
-        Check::Refused(_) => true,
-        Check::Accepted => false,
-    }
+    check_faces(out, parts, &counts, 1, fronts, backs).is_err()
 }
 
 // The wires judged and written: 22, 28, 17. They have these lengths and stand in `out` in sequence.
@@ -39,26 +34,26 @@ fn judge_wires(
     backs: &[u16],
     uses: &mut [u16],
     lens: &mut [u16],
-) -> FaceAnswer
+) -> Result<(usize, usize), FaceEditError>
     requires named { Named fronts.now backs.now out.now }
     requires parts_value { (sum parts.now ≡ length out.now) × (length parts.now ≤ 2048) }
     ensures { (c : Content) (ws : List (List ℕ)) → Columns c fronts.now backs.now → flat ws ≡ out.now → map length ws ≡ parts.now → Wrote (left_faults c ws (length uses.old) (length lens.old)) ws uses.old lens.old uses.new lens.new result }
 {
     if parts.len() == 0 {
-        return FaceAnswer::Not(FaceEditError::NothingRemains);
+        return Err(FaceEditError::NothingRemains);
     }
     if breaks_rule(out, parts, fronts, backs) {
-        return FaceAnswer::Not(FaceEditError::FaceRule);
+        return Err(FaceEditError::FaceRule);
     }
     if uses.len() < out.len() {
-        return FaceAnswer::Not(FaceEditError::NoSpace);
+        return Err(FaceEditError::NoSpace);
     }
     if lens.len() < parts.len() {
-        return FaceAnswer::Not(FaceEditError::NoSpace);
+        return Err(FaceEditError::NoSpace);
     }
     copy_u16s(out, uses, 0);
     copy_u16s(parts, lens, 0);
-    FaceAnswer::Written(out.len(), parts.len())
+    Ok((out.len(), parts.len()))
 }
 
 // What is kept, chained, judged and written.
@@ -68,7 +63,7 @@ fn write_kept(
     backs: &[u16],
     uses: &mut [u16],
     lens: &mut [u16],
-) -> FaceAnswer
+) -> Result<(usize, usize), FaceEditError>
     requires end_columns { EndColumns fronts.now backs.now }
     requires holding { Holding fronts.now backs.now kept.old }
     requires kept_len_bound { length kept.old ≤ 2048 }
@@ -92,7 +87,7 @@ fn glue_kept(
     backs: &[u16],
     uses: &mut [u16],
     lens: &mut [u16],
-) -> FaceAnswer
+) -> Result<(usize, usize), FaceEditError>
     requires part_fits { PartFits fronts.now backs.now (length kept.old) first.now }
     requires part_fits_2 { PartFits fronts.now backs.now (length kept.old) second.now }
     requires kept_value { (kept.old ≡ replicate (length kept.old) 65535) × (length kept.old ≤ 2048) }
@@ -100,7 +95,7 @@ fn glue_kept(
 {
     keep_face(kept, first, fronts, backs);
     if !meet_all(kept, second, fronts, backs) {
-        return FaceAnswer::Not(FaceEditError::OppositeEdges);
+        return Err(FaceEditError::OppositeEdges);
     }
     write_kept(kept, fronts, backs, uses, lens)
 }
@@ -114,7 +109,7 @@ pub fn glue_parts(
     backs: &[u16],
     uses: &mut [u16],
     lens: &mut [u16],
-) -> FaceAnswer
+) -> Result<(usize, usize), FaceEditError>
     requires part_fits { PartFits fronts.now backs.now points first.now }
     requires part_fits_2 { PartFits fronts.now backs.now points second.now }
     requires points_bound { points ≤ 2048 }

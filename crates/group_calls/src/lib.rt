@@ -11,8 +11,9 @@ ghost use Rattle.reports.specs.Figures.{Grouped};
 ghost use Rattle.store.specs.Store.{count_table, held};
 ghost use Rattle.group_calls.specs.GroupCalls.{components_answer, components_out, connected_answer, singular_answer, singular_out};
 
-use calls::{FigureAnswer, Presence, ShellFigure, find_shell};
-use columns::put_columns;
+use calls::{ShellFigure, find_shell};
+use columns::Columns;
+use errors::{CallError, NotThere};
 use reports::{GroupCounts, put_groups};
 use store::{Spans, Tables};
 
@@ -28,30 +29,20 @@ fn groups_at(
     requires in_bounds { (512 ≤ length out.old) × (512 ≤ length sizes.old) × (2048 ≤ length found.old) }
     ensures { OfTables t.now (λ p. Grouped (content p) n out.old sizes.old found.old out.new sizes.new found.new result) }
 {
-    let mut turned = [0u16; 4096];
-    let mut starts = [0usize; 257];
-    let mut firsts = [0usize; 257];
-    let mut places = [0usize; 257];
-    put_columns(t, &mut turned, &mut starts, &mut firsts, &mut places);
-    put_groups(t, &turned, &starts, &firsts, &places, n, out, sizes, found)
+    let columns = Columns::new(t);
+    put_groups(&columns, n, out, sizes, found)
 }
 
 // Whether shell n is connected.
-pub fn is_connected(t: &Tables, spans: &Spans, n: usize) -> FigureAnswer
+pub fn is_connected(t: &Tables, spans: &Spans, n: usize) -> Result<ShellFigure, CallError<NotThere>>
     ensures { result ≡ connected_answer (held t.now spans.now) n }
 {
-    let found = find_shell(t, spans, n);
-    match found {
-        Presence::Refused(f) => FigureAnswer::Refused(f),
-        Presence::NoShell => FigureAnswer::NoShell,
-        Presence::There => {
-            let mut pairs = [0u16; 512];
-            let mut sizes = [0u16; 512];
-            let mut corners = [0u16; 2048];
-            let g = groups_at(t, n, &mut pairs, &mut sizes, &mut corners);
-            FigureAnswer::Found(ShellFigure::Connected(g.connected))
-        }
-    }
+    find_shell(t, spans, n)?;
+    let mut pairs = [0u16; 512];
+    let mut sizes = [0u16; 512];
+    let mut corners = [0u16; 2048];
+    let g = groups_at(t, n, &mut pairs, &mut sizes, &mut corners);
+    Ok(ShellFigure::Connected(g.connected))
 }
 
 // The components of shell n: their pairs one after the other, and the length of each.
@@ -61,37 +52,30 @@ pub fn connected_components(
     n: usize,
     out: &mut [u16; 512],
     lens: &mut [u16; 512],
-) -> FigureAnswer
+) -> Result<ShellFigure, CallError<NotThere>>
     ensures value { result ≡ components_answer (held t.now spans.now) n }
     ensures out_after { out.new ≡ sets out.old 0 (flat (components_out (held t.now spans.now) n)) }
     ensures lens_after { lens.new ≡ sets lens.old 0 (map length (components_out (held t.now spans.now) n)) }
 {
-    let found = find_shell(t, spans, n);
-    match found {
-        Presence::Refused(f) => FigureAnswer::Refused(f),
-        Presence::NoShell => FigureAnswer::NoShell,
-        Presence::There => {
-            let mut corners = [0u16; 2048];
-            let g = groups_at(t, n, out, lens, &mut corners);
-            FigureAnswer::Found(ShellFigure::Components(g.components, g.members))
-        }
-    }
+    find_shell(t, spans, n)?;
+    let mut corners = [0u16; 2048];
+    let g = groups_at(t, n, out, lens, &mut corners);
+    Ok(ShellFigure::Components(g.components, g.members))
 }
 
 // The singular points of shell n, ascending.
-pub fn singular_vertices(t: &Tables, spans: &Spans, n: usize, out: &mut [u16; 2048]) -> FigureAnswer
+pub fn singular_vertices(
+    t: &Tables,
+    spans: &Spans,
+    n: usize,
+    out: &mut [u16; 2048],
+) -> Result<ShellFigure, CallError<NotThere>>
     ensures value { result ≡ singular_answer (held t.now spans.now) n }
     ensures out_after { out.new ≡ sets out.old 0 (singular_out (held t.now spans.now) n) }
 {
-    let found = find_shell(t, spans, n);
-    match found {
-        Presence::Refused(f) => FigureAnswer::Refused(f),
-        Presence::NoShell => FigureAnswer::NoShell,
-        Presence::There => {
-            let mut pairs = [0u16; 512];
-            let mut sizes = [0u16; 512];
-            let g = groups_at(t, n, &mut pairs, &mut sizes, out);
-            FigureAnswer::Found(ShellFigure::Singular(g.singular))
-        }
-    }
+    find_shell(t, spans, n)?;
+    let mut pairs = [0u16; 512];
+    let mut sizes = [0u16; 512];
+    let g = groups_at(t, n, &mut pairs, &mut sizes, out);
+    Ok(ShellFigure::Singular(g.singular))
 }

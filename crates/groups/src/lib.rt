@@ -13,12 +13,10 @@ pub fn start(parents: &mut [u16], sizes: &mut [u16], n: usize)
     ensures parents_after { parents.new ≡ (started n parents.old sizes.old).parents }
     ensures sizes_after { sizes.new ≡ (started n parents.old sizes.old).sizes }
 {
-    let mut i: usize = 0;
-    while i < n {
-        parents[i] = i as u16;
-        sizes[i] = 1;
-        i += 1;
+    for (i, parent) in parents[..n].iter_mut().enumerate() {
+        *parent = i as u16;
     }
+    sizes[..n].fill(1);
 }
 
 // The root of the tree of member i.
@@ -26,6 +24,7 @@ pub fn find(parents: &[u16], i: usize) -> usize
     requires { Climbs parents.now i }
     ensures { result ≡ root_of parents.now i }
 {
+    // No `for`: it climbs from member to member, up to a root.
     let mut at = i;
     loop {
         let up = parents[at] as usize;
@@ -85,9 +84,7 @@ pub fn join_all(parents: &mut [u16], sizes: &mut [u16], n: usize, a: &[u16], b: 
     ensures parents_after { parents.new ≡ (joined_all (trees parents.old sizes.old) (links a.now b.now)).parents }
     ensures sizes_after { sizes.new ≡ (joined_all (trees parents.old sizes.old) (links a.now b.now)).sizes }
 {
-    let mut k: usize = 0;
-    while k < a.len() {
-        join(parents, sizes, a[k] as usize, b[k] as usize);
-        k += 1;
+    for (&i, &j) in a.iter().zip(b) {
+        join(parents, sizes, i as usize, j as usize);
     }
 }

@@ -2,7 +2,6 @@
 // mesh is refused, the line of the refusal goes to standard error, and nothing is written.
 #![tactic(auto)]
 
-use mesh::Imported;
 use mesh_edges::{INDEX, Index};
 use mesh_read::step;
 use mesh_words::Reader;
@@ -10,45 +9,30 @@ use pattern::LONGEST;
 use std::io::Read;
 use store::{SPANS, Spans, TABLES, Tables};
 
-// A mesh as far as it was read, and whether that is all of it.
-#[derive(Clone, Copy)]
-struct Taken {
-    reader: Reader,
-    whole: bool,
-}
-
+// Reads the mesh, if its bytes can be read to the end.
 fn take_in(
     rt: &HostRuntime,
     piece: &mut [u8],
     t: &mut Tables,
     spans: &mut Spans,
     index: &mut Index,
-) -> Taken {
+) -> Option<Reader> {
     let mut reader = Reader::new();
     for _ in 0..u64::MAX {
         match rt.stdin().read(piece) {
             Ok(0) => {
-                return Taken {
-                    reader,
-                    whole: true,
-                };
+                return Some(reader);
             }
             Ok(n) => {
                 reader = step(reader, &piece[0..n], t, spans, index);
             }
             Err(e) => {
                 console::fail(rt, b"import: standard input", e);
-                return Taken {
-                    reader,
-                    whole: false,
-                };
+                return None;
             }
         }
     }
-    Taken {
-        reader,
-        whole: false,
-    }
+    None
 }
 
 fn print_file(rt: &HostRuntime, file: &[u8; LONGEST], n: usize) {
@@ -73,16 +57,13 @@ fn main(rt: HostRuntime) {
     let mut spans = [0.0; SPANS];
     let mut index = [0u16; INDEX];
     let mut piece = [0u8; 16384];
-    let taken = take_in(&rt, &mut piece, &mut t, &mut spans, &mut index);
-    if !taken.whole {
+    let Some(reader) = take_in(&rt, &mut piece, &mut t, &mut spans, &mut index) else {
         return;
-    }
+    };
     let mut file = [0u8; LONGEST];
-    let reader = taken.reader;
     let end = mesh_file::finish(reader, &mut t, &mut spans, &mut index, &mut file);
-    let answer = end.answer;
-    match answer {
-        Imported::Length(n) => {
+    match end.answer {
+        Ok(n) => {
             print_file(&rt, &file, n);
         }
         other => {

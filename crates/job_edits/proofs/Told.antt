@@ -1,29 +1,29 @@
 -- The answer of an edit of a face that is done tells how many uses and wires were written, and they fit.
+use Rattle.std.specs.Prelude.{Err, Ok, Result}
 use Prim.Native.Nat.{◌-◌, ◌≤◌, ℕ}
-use mathlib.Core.Bool.{Bool, false, true}
+use mathlib.Core.Bool.{false, true}
 use mathlib.Core.List.{List, [], ◌∷◌, map}
 use mathlib.Core.Logic.{⊎_elim}
 use mathlib.Core.Path.{◌∙◌, ◌≡◌, ap, refl}
 use native.Mathlib.Omega.{arith}
-use lib.Dec.{eqb, leb}
+use lib.Dec.{leb}
 use lib.ListN.{length, length-append, length-map, length-replicate, replicate, take}
 use lib.Seq.{length-sets, sets}
 use borrow.Author.Tests.{leb-true}
 use Rattle.answers.specs.Values.{face_values}
 use Rattle.answers.specs.declared.Answer.{Answer}
-use Rattle.edit_answers.specs.Answers.{judged}
-use Rattle.edit_answers.specs.declared.FaceAnswer.TheVariants.{Not, Refused, Written}
+use Rattle.edit_answers.specs.Answers.{answer_of, judged}
 use Rattle.edit_answers.specs.declared.FaceEditError.{FaceEditError}
 use Rattle.edit_answers.specs.declared.FaceEditError.TheVariants.{NoSpace}
-use Rattle.errors.specs.declared.Check.{Check}
-use Rattle.errors.specs.declared.Check.TheVariants.{Accepted as Check-as-Accepted, Refused as Check-as-Refused}
 use Rattle.errors.specs.declared.Refusal.{Refusal}
 use Rattle.face_edits.specs.FaceEdits.{add_faults, added, cut_face_faults, cut_in_two, fits, glue_faults, glued}
 use Rattle.answers.specs.Read.{if_read, when_read}
 use Rattle.lists.proofs.Laws.{cases, left_true, right_true}
 use Rattle.lists.proofs.Parts.{split_flat}
 use Rattle.lists.proofs.Sets.{take_sets}
-use Rattle.lists.specs.Lists.{flat, pick, split, sum, unless}
+use Rattle.job_lines.specs.declared.FaceTask.{FaceTask}
+use Rattle.job_lines.specs.declared.FaceTask.TheVariants.{Add, CutFace, Glue}
+use Rattle.lists.specs.Lists.{flat, split, sum, unless}
 use Rattle.shell_edits.proofs.Accepted.{sum_lengths}
 use Rattle.pattern.specs.Checks.{pattern_faults}
 use Rattle.pattern.specs.Contents.{content}
@@ -39,7 +39,7 @@ pub record Told (a : Answer) (ws : List (List ℕ)) : Type 0 where
 -- an edit whose last refusal is 17
 module _ (ws : List (List ℕ)) where
   abbrev answer : List Refusal → List FaceEditError → Answer
-  answer rs es = face_values (judged rs es Refused Not (Written (length (flat ws)) (length ws)))
+  answer rs es = face_values (answer_of rs es (length (flat ws), length ws))
 
   abbrev wires_of_lem : List Refusal → List FaceEditError → List (List ℕ)
   wires_of_lem rs es = judged rs es (λ (f : Refusal). []) (λ (e : FaceEditError). []) ws
@@ -59,67 +59,67 @@ module _ (ws : List (List ℕ)) where
         few_wires = leb-true (length ws) 4096 (right_true (leb (length (flat ws)) 4096) (leb (length ws) 4096) h);
       }
 
-  told_read : (r : Check) (rs : List Refusal) (es : List FaceEditError) → (es ≡ [] → fits ws 4096 4096 ≡ true)
+  told_read : (r : Result Unit Refusal) (rs : List Refusal) (es : List FaceEditError) → (es ≡ [] → fits ws 4096 4096 ≡ true)
       → (when_read r (answer rs es)).outcome ≡ 0 → Told (when_read r (answer rs es)) (if_read r (wires_of_lem rs es))
-  told_read (Check-as-Refused f) rs es h e = absurd (omega (arith, e))
-  told_read Check-as-Accepted rs es h e = told_judged rs es h e
+  told_read (Err f) rs es h e = absurd (omega (arith, e))
+  told_read (Ok x) rs es h e = told_judged rs es h e
 
-told_pick : (b : Bool) (a a' : Answer) (ws ws' : List (List ℕ)) → (a.outcome ≡ 0 → Told a ws) → (a'.outcome ≡ 0 → Told a' ws')
-    → (pick b a a').outcome ≡ 0 → Told (pick b a a') (pick b ws ws')
-told_pick true a a' ws ws' f g = f
-told_pick false a a' ws ws' f g = g
-
-pub told : (j : ℕ) (vs s : List ℕ) → (face_answer j vs s).outcome ≡ 0 → Told (face_answer j vs s) (face_wires j vs s)
-unfolding face_answer face_wires
-told j vs s =
-    let r = check_of s in
+pub told : (t : FaceTask) (vs s : List ℕ) → (face_answer t vs s).outcome ≡ 0 → Told (face_answer t vs s) (face_wires t vs s)
+told Add vs s =
     let p = pattern_of s in
     let c = content p in
     let f = named vs 0 in
     let us = wire_named vs in
+    told_read (added c f us) (check_of s) (pattern_faults p) (add_faults c f us 4096 4096) (λ e. fitting (added c f us) (omega (arith, rw (length-append, length-append) at (ap length e))))
+told CutFace vs s =
+    let p = pattern_of s in
+    let c = content p in
+    let f = named vs 0 in
+    let us = wire_named vs in
+    told_read (cut_in_two c f us) (check_of s) (pattern_faults p) (cut_face_faults c f us 4096 4096) (λ e. fitting (cut_in_two c f us) (omega (arith, rw (length-append, length-append, length-append, length-append) at (ap length e))))
+told Glue vs s =
+    let p = pattern_of s in
+    let c = content p in
+    let f = named vs 0 in
     let g = named vs 1 in
-    told_pick (eqb j 5) _ _ _ _
-    (told_read (added c f us) r (pattern_faults p) (add_faults c f us 4096 4096) (λ e. fitting (added c f us) (omega (arith, rw (length-append, length-append) at (ap length e)))))
-    (told_pick (eqb j 6) _ _ _ _
-    (told_read (cut_in_two c f us) r (pattern_faults p) (cut_face_faults c f us 4096 4096) (λ e. fitting (cut_in_two c f us) (omega (arith, rw (length-append, length-append, length-append, length-append) at (ap length e)))))
-    (told_read (glued c f g) r (pattern_faults p) (glue_faults c f g 4096 4096) (λ e. fitting (glued c f g) (omega (arith, rw (length-append, length-append, length-append, length-append, length-append) at (ap length e))))))
+    told_read (glued c f g) (check_of s) (pattern_faults p) (glue_faults c f g 4096 4096) (λ e. fitting (glued c f g) (omega (arith, rw (length-append, length-append, length-append, length-append, length-append) at (ap length e))))
 
 -- what was answered, and the lists that took the wires
-pub record Held (j : ℕ) (vs s : List ℕ) (a : Answer) (uses lens : List ℕ) : Type 0 where
-  pub is : a ≡ face_answer j vs s
+pub record Held (t : FaceTask) (vs s : List ℕ) (a : Answer) (uses lens : List ℕ) : Type 0 where
+  pub is : a ≡ face_answer t vs s
   pub done : a.outcome ≡ 0
-  pub held : uses ≡ sets (replicate 4096 0) 0 (flat (face_wires j vs s))
-  pub kept : lens ≡ sets (replicate 4096 0) 0 (map length (face_wires j vs s))
+  pub held : uses ≡ sets (replicate 4096 0) 0 (flat (face_wires t vs s))
+  pub kept : lens ≡ sets (replicate 4096 0) 0 (map length (face_wires t vs s))
 
-module _ {j : ℕ} {vs s : List ℕ} {a : Answer} {uses lens : List ℕ} (h : Held j vs s a uses lens) where
-  told_of : Told a (face_wires j vs s)
-  told_of = rw h.is (told j vs s (rw h.is at h.done))
+module _ {t : FaceTask} {vs s : List ℕ} {a : Answer} {uses lens : List ℕ} (h : Held t vs s a uses lens) where
+  told_of : Told a (face_wires t vs s)
+  told_of = rw h.is (told t vs s (rw h.is at h.done))
 
-  told_uses : take (a.first - 0) uses ≡ flat (face_wires j vs s)
+  told_uses : take (a.first - 0) uses ≡ flat (face_wires t vs s)
   told_uses =
-      let t = told_of in
+      let k = told_of in
       let e : a.first - 0 ≡ a.first = omega arith in
-      rw (e, h.held) (take_sets (replicate 4096 0) (flat (face_wires j vs s)) a.first t.uses (omega (arith, t.uses, t.few_uses, length-replicate {A = ℕ} 4096 0)))
+      rw (e, h.held) (take_sets (replicate 4096 0) (flat (face_wires t vs s)) a.first k.uses (omega (arith, k.uses, k.few_uses, length-replicate {A = ℕ} 4096 0)))
 
-  told_lens : take (a.second - 0) lens ≡ map length (face_wires j vs s)
+  told_lens : take (a.second - 0) lens ≡ map length (face_wires t vs s)
   told_lens =
-      let t = told_of in
+      let k = told_of in
       let e : a.second - 0 ≡ a.second = omega arith in
       rw (e, h.kept)
-      (take_sets (replicate 4096 0) (map length (face_wires j vs s)) a.second (length-map (face_wires j vs s) length ∙ t.wires) (omega (arith, t.wires, t.few_wires, length-replicate {A = ℕ} 4096 0)))
+      (take_sets (replicate 4096 0) (map length (face_wires t vs s)) a.second (length-map (face_wires t vs s) length ∙ k.wires) (omega (arith, k.wires, k.few_wires, length-replicate {A = ℕ} 4096 0)))
 
   pub told_room : (a.first ≤ length uses) × (a.second ≤ length lens)
   told_room =
-      let t = told_of in
+      let k = told_of in
       let z = length-replicate {A = ℕ} 4096 0 in (
-        omega (arith, t.uses, t.few_uses, ap length h.held, length-sets (replicate 4096 0) 0 (flat (face_wires j vs s))),
-        omega (arith, t.wires, t.few_wires, ap length h.kept, length-sets (replicate 4096 0) 0 (map length (face_wires j vs s))),
+        omega (arith, k.uses, k.few_uses, ap length h.held, length-sets (replicate 4096 0) 0 (flat (face_wires t vs s))),
+        omega (arith, k.wires, k.few_wires, ap length h.kept, length-sets (replicate 4096 0) 0 (map length (face_wires t vs s))),
       )
 
   pub told_fits : (sum (take (a.second - 0) lens) ≡ length (take (a.first - 0) uses)) × (length (take (a.first - 0) uses) ≤ 4096) × (length (take (a.second - 0) lens) ≤ 4096)
   told_fits =
-      let t = told_of in
-      rw (told_uses, told_lens) (sum_lengths (face_wires j vs s), t.few_uses, omega (arith, length-map (face_wires j vs s) length, t.few_wires))
+      let k = told_of in
+      rw (told_uses, told_lens) (sum_lengths (face_wires t vs s), k.few_uses, omega (arith, length-map (face_wires t vs s) length, k.few_wires))
 
-  pub told_parts : split (take (a.second - 0) lens) (take (a.first - 0) uses) ≡ face_wires j vs s
-  told_parts = rw (told_uses, told_lens) (split_flat (face_wires j vs s))
+  pub told_parts : split (take (a.second - 0) lens) (take (a.first - 0) uses) ≡ face_wires t vs s
+  told_parts = rw (told_uses, told_lens) (split_flat (face_wires t vs s))

@@ -9,6 +9,7 @@ use lib.Dec.{ltb}
 use lib.ListN.{drop, drop_of_length-le, length, take}
 use lib.Seq.{take_all}
 use borrow.Author.Tests.{ltb-false, ltb-true}
+use Rattle.forms.specs.declared.WordKind.{WordKind}
 use Rattle.lists.proofs.Laws.{cases}
 use Rattle.text.proofs.Words.{word_at, word_none, words_nil}
 use Rattle.text.specs.Text.{before, is_blank, is_ink, words}
@@ -31,5 +32,5 @@ first_is line start end begins h ends =
     (cases (ltb start (length line)))
 
 -- the kinds of the words after it
-pub kinds_part : (n : ℕ) (ks r : List ℕ) → n ≡ length ks → take (length ks) r ≡ ks → take (n - 0) r ≡ ks
+pub kinds_part : (n : ℕ) (ks r : List WordKind) → n ≡ length ks → take (length ks) r ≡ ks → take (n - 0) r ≡ ks
 kinds_part n ks r h e = let z : n - 0 ≡ length ks = omega arith in rw z e

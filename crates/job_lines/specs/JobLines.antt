@@ -1,53 +1,68 @@
 -- The jobs of the program `edit` as lines: their names, the words that they take, and the lines of their answers (docs/GUIDE.md, Edits).
-use Rattle.std.specs.Prelude.{ℕ, ◌||◌, List, [], ◌∷◌, ◌++◌, eqb}
+use Rattle.std.specs.Prelude.{ℕ, List, [], ◌∷◌, ◌++◌, eqb, Option, None, Some}
 use Rattle.answer_lines.specs.AnswerLines.{wires_text}
+use Rattle.forms.specs.declared.WordKind.{WordKind}
+use Rattle.forms.specs.declared.WordKind.TheVariants.{Label, Number, Parameter, Signed}
+use Rattle.job_lines.specs.declared.FaceTask.TheVariants.{Add, CutFace, Glue}
+use Rattle.job_lines.specs.declared.ShellTask.{ShellTask}
+use Rattle.job_lines.specs.declared.ShellTask.TheVariants.{Concat, Cut, Point, Remove}
+use Rattle.job_lines.specs.declared.Task.{Task}
+use Rattle.job_lines.specs.declared.Task.TheVariants.{Face, Shell}
 use Rattle.lines.specs.Lines.{number_line}
 use Rattle.lists.specs.Lists.{pick}
 use Rattle.output.specs.Text.{ascii, field}
 use Rattle.text.specs.Tokens.{name}
 
--- 1 cut, 2 remove, 3 concat, 4 point, 5 add, 6 cutface, 7 glue; 0 no job
-unfoldable pub job_number : ℕ → ℕ
-job_number n =
-    pick (eqb n (name (ascii "cut"))) 1
-    (pick (eqb n (name (ascii "remove"))) 2
-    (pick (eqb n (name (ascii "concat"))) 3
-    (pick (eqb n (name (ascii "point"))) 4
-    (pick (eqb n (name (ascii "add"))) 5
-    (pick (eqb n (name (ascii "cutface"))) 6
-    (pick (eqb n (name (ascii "glue"))) 7 0))))))
+-- the job that a name asks for
+unfoldable pub job_named : ℕ → Option Task
+job_named n =
+    pick (eqb n (name (ascii "cut"))) (Some (Shell Cut))
+    (pick (eqb n (name (ascii "remove"))) (Some (Shell Remove))
+    (pick (eqb n (name (ascii "concat"))) (Some (Shell Concat))
+    (pick (eqb n (name (ascii "point"))) (Some (Shell Point))
+    (pick (eqb n (name (ascii "add"))) (Some (Face Add))
+    (pick (eqb n (name (ascii "cutface"))) (Some (Face CutFace))
+    (pick (eqb n (name (ascii "glue"))) (Some (Face Glue)) None))))))
 
--- the kinds of its words after the first: numbers, uses or faces with their signs, a parameter, a label; and the kind of any further word
-unfoldable pub job_kinds : ℕ → List ℕ
-job_kinds j = pick (eqb j 1) (1 ∷ 1 ∷ 1 ∷ 4 ∷ []) (pick (eqb j 2) (1 ∷ 1 ∷ []) (pick (eqb j 3 || eqb j 7) (2 ∷ 2 ∷ []) (pick (eqb j 4) (7 ∷ []) (2 ∷ []))))
+-- the kinds of its words after the first: numbers, uses or faces with their signs, a parameter, a label; and the kind of any further word, if there may be one
+abbrev pub job_kinds : Task → List WordKind
+job_kinds (Shell Cut) = Number ∷ Number ∷ Number ∷ Parameter ∷ []
+job_kinds (Shell Remove) = Number ∷ Number ∷ []
+job_kinds (Shell Concat) = Signed ∷ Signed ∷ []
+job_kinds (Shell Point) = Label ∷ []
+job_kinds (Face Add) = Signed ∷ []
+job_kinds (Face CutFace) = Signed ∷ []
+job_kinds (Face Glue) = Signed ∷ Signed ∷ []
 
-unfoldable pub job_rest : ℕ → ℕ
-job_rest j = pick (eqb j 5 || eqb j 6) 2 0
+abbrev pub job_rest : Task → Option WordKind
+job_rest (Shell t) = None
+job_rest (Face Add) = Some Signed
+job_rest (Face CutFace) = Some Signed
+job_rest (Face Glue) = None
 
-unfoldable pub job_form : ℕ → List ℕ
-job_form j =
-    pick (eqb j 1) (ascii "cut SHELL EDGE POINT PARAMETER")
-    (pick (eqb j 2) (ascii "remove SHELL POINT")
-    (pick (eqb j 3) (ascii "concat USE USE")
-    (pick (eqb j 4) (ascii "point LABEL")
-    (pick (eqb j 5) (ascii "add FACE USE ..")
-    (pick (eqb j 6) (ascii "cutface FACE USE ..")
-    (ascii "glue FACE FACE"))))))
+abbrev pub job_form : Task → List ℕ
+job_form (Shell Cut) = ascii "cut SHELL EDGE POINT PARAMETER"
+job_form (Shell Remove) = ascii "remove SHELL POINT"
+job_form (Shell Concat) = ascii "concat USE USE"
+job_form (Shell Point) = ascii "point LABEL"
+job_form (Face Add) = ascii "add FACE USE .."
+job_form (Face CutFace) = ascii "cutface FACE USE .."
+job_form (Face Glue) = ascii "glue FACE FACE"
 
--- a line that is no job, and the first word that is wrong or missing, counted from 1
-unfoldable pub no_job : ℕ → ℕ → List ℕ
-no_job j n =
-    pick (eqb j 0) (ascii "no job: begin with cut, remove, concat, point, add, cutface or glue\n")
-    (field "no job: word " n ++ ascii " of " ++ job_form j ++ ascii "\n")
+-- a line that begins with a job's name and is no job, and the first word that is wrong or missing, counted from 1
+unfoldable pub no_job : Task → ℕ → List ℕ
+no_job t n = field "no job: word " n ++ ascii " of " ++ job_form t ++ ascii "\n"
 
 abbrev pub first_word : List (List ℕ) → List ℕ
 first_word [] = []
 first_word (w ∷ ws) = w
 
 -- what is new: the edges, of which a cut has two, or the point
-unfoldable pub new_text : ℕ → ℕ → ℕ → List ℕ
-new_text j first second =
-    pick (eqb j 1) (field "done edges " first ++ number_line " " second) (pick (eqb j 4) (number_line "done point " first) (number_line "done edge " first))
+abbrev pub new_text : ShellTask → ℕ → ℕ → List ℕ
+new_text Cut first second = field "done edges " first ++ number_line " " second
+new_text Remove first second = number_line "done edge " first
+new_text Concat first second = number_line "done edge " first
+new_text Point first second = number_line "done point " first
 
 -- a result's wires
 unfoldable pub done_text : List (List ℕ) → List ℕ

@@ -1,7 +1,8 @@
 -- A line by its words: which job it asks for, and whether it is one.
+use Rattle.std.specs.Prelude.{None, Option, Some}
 use Prim.Native.Nat.{◌+◌, ◌-◌, ◌<◌, ◌≤◌, suc, ℕ}
 use mathlib.Core.Bool.{Bool, ◌&&◌, and-false, false, not, true}
-use mathlib.Core.List.{List, [], ◌∷◌}
+use mathlib.Core.List.{List, [], ◌∷◌, map}
 use mathlib.Core.Logic.{⊎_elim}
 use mathlib.Core.Path.{◌∙◌, ◌≡◌, ap, sym}
 use native.Mathlib.Omega.{arith}
@@ -9,9 +10,10 @@ use lib.Dec.{eqb, leb}
 use lib.ListN.{drop, get_or, length, length-drop, length-replicate, length-take, replicate, take}
 use lib.Seq.{length-sets, sets}
 use borrow.Author.Tests.{eqb-true, le-leb, lt-leb, not-false, not-true}
-use Rattle.forms.specs.Forms.{also, token, values}
-use Rattle.job_edits.specs.JobEdits.{face_answer, face_wires, shell_answer, shell_out}
-use Rattle.job_lines.specs.JobLines.{first_word, job_kinds, job_number, job_rest, no_job}
+use Rattle.forms.specs.Forms.{also, said, values}
+use Rattle.forms.specs.declared.WordKind.{WordKind}
+use Rattle.job_lines.specs.JobLines.{first_word, job_kinds, job_named, job_rest, no_job}
+use Rattle.job_lines.specs.declared.Task.{Task}
 use Rattle.lists.proofs.Laws.{cases}
 use Rattle.lists.proofs.Sets.{take_sets}
 use Rattle.lists.specs.Lists.{pick}
@@ -19,25 +21,20 @@ use Rattle.output.specs.Text.{ascii}
 use Rattle.text.proofs.Words.{words_few}
 use Rattle.text.specs.Text.{trimmed, words}
 use Rattle.text.specs.Tokens.{name}
-use Rattle.text.specs.declared.Token.{Token}
-use Rattle.text.specs.declared.Token.TheVariants.{Not, Value}
 use Rattle.jobs.proofs.Texts.{text_as}
-use Rattle.jobs.specs.Jobs.{face_text, is_job, job_text, line_job, line_length, line_out, line_text, line_values, line_words, shell_text, unnamed_text}
+use Rattle.jobs.specs.Jobs.{is_job, is_whole, job_length, job_out, job_text, line_job, line_length, line_out, line_text, line_values, line_words, named_length, named_out, named_text, named_values, unnamed_text}
 
 -- ---- the words after the first
 
 -- as many values as words at most
-also_few : (t : Token) (vs : List ℕ) → length (also t vs) ≤ suc (length vs)
-also_few Not vs = omega arith
-also_few (Value v) vs = omega arith
+also_few : (t : Option ℕ) (vs : List ℕ) → length (also t vs) ≤ suc (length vs)
+also_few None vs = omega arith
+also_few (Some v) vs = omega arith
 
-pub values_few : (kinds : List ℕ) (rest i : ℕ) (ws : List (List ℕ)) → length (values kinds rest i ws) ≤ length ws
+pub values_few : (kinds : List WordKind) (rest : Option WordKind) (i : ℕ) (ws : List (List ℕ)) → length (values kinds rest i ws) ≤ length ws
 unfolding values
 values_few kinds rest i [] = omega arith
-values_few kinds rest i (w ∷ ws) = omega (arith, also_few (token (get_or kinds i rest) w) (values kinds rest (suc i) ws), values_few kinds rest (suc i) ws)
-
-values_at : (j k : ℕ) (ws us : List (List ℕ)) → j ≡ k → ws ≡ us → values (job_kinds j) (job_rest j) 0 ws ≡ values (job_kinds k) (job_rest k) 0 us
-values_at j k ws us p q = rw (p, q)
+values_few kinds rest i (w ∷ ws) = omega (arith, also_few (said (get_or (map Some kinds) i rest) w) (values kinds rest (suc i) ws), values_few kinds rest (suc i) ws)
 
 same_test : {vs us : List ℕ} {ws zs : List (List ℕ)} → vs ≡ us → ws ≡ zs → eqb (length vs) (length ws) ≡ eqb (length us) (length zs)
 same_test p q = rw (p, q)
@@ -53,28 +50,6 @@ trimmed_short line =
 lines_few : (line : List ℕ) → length line ≤ 65536 → length (line_words line) ≤ 32768
 lines_few line h = omega (arith, length-drop 1 (words (trimmed line)), words_few (trimmed line), trimmed_short line)
 
--- ---- what a job does
-
-module _ (j : ℕ) (vs s out : List ℕ) where
-  pick_yes : {A : Type 0} (x y : A) → j ≤ 4 → pick (leb j 4) x y ≡ x
-  pick_yes x y h = rw (le-leb j 4 h)
-
-  pick_no : {A : Type 0} (x y : A) → 4 < j → pick (leb j 4) x y ≡ y
-  pick_no x y h = rw (lt-leb j 4 h)
-
-  -- an edit of a shell, and one of a face, as a job
-  pub shell_whole : j ≤ 4 → (text text' o : List ℕ) (r f : ℕ)
-      → ((text' ≡ sets text 0 (shell_text j (shell_answer j vs s out))) × (r ≡ length (shell_text j (shell_answer j vs s out)))) × ((o ≡ shell_out j vs s out) × (f ≡ (shell_answer j vs s out).third))
-      → ((text' ≡ sets text 0 (job_text j vs s out)) × (r ≡ length (job_text j vs s out))) × ((o ≡ pick (leb j 4) (shell_out j vs s out) out) × (f ≡ pick (leb j 4) (shell_answer j vs s out).third 0))
-  unfolding job_text
-  shell_whole h text text' o r f p = (text_as (pick_yes _ _ h) text text' r p.0, (p.1.0 ∙ sym (pick_yes _ _ h), p.1.1 ∙ sym (pick_yes _ _ h)))
-
-  pub face_whole : 4 < j → (text text' : List ℕ) (r : ℕ)
-      → (text' ≡ sets text 0 (face_text (face_answer j vs s) (face_wires j vs s))) × (r ≡ length (face_text (face_answer j vs s) (face_wires j vs s)))
-      → ((text' ≡ sets text 0 (job_text j vs s out)) × (r ≡ length (job_text j vs s out))) × ((out ≡ pick (leb j 4) (shell_out j vs s out) out) × (0 ≡ pick (leb j 4) (shell_answer j vs s out).third 0))
-  unfolding job_text
-  face_whole h text text' r p = (text_as (pick_no _ _ h) text text' r p, (sym (pick_no _ _ h), sym (pick_no _ _ h)))
-
 -- ---- whether a line is a job
 
 module _ {A : Type 0} (b : Bool) (x y : A) where
@@ -84,116 +59,117 @@ module _ {A : Type 0} (b : Bool) (x y : A) where
   pick_false : b ≡ false → pick b x y ≡ y
   pick_false e = rw e
 
-module _ (a b c d : Bool) where
-  fails_first : a ≡ false → (a && b && c && d) ≡ false
-  fails_first e = rw e
-
-  fails_second : b ≡ false → (a && b && c && d) ≡ false
-  fails_second e = rw (e, and-false)
-
-  fails_third : c ≡ false → (a && b && c && d) ≡ false
-  fails_third e = rw (e, and-false)
-
-  fails_fourth : d ≡ false → (a && b && c && d) ≡ false
-  fails_fourth e = rw (e, and-false)
-
-  passes : a ≡ true → b ≡ true → c ≡ true → d ≡ true → (a && b && c && d) ≡ true
-  passes p q r t = rw (p, q, r, t)
-
--- the four tests
+-- the tests
 abbrev short : List ℕ → Bool
 short line = leb (length line) 65536
-
-abbrev begun : List ℕ → Bool
-begun line = leb 1 (line_job line)
 
 abbrev each : List ℕ → Bool
 each line = eqb (length (line_values line)) (length (line_words line))
 
-abbrev enough : List ℕ → Bool
-enough line = leb (length (job_kinds (line_job line))) (length (line_words line))
+abbrev enough : Task → List ℕ → Bool
+enough t line = leb (length (job_kinds t)) (length (line_words line))
+
+-- a line that asks for job t
+module _ (line : List ℕ) (t : Task) (job : line_job line ≡ Some t) where
+  wrong_word : each line ≡ false → is_job line ≡ false
+  wrong_word e = rw (ap (λ (o : Option Task). is_whole o (line_values line) (line_words line)) job, e, and-false)
+
+  few_words : enough t line ≡ false → is_job line ≡ false
+  few_words e = rw (ap (λ (o : Option Task). is_whole o (line_values line) (line_words line)) job, e, and-false, and-false)
+
+  passes : short line ≡ true → each line ≡ true → enough t line ≡ true → is_job line ≡ true
+  passes p q r = rw (ap (λ (o : Option Task). is_whole o (line_values line) (line_words line)) job, p, q, r)
 
 module _ (line s out : List ℕ) where
   -- the answer to a line that is no job
   abbrev pub Answered : List ℕ → Type 0
   Answered t = (line_text line s out ≡ t) × (out ≡ line_out line s out) × (0 ≡ line_length line s out)
 
+  kept : {t : List ℕ} → line_text line s out ≡ t → (out ≡ line_out line s out) × (0 ≡ line_length line s out) → Answered t
+  kept e k = (e, k.0, k.1)
+
   pub answered : {t : List ℕ} → Answered t → (text text' : List ℕ) (r : ℕ) → (text' ≡ sets text 0 t) × (r ≡ length t)
       → ((text' ≡ sets text 0 (line_text line s out)) × (r ≡ length (line_text line s out))) × ((out ≡ line_out line s out) × (0 ≡ line_length line s out))
   answered a text text' r p = (text_as a.0 text text' r p, (a.1, a.2))
 
-  no_job_lem : (t : List ℕ) → is_job line ≡ false → pick (leb (length line) 65536) (pick (begun line) (no_job (line_job line) (length (line_values line) + 2)) (unnamed_text line)) (ascii "no job: over 65536 bytes\n") ≡ t → Answered t
-  unfolding line_text line_out line_length
-  no_job_lem t e p = (pick_false (is_job line) _ _ e ∙ p, sym (pick_false (is_job line && leb (line_job line) 4) _ _ (ap (λ (b : Bool). b && leb (line_job line) 4) e)), sym (pick_false (is_job line && leb (line_job line) 4) _ _ (ap (λ (b : Bool). b && leb (line_job line) 4) e)))
+  -- the file stays
+  stays : is_job line ≡ false → (out ≡ line_out line s out) × (0 ≡ line_length line s out)
+  unfolding line_out line_length
+  stays e = (sym (pick_false (is_job line) _ _ e), sym (pick_false (is_job line) _ _ e))
 
   pub too_long : 65536 < length line → Answered (ascii "no job: over 65536 bytes\n")
-  too_long h = let e = lt-leb (length line) 65536 h in no_job_lem _ (fails_first (short line) (begun line) (each line) (enough line) e) (pick_false _ _ _ e)
+  unfolding line_text
+  too_long h =
+      let e : short line ≡ false = lt-leb (length line) 65536 h in
+      kept (pick_false (short line) _ _ e) (stays (ap (λ (b : Bool). b && is_whole (line_job line) (line_values line) (line_words line)) e))
 
-  no_words : is_job line ≡ false → length line ≤ 65536 → 1 ≤ line_job line → Answered (no_job (line_job line) (length (line_values line) + 2))
-  no_words e h b = no_job_lem _ e (pick_true _ _ _ (le-leb (length line) 65536 h) ∙ pick_true _ _ _ (le-leb 1 (line_job line) b))
+  named_is : (o : Option Task) → length line ≤ 65536 → line_job line ≡ o → line_text line s out ≡ named_text o line s out
+  unfolding line_text
+  named_is o h e = pick_true (short line) _ _ (le-leb (length line) 65536 h) ∙ ap (λ (k : Option Task). named_text k line s out) e
+
+  no_name : length line ≤ 65536 → line_job line ≡ None → Answered (unnamed_text line)
+  no_name h e = kept (named_is None h e) (stays (ap (λ (o : Option Task). short line && is_whole o (line_values line) (line_words line)) e ∙ and-false (short line)))
+
+  no_words : (t : Task) → length line ≤ 65536 → line_job line ≡ Some t → is_job line ≡ false → Answered (no_job t (length (line_values line) + 2))
+  no_words t h e f = kept (named_is (Some t) h e ∙ pick_false (is_job line) _ _ f) (stays f)
 
 pub trim_is : (line : List ℕ) (r : ℕ) → take r line ≡ trimmed line → take (r - 0) line ≡ trimmed line
 trim_is line r e = let z : r - 0 ≡ r = omega arith in rw z e
 
--- a line of at most 65,536 bytes: its job j, and where its first word ends
-pub record Named (line l : List ℕ) (j end : ℕ) : Type 0 where
+-- a line of at most 65,536 bytes: the job of its name, and where its first word ends
+pub record Named (line l : List ℕ) (o : Option Task) (end : ℕ) : Type 0 where
   pub few : length line ≤ 65536
   pub trim : l ≡ trimmed line
-  pub job : j ≡ job_number (name (first_word (words l)))
+  pub job : o ≡ job_named (name (first_word (words l)))
   pub rest : words (drop end l) ≡ drop 1 (words l)
 
 -- the values of its words
-pub record Valued (line : List ℕ) (j n : ℕ) (all : Bool) (arr : List ℕ) : Type 0 where
+pub record Valued (line : List ℕ) (t : Task) (n : ℕ) (all : Bool) (arr : List ℕ) : Type 0 where
   pub few : length line ≤ 65536
-  pub job : j ≡ line_job line
-  pub some : 1 ≤ j
+  pub job : line_job line ≡ Some t
   pub count : n ≡ length (line_values line)
-  pub tells : all ≡ eqb (length (line_values line)) (length (line_words line))
+  pub tells : all ≡ each line
   pub held : arr ≡ sets (replicate 32768 0) 0 (line_values line)
 
-module _ {line l : List ℕ} {j end : ℕ} (r : Named line l j end) where
-  job_is : j ≡ line_job line
-  job_is = r.job ∙ ap (λ (t : List ℕ). job_number (name (first_word (words t)))) r.trim
+module _ {line l : List ℕ} {o : Option Task} {end : ℕ} (r : Named line l o end) where
+  job_is : o ≡ line_job line
+  job_is = r.job ∙ ap (λ (t : List ℕ). job_named (name (first_word (words t)))) r.trim
 
   words_are : words (drop end l) ≡ line_words line
   words_are = r.rest ∙ ap (λ (t : List ℕ). drop 1 (words t)) r.trim
 
-  pub no_name_line : (s out : List ℕ) → j ≡ 0 → Answered line s out (unnamed_text line)
-  no_name_line s out h =
-      let z : line_job line ≡ 0 = sym job_is ∙ h in
-      let b : begun line ≡ false = lt-leb 1 (line_job line) (omega arith) in
-      no_job_lem line s out _ (fails_second (short line) (begun line) (each line) (enough line) b) (pick_true _ _ _ (le-leb (length line) 65536 r.few) ∙ pick_false _ _ _ b)
+  pub no_name_line : (s out : List ℕ) → o ≡ None → Answered line s out (unnamed_text line)
+  no_name_line s out h = no_name line s out r.few (sym job_is ∙ h)
 
-  pub valued : (j ≡ 0 → ⊥) → (n : ℕ) (all : Bool) (arr : List ℕ)
-      → arr ≡ sets (replicate 32768 0) 0 (values (job_kinds j) (job_rest j) 0 (words (drop end l)))
-      → n ≡ length (values (job_kinds j) (job_rest j) 0 (words (drop end l)))
-      → all ≡ eqb (length (values (job_kinds j) (job_rest j) 0 (words (drop end l)))) (length (words (drop end l)))
-      → Valued line j n all arr
-  valued h n all arr a b t =
-      let v : values (job_kinds j) (job_rest j) 0 (words (drop end l)) ≡ line_values line = values_at j _ _ _ job_is words_are in
+  pub valued : (t : Task) → o ≡ Some t → (n : ℕ) (all : Bool) (arr : List ℕ)
+      → arr ≡ sets (replicate 32768 0) 0 (values (job_kinds t) (job_rest t) 0 (words (drop end l)))
+      → n ≡ length (values (job_kinds t) (job_rest t) 0 (words (drop end l)))
+      → all ≡ eqb (length (values (job_kinds t) (job_rest t) 0 (words (drop end l)))) (length (words (drop end l)))
+      → Valued line t n all arr
+  valued t h n all arr a b c =
+      let e : line_job line ≡ Some t = sym job_is ∙ h in
+      let v : values (job_kinds t) (job_rest t) 0 (words (drop end l)) ≡ line_values line = ap (λ (ws : List (List ℕ)). values (job_kinds t) (job_rest t) 0 ws) words_are ∙ sym (ap (λ (k : Option Task). named_values k (line_words line)) e) in
       record {
         few = r.few;
-        job = job_is;
-        some = omega arith;
+        job = e;
         count = b ∙ ap length v;
-        tells = t ∙ same_test v words_are;
+        tells = c ∙ same_test v words_are;
         held = a ∙ ap (sets (replicate 32768 0) 0) v;
       }
 
-module _ {line : List ℕ} {j n : ℕ} {all : Bool} {arr : List ℕ} (r : Valued line j n all arr) where
-  named : 1 ≤ line_job line
-  named = omega (arith, r.job, r.some)
+named_few : (o : Option Task) (ws : List (List ℕ)) → length (named_values o ws) ≤ length ws
+named_few None ws = omega arith
+named_few (Some t) ws = values_few (job_kinds t) (job_rest t) 0 ws
 
+module _ {line : List ℕ} {t : Task} {n : ℕ} {all : Bool} {arr : List ℕ} (r : Valued line t n all arr) where
   pub valued_few : n ≤ 32768
-  valued_few = omega (arith, r.count, values_few (job_kinds (line_job line)) (job_rest (line_job line)) 0 (line_words line), lines_few line r.few)
+  valued_few = omega (arith, r.count, named_few (line_job line) (line_words line), lines_few line r.few)
 
   pub valued_room : n ≤ length arr
   valued_room = omega (arith, valued_few, ap length r.held, length-sets (replicate 32768 0) 0 (line_values line), length-replicate {A = ℕ} 32768 0)
 
-  pub no_word_line : (s out : List ℕ) → not all ≡ true → Answered line s out (no_job j (n + 2))
-  no_word_line s out h =
-      let w = no_words line s out (fails_third (short line) (begun line) (each line) (enough line) (sym r.tells ∙ not-true all h)) r.few named in
-      rw (r.job, r.count) w
+  pub no_word_line : (s out : List ℕ) → not all ≡ true → Answered line s out (no_job t (n + 2))
+  no_word_line s out h = rw r.count (no_words line s out t r.few r.job (wrong_word line t r.job (sym r.tells ∙ not-true all h)))
 
   module _ (whole : not all ≡ false) where
     all_are : each line ≡ true
@@ -202,43 +178,39 @@ module _ {line : List ℕ} {j n : ℕ} {all : Bool} {arr : List ℕ} (r : Valued
     as_many : length (line_values line) ≡ length (line_words line)
     as_many = eqb-true _ _ all_are
 
-    pub missing_line : (s out : List ℕ) (k : ℕ) → k ≡ length (job_kinds j) → n < k → Answered line s out (no_job j (n + 2))
+    pub missing_line : (s out : List ℕ) (k : ℕ) → k ≡ length (job_kinds t) → n < k → Answered line s out (no_job t (n + 2))
     missing_line s out k e h =
-        let i : length (job_kinds (line_job line)) ≡ k = sym (e ∙ ap (λ (m : ℕ). length (job_kinds m)) r.job) in
-        let f : enough line ≡ false = lt-leb (length (job_kinds (line_job line))) (length (line_words line)) (omega (arith, as_many, r.count)) in
-        let w = no_words line s out (fails_fourth (short line) (begun line) (each line) (enough line) f) r.few named in
-        rw (r.job, r.count) w
+        let f : enough t line ≡ false = lt-leb (length (job_kinds t)) (length (line_words line)) (omega (arith, as_many, r.count)) in
+        rw r.count (no_words line s out t r.few r.job (few_words line t r.job f))
 
     part_is : take (n - 0) arr ≡ line_values line
     part_is =
         let z : n - 0 ≡ n = omega arith in
         rw (z, r.held) (take_sets (replicate 32768 0) (line_values line) n (sym r.count) (omega (arith, valued_few, length-replicate {A = ℕ} 32768 0)))
 
-    module _ (k : ℕ) (e : k ≡ length (job_kinds j)) (h : k ≤ n) where
+    module _ (k : ℕ) (e : k ≡ length (job_kinds t)) (h : k ≤ n) where
       is_job_lem : is_job line ≡ true
       is_job_lem =
-          let i : length (job_kinds (line_job line)) ≡ k = sym (e ∙ ap (λ (m : ℕ). length (job_kinds m)) r.job) in
-          passes (short line) (begun line) (each line) (enough line) (le-leb (length line) 65536 r.few) (le-leb 1 (line_job line) named) all_are
-          (le-leb (length (job_kinds (line_job line))) (length (line_words line)) (omega (arith, as_many, r.count)))
+          passes line t r.job (le-leb (length line) 65536 r.few) all_are
+          (le-leb (length (job_kinds t)) (length (line_words line)) (omega (arith, as_many, r.count)))
 
-      pub job_fits : (length (job_kinds j) ≤ length (take (n - 0) arr)) × (length (take (n - 0) arr) ≤ 32768)
+      pub job_fits : (length (job_kinds t) ≤ length (take (n - 0) arr)) × (length (take (n - 0) arr) ≤ 32768)
       job_fits = rw part_is (omega (arith, r.count), omega (arith, r.count, valued_few))
 
       module _ (s out : List ℕ) where
-        job_text_lem : line_text line s out ≡ job_text j (take (n - 0) arr) s out
-        unfolding line_text
-        job_text_lem = pick_true (is_job line) _ _ is_job_lem ∙ rw (part_is, r.job)
+        job_text_lem : line_text line s out ≡ job_text t (take (n - 0) arr) s out
+        job_text_lem = named_is line s out (Some t) r.few r.job ∙ pick_true (is_job line) _ _ is_job_lem ∙ ap (λ (vs : List ℕ). job_text t vs s out) (sym part_is)
 
-        job_out_lem : pick (leb j 4) (shell_out j (take (n - 0) arr) s out) out ≡ line_out line s out
+        job_out_lem : job_out t (take (n - 0) arr) s out ≡ line_out line s out
         unfolding line_out
-        job_out_lem = rw (part_is, r.job, is_job_lem)
+        job_out_lem = ap (λ (vs : List ℕ). job_out t vs s out) part_is ∙ sym (pick_true (is_job line) _ _ is_job_lem ∙ ap (λ (o : Option Task). named_out o (line_values line) s out) r.job)
 
-        job_length : pick (leb j 4) (shell_answer j (take (n - 0) arr) s out).third 0 ≡ line_length line s out
+        job_length_lem : job_length t (take (n - 0) arr) s out ≡ line_length line s out
         unfolding line_length
-        job_length = rw (part_is, r.job, is_job_lem)
+        job_length_lem = ap (λ (vs : List ℕ). job_length t vs s out) part_is ∙ sym (pick_true (is_job line) _ _ is_job_lem ∙ ap (λ (o : Option Task). named_length o (line_values line) s out) r.job)
 
-        pub job_whole : (text text' o : List ℕ) (t f : ℕ)
+        pub job_whole : (text text' o : List ℕ) (m f : ℕ)
             → (let vs = take (n - 0) arr in
-            ((text' ≡ sets text 0 (job_text j vs s out)) × (t ≡ length (job_text j vs s out))) × ((o ≡ pick (leb j 4) (shell_out j vs s out) out) × (f ≡ pick (leb j 4) (shell_answer j vs s out).third 0)))
-            → ((text' ≡ sets text 0 (line_text line s out)) × (t ≡ length (line_text line s out))) × ((o ≡ line_out line s out) × (f ≡ line_length line s out))
-        job_whole text text' o t f p = (text_as job_text_lem text text' t p.0, (p.1.0 ∙ job_out_lem, p.1.1 ∙ job_length))
+            ((text' ≡ sets text 0 (job_text t vs s out)) × (m ≡ length (job_text t vs s out))) × ((o ≡ job_out t vs s out) × (f ≡ job_length t vs s out)))
+            → ((text' ≡ sets text 0 (line_text line s out)) × (m ≡ length (line_text line s out))) × ((o ≡ line_out line s out) × (f ≡ line_length line s out))
+        job_whole text text' o m f p = (text_as job_text_lem text text' m p.0, (p.1.0 ∙ job_out_lem, p.1.1 ∙ job_length_lem))

@@ -6,7 +6,6 @@ use mathlib.Core.Path.{◌≡◌}
 use lib.Dec.{eqb}
 use lib.ListN.{length, take}
 use borrow.Author.Tests.{le-leb, lt-leb}
-use Rattle.job_lines.specs.JobLines.{no_job}
 use Rattle.output.specs.Text.{ascii}
 use Rattle.text.specs.Tokens.{name, name_after}
 use Rattle.jobs.specs.Jobs.{has_mark, unnamed_text}
@@ -24,6 +23,6 @@ module _ (l : List ℕ) where
   unfolding unnamed_text
   unnamed_marked b p e = rw (← p, e)
 
-  pub unnamed_other : (b : Bool) → b ≡ has_mark l → b ≡ false → unnamed_text l ≡ no_job 0 2
+  pub unnamed_other : (b : Bool) → b ≡ has_mark l → b ≡ false → unnamed_text l ≡ ascii "no job: begin with cut, remove, concat, point, add, cutface or glue\n"
   unfolding unnamed_text
   unnamed_other b p e = rw (← p, e)

@@ -9,6 +9,8 @@ use Rattle.answer_lines.specs.AnswerLines.{refused_text}
 use Rattle.answers.specs.declared.Answer.{Answer}
 use Rattle.job_edits.specs.JobEdits.{face_answer, face_wires}
 use Rattle.job_lines.specs.JobLines.{done_text, new_text}
+use Rattle.job_lines.specs.declared.FaceTask.{FaceTask}
+use Rattle.job_lines.specs.declared.ShellTask.{ShellTask}
 use Rattle.jobs.specs.Jobs.{answer_text, face_text, shell_text}
 
 module _ (a : Answer) (done : List ℕ) where
@@ -18,23 +20,23 @@ module _ (a : Answer) (done : List ℕ) where
   pub answer_done : a.outcome ≡ 0 → answer_text a done ≡ done
   answer_done e = rw e
 
-pub shell_refused : (j : ℕ) (a b : Answer) → a ≡ b → (a.outcome ≡ 0 → ⊥) → shell_text j b ≡ refused_text a.outcome a.number a.first a.second
+pub shell_refused : (t : ShellTask) (a b : Answer) → a ≡ b → (a.outcome ≡ 0 → ⊥) → shell_text t b ≡ refused_text a.outcome a.number a.first a.second
 unfolding shell_text
-shell_refused j a b is e = ap (shell_text j) (sym is) ∙ answer_refused a _ e
+shell_refused t a b is e = ap (shell_text t) (sym is) ∙ answer_refused a _ e
 
-pub shell_done : (j : ℕ) (a b : Answer) → a ≡ b → a.outcome ≡ 0 → shell_text j b ≡ new_text j a.first a.second
+pub shell_done : (t : ShellTask) (a b : Answer) → a ≡ b → a.outcome ≡ 0 → shell_text t b ≡ new_text t a.first a.second
 unfolding shell_text
-shell_done j a b is e = ap (shell_text j) (sym is) ∙ answer_done a _ e
+shell_done t a b is e = ap (shell_text t) (sym is) ∙ answer_done a _ e
 
 -- a text that is another by its definition
 pub text_as : {xs ys : List ℕ} → ys ≡ xs → (text text' : List ℕ) (r : ℕ) → (text' ≡ sets text 0 xs) × (r ≡ length xs) → (text' ≡ sets text 0 ys) × (r ≡ length ys)
 text_as e text text' r p = rw e p
 
-module _ (j : ℕ) (vs s : List ℕ) (a : Answer) (is : a ≡ face_answer j vs s) where
-  pub face_refused : (a.outcome ≡ 0 → ⊥) → face_text (face_answer j vs s) (face_wires j vs s) ≡ refused_text a.outcome a.number a.first a.second
+module _ (t : FaceTask) (vs s : List ℕ) (a : Answer) (is : a ≡ face_answer t vs s) where
+  pub face_refused : (a.outcome ≡ 0 → ⊥) → face_text (face_answer t vs s) (face_wires t vs s) ≡ refused_text a.outcome a.number a.first a.second
   unfolding face_text
-  face_refused e = rw (← is) (answer_refused a (done_text (face_wires j vs s)) e)
+  face_refused e = rw (← is) (answer_refused a (done_text (face_wires t vs s)) e)
 
-  pub face_done : a.outcome ≡ 0 → {ws : List (List ℕ)} → ws ≡ face_wires j vs s → face_text (face_answer j vs s) (face_wires j vs s) ≡ done_text ws
+  pub face_done : a.outcome ≡ 0 → {ws : List (List ℕ)} → ws ≡ face_wires t vs s → face_text (face_answer t vs s) (face_wires t vs s) ≡ done_text ws
   unfolding face_text
-  face_done e p = rw (← is, p) (answer_done a (done_text (face_wires j vs s)) e)
+  face_done e p = rw (← is, p) (answer_done a (done_text (face_wires t vs s)) e)

@@ -1,28 +1,30 @@
 // The jobs of the program `edit`: a line of text is applied to a pattern file in memory.
 #![tactic(auto)]
 
-ghost use Rattle.std.specs.Prelude.{◌≡◌, ◌≤◌, leb, length};
+ghost use Rattle.std.specs.Prelude.{◌≡◌, ◌≤◌, length};
 ghost use Rattle.std.proofs.lemmas.List.Edits.{sets};
-ghost use Rattle.lists.specs.Lists.{pick};
 ghost use Rattle.job_lines.specs.JobLines.{job_kinds};
+ghost use Rattle.job_lines.specs.declared.Task.TheVariants.{Face, Shell};
 ghost use Rattle.job_edits.specs.JobEdits.{face_answer, face_wires, shell_answer, shell_out};
-ghost use Rattle.jobs.specs.Jobs.{face_text, has_mark, job_text, line_length, line_out, line_text, shell_text, unnamed_text};
+ghost use Rattle.jobs.specs.Jobs.{face_text, has_mark, job_length, job_out, job_text, line_length, line_out, line_text, shell_text, unnamed_text};
 
 use answer_lines::put_refused;
 use job_edits::{face_job, shell_job};
-use job_lines::{first_of, match_job, needed, put_done, put_new, put_no_job};
+use job_lines::{
+    FaceTask, ShellTask, Task, first_of, match_job, needed, put_done, put_new, put_no_job,
+};
 use output::put_text;
 use pattern::LONGEST;
 use text::{name_of, trimmed_length};
 
-// Applies job j, an edit of a face, and writes its answer; returns the length of the answer.
-fn do_face_job(j: usize, v: &[u64], file: &[u8], text: &mut [u8]) -> usize
-    requires { (5 ≤ j) × (j ≤ 7) × (length (job_kinds j) ≤ length v.now) × (length v.now ≤ 32768) × (65536 ≤ length text.old) }
-    ensures { (text.new ≡ sets text.old 0 (face_text (face_answer j v.now file.now) (face_wires j v.now file.now))) × (result ≡ length (face_text (face_answer j v.now file.now) (face_wires j v.now file.now))) }
+// Applies an edit of a face, and writes its answer; returns the length of the answer.
+fn do_face_job(task: FaceTask, v: &[u64], file: &[u8], text: &mut [u8]) -> usize
+    requires { (length (job_kinds (Face task)) ≤ length v.now) × (length v.now ≤ 32768) × (65536 ≤ length text.old) }
+    ensures { (text.new ≡ sets text.old 0 (face_text (face_answer task v.now file.now) (face_wires task v.now file.now))) × (result ≡ length (face_text (face_answer task v.now file.now) (face_wires task v.now file.now))) }
 {
     let mut uses = [0u16; 4096];
     let mut lens = [0u16; 4096];
-    let a = face_job(j, v, file, &mut uses, &mut lens);
+    let a = face_job(task, v, file, &mut uses, &mut lens);
     if a.outcome != 0 {
         return put_refused(text, a.outcome, a.number, a.first, a.second);
     }
@@ -39,13 +41,13 @@ pub struct Job {
     pub file: usize,
 }
 
-// Applies job j, an edit that makes a file, and writes its answer.
-fn do_shell_job(j: usize, v: &[u64], file: &[u8], out: &mut [u8], text: &mut [u8]) -> Job
-    requires { (1 ≤ j) × (j ≤ 4) × (length (job_kinds j) ≤ length v.now) × (96 ≤ length text.old) }
-    ensures text_after { (text.new ≡ sets text.old 0 (shell_text j (shell_answer j v.now file.now out.old))) × (result.text ≡ length (shell_text j (shell_answer j v.now file.now out.old))) }
-    ensures out_after { (out.new ≡ shell_out j v.now file.now out.old) × (result.file ≡ (shell_answer j v.now file.now out.old).third) }
+// Applies an edit that makes a file, and writes its answer.
+fn do_shell_job(task: ShellTask, v: &[u64], file: &[u8], out: &mut [u8], text: &mut [u8]) -> Job
+    requires { (length (job_kinds (Shell task)) ≤ length v.now) × (96 ≤ length text.old) }
+    ensures text_after { (text.new ≡ sets text.old 0 (shell_text task (shell_answer task v.now file.now out.old))) × (result.text ≡ length (shell_text task (shell_answer task v.now file.now out.old))) }
+    ensures out_after { (out.new ≡ shell_out task v.now file.now out.old) × (result.file ≡ (shell_answer task v.now file.now out.old).third) }
 {
-    let made = shell_job(j, v, file, out);
+    let made = shell_job(task, v, file, out);
     if made.outcome != 0 {
         return Job {
             text: put_refused(text, made.outcome, made.number, made.first, made.second),
@@ -53,23 +55,23 @@ fn do_shell_job(j: usize, v: &[u64], file: &[u8], out: &mut [u8], text: &mut [u8
         };
     }
     Job {
-        text: put_new(text, j, made.first, made.second),
+        text: put_new(text, task, made.first, made.second),
         file: made.third,
     }
 }
 
-// Applies job j with these values, and writes its answer.
-fn do_job(j: usize, v: &[u64], file: &[u8], out: &mut [u8], text: &mut [u8]) -> Job
-    requires { (1 ≤ j) × (j ≤ 7) × (length (job_kinds j) ≤ length v.now) × (length v.now ≤ 32768) × (65536 ≤ length text.old) }
-    ensures text_after { (text.new ≡ sets text.old 0 (job_text j v.now file.now out.old)) × (result.text ≡ length (job_text j v.now file.now out.old)) }
-    ensures out_after { (out.new ≡ pick (leb j 4) (shell_out j v.now file.now out.old) out.old) × (result.file ≡ pick (leb j 4) (shell_answer j v.now file.now out.old).third 0) }
+// Applies a job with these values, and writes its answer.
+fn do_job(task: Task, v: &[u64], file: &[u8], out: &mut [u8], text: &mut [u8]) -> Job
+    requires { (length (job_kinds task) ≤ length v.now) × (length v.now ≤ 32768) × (65536 ≤ length text.old) }
+    ensures text_after { (text.new ≡ sets text.old 0 (job_text task v.now file.now out.old)) × (result.text ≡ length (job_text task v.now file.now out.old)) }
+    ensures out_after { (out.new ≡ job_out task v.now file.now out.old) × (result.file ≡ job_length task v.now file.now out.old) }
 {
-    if j <= 4 {
-        return do_shell_job(j, v, file, out, text);
-    }
-    Job {
-        text: do_face_job(j, v, file, text),
-        file: 0,
+    match task {
+        Task::Shell(t) => do_shell_job(t, v, file, out, text),
+        Task::Face(t) => Job {
+            text: do_face_job(t, v, file, text),
+            file: 0,
+        },
     }
 }
 
@@ -95,7 +97,11 @@ fn put_unnamed(line: &[u8], text: &mut [u8]) -> usize
             b"no job: begins with a byte order mark: save the jobs as UTF-8 without one\n",
         );
     }
-    put_no_job(text, 0, 2)
+    put_text(
+        text,
+        0,
+        b"no job: begin with cut, remove, concat, point, add, cutface or glue\n",
+    )
 }
 
 // Applies the job that a line of text asks for to a file: `out` takes the edited file, `text` the line of
@@ -113,30 +119,28 @@ fn apply(line: &[u8], file: &[u8], out: &mut [u8], text: &mut [u8; 65536]) -> Jo
     let length = trimmed_length(line);
     let l = &line[0..length];
     let first = first_of(l);
-    let j = first.job;
-    let end = first.end;
-    if j == 0 {
+    let Some(task) = first.task else {
         return Job {
             text: put_unnamed(line, text),
             file: 0,
         };
-    }
+    };
     let mut values = [0u64; 32768];
-    let m = match_job(j, l, end, &mut values);
+    let m = match_job(task, l, first.end, &mut values);
     let n = m.words;
     if !m.all {
         return Job {
-            text: put_no_job(text, j, n + 2),
+            text: put_no_job(text, task, n + 2),
             file: 0,
         };
     }
-    if n < needed(j) {
+    if n < needed(task) {
         return Job {
-            text: put_no_job(text, j, n + 2),
+            text: put_no_job(text, task, n + 2),
             file: 0,
         };
     }
-    do_job(j, &values[0..n], file, out, text)
+    do_job(task, &values[0..n], file, out, text)
 }
 
 // The same, with room for the longest file.

@@ -19,18 +19,12 @@ pub struct Input {
     ended: bool,
 }
 
-// The next line, without its line feed: from where to where it is in the buffer. Or the input has ended.
-#[derive(Clone, Copy)]
-pub enum Fed {
-    Line(usize, usize),
-    Ended,
-}
-
-// The same, and what is left of the input.
+// The next line, without its line feed: from where to where it is in the buffer; none where the input has ended.
+// And what is left of the input.
 #[derive(Clone, Copy)]
 pub struct Got {
     pub input: Input,
-    pub fed: Fed,
+    pub line: Option<(usize, usize)>,
 }
 
 impl Input {
@@ -79,7 +73,7 @@ fn is_ready(left: Input, end: usize) -> bool
 // without line feed belongs to it.
 fn hand_out(left: Input, end: usize) -> Got
     requires { (left.from ≤ end) × (end ≤ left.to) × (left.to ≤ 65537) }
-    ensures { Inside 65537 result.fed }
+    ensures { Inside 65537 result.line }
 {
     let from = left.from;
     let to = left.to;
@@ -87,27 +81,27 @@ fn hand_out(left: Input, end: usize) -> Got
         return Got {
             input: Input {
                 from: end + 1,
-                to: to,
+                to,
                 passing: false,
                 ended: left.ended,
             },
-            fed: Fed::Line(from, end),
+            line: Some((from, end)),
         };
     }
     if from == to {
         return Got {
             input: left,
-            fed: Fed::Ended,
+            line: None,
         };
     }
     Got {
         input: Input {
             from: to,
-            to: to,
+            to,
             passing: true,
             ended: left.ended,
         },
-        fed: Fed::Line(from, to),
+        line: Some((from, to)),
     }
 }
 
@@ -115,10 +109,8 @@ fn hand_out(left: Input, end: usize) -> Got
 fn shift(buffer: &mut [u8; 65537], from: usize, to: usize)
     requires { to ≤ 65537 }
 {
-    let mut i = from;
-    while i < to {
-        buffer[i - from] = buffer[i];
-        i += 1;
+    if from < to {
+        buffer.copy_within(from..to, 0);
     }
 }
 
@@ -177,12 +169,10 @@ fn refill(rt: &HostRuntime, name: &[u8], buffer: &mut [u8; 65537], left: Input) 
 // at the end of the input a rest that is not empty is a line. Where a read fails, says why on standard error,
 // after `name`, and the input has ended.
 pub fn next_line(rt: &HostRuntime, name: &[u8], buffer: &mut [u8; 65537], input: Input) -> Got
-    ensures { Inside 65537 result.fed }
+    ensures { Inside 65537 result.line }
 {
     let mut left = fitting(input);
-    let mut turns: u64 = 18446744073709551615;
-    while turns > 0 {
-        turns -= 1;
+    for _ in 0..u64::MAX {
         let end = find(buffer, left.from, left.to);
         if is_ready(left, end) {
             return hand_out(left, end);
@@ -191,7 +181,7 @@ pub fn next_line(rt: &HostRuntime, name: &[u8], buffer: &mut [u8; 65537], input:
     }
     Got {
         input: left,
-        fed: Fed::Ended,
+        line: None,
     }
 }
 

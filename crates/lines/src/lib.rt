@@ -49,10 +49,8 @@ pub fn put_items(out: &mut [u8], at: usize, us: &[u16]) -> usize
     ensures { (out.new ≡ sets out.old at (flat (map item us.now))) × (result ≡ at + length (flat (map item us.now))) }
 {
     let mut end = at;
-    let mut i: usize = 0;
-    while i < us.len() {
-        end = put_item(out, end, us[i]);
-        i += 1;
+    for u in us {
+        end = put_item(out, end, *u);
     }
     end
 }
@@ -75,12 +73,10 @@ fn put_lines(out: &mut [u8], at: usize, word: &[u8], items: &[u16], lens: &[u16]
 {
     let mut end = at;
     let mut start: usize = 0;
-    let mut k: usize = 0;
-    while k < lens.len() {
-        let n = index(lens[k]);
+    for len in lens {
+        let n = index(*len);
         end = put_line(out, end, word, &items[start..start + n]);
         start += n;
-        k += 1;
     }
     end
 }
@@ -101,10 +97,8 @@ fn put_numbers(out: &mut [u8], at: usize, word: &[u8], points: &[u16]) -> usize
     ensures { (out.new ≡ sets out.old at (word_numbers word.now points.now)) × (result ≡ at + length (word_numbers word.now points.now)) }
 {
     let mut end = at;
-    let mut j: usize = 0;
-    while j < points.len() {
-        end = put_number(out, end, word, index(points[j]));
-        j += 1;
+    for point in points {
+        end = put_number(out, end, word, index(*point));
     }
     end
 }
@@ -114,13 +108,13 @@ fn put_condition(out: &mut [u8], at: usize, condition: Condition) -> usize
     requires { at + 20 ≤ length out.old }
     ensures { (out.new ≡ sets out.old at (condition_line condition.0)) × (result ≡ at + length (condition_line condition.0)) }
 {
-    if condition.is(Condition::IRREGULAR) {
+    if condition == Condition::IRREGULAR {
         return put_text(out, at, b"condition Irregular\n");
     }
-    if condition.is(Condition::REGULAR) {
+    if condition == Condition::REGULAR {
         return put_text(out, at, b"condition Regular\n");
     }
-    if condition.is(Condition::ORIENTED) {
+    if condition == Condition::ORIENTED {
         return put_text(out, at, b"condition Oriented\n");
     }
     put_text(out, at, b"condition Closed\n")

@@ -26,10 +26,8 @@ pub fn put_turned(out: &mut [u16], at: usize, wire: &[u16])
     requires { at + length wire.now ≤ length out.old }
     ensures { out.new ≡ sets out.old at (map turned (reverse wire.now)) }
 {
-    let mut i: usize = 0;
-    while i < wire.len() {
+    for i in 0..wire.len() {
         out[at + i] = turn(wire[wire.len() - 1 - i]);
-        i += 1;
     }
 }
 
@@ -39,12 +37,10 @@ pub fn put_turned_uses(uses: &[u16], wires: &[u16], out: &mut [u16])
     ensures { out.new ≡ padded 4096 0 (turned_uses wires.now uses.now) }
 {
     let mut at: usize = 0;
-    let mut k: usize = 0;
-    while k < wires.len() {
-        let n = index(wires[k]);
+    for &n in wires {
+        let n = index(n);
         put_turned(out, at, &uses[at..at + n]);
         at += n;
-        k += 1;
     }
 }
 
@@ -56,13 +52,11 @@ pub fn put_face_starts(wires: &[u16], counts: &[u16], n: usize, out: &mut [usize
 {
     let mut at: usize = 0;
     let mut start: usize = 0;
-    let mut k: usize = 0;
-    while k < n {
+    for k in 0..n {
         out[k] = start;
         let m = index(counts[k]);
         start += sum_of(&wires[at..at + m], m);
         at += m;
-        k += 1;
     }
     out[n] = start;
 }

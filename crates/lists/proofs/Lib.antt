@@ -6,3 +6,4 @@ pub mod Split
 pub mod Count
 pub mod Alike
 pub mod Parts
+pub mod Options

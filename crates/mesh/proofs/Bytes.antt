@@ -1,4 +1,5 @@
 -- A byte of a line, and the end of a line: what comes of the line stays the same.
+use Rattle.std.specs.Prelude.{Err, Ok, Result}
 use Prim.Native.Nat.{suc, ℕ}
 use mathlib.Core.Bool.{Bool, false, true}
 use mathlib.Core.List.{List, [], ◌∷◌}
@@ -15,16 +16,15 @@ use Rattle.mesh.specs.Mesh.{Mesh, line_faults, line_mesh, sides}
 use Rattle.mesh.specs.Reading.{Drawing, State, byte, close_face, end_line, end_word, next_line, release, start}
 use Rattle.mesh.specs.declared.LineFault.{LineFault}
 use Rattle.mesh.specs.declared.LineFault.TheVariants.{TooFew}
-use Rattle.mesh.proofs.Phases.{Live, Phase, Result, Settled, ahead, fault_place, inked, parted, shape, state}
+use Rattle.mesh.proofs.Phases.{Live, Phase, Settled, ahead, fault_place, inked, parted, shape, state}
 use Rattle.mesh.proofs.Phases.Phase.{face, idle, key, past, stopped, within}
-use Rattle.mesh.proofs.Phases.Result.{bad, good}
 use Rattle.mesh.proofs.Words.{trimmed_more, trimmed_past}
 use Rattle.mesh.proofs.Words.Break.{blank, over}
 
 -- ---- a carriage return that is held back
 
 -- what comes of the line if these bytes are left of it, up to its line feed
-abbrev pub ahead_of : ℕ → Bool → Phase → List ℕ → Result
+abbrev pub ahead_of : ℕ → Bool → Phase → List ℕ → Result Mesh LineFault
 ahead_of n h p t = ahead n p (trimmed (pick h (13 ∷ t) t))
 
 -- the place once it is a byte of a word
@@ -103,9 +103,9 @@ byte_read n h b (stopped g m d w s) f = record { to = stopped g m d w s; held = 
 -- ---- the end of a line
 
 -- the next line begins, or this one is refused
-pub data Ended (n : ℕ) (h : Bool) (st : State) (r : Result) : Type 0 where
-  next : (m : Mesh) → st ≡ start (suc n) m → r ≡ good m → Ended n h st r
-  stop : (f : LineFault) (m : Mesh) (d : Drawing) (w : List ℕ) (s : Bool) → st ≡ state n h (stopped f m d w s) → r ≡ bad f → Ended n h st r
+pub data Ended (n : ℕ) (h : Bool) (st : State) (r : Result Mesh LineFault) : Type 0 where
+  next : (m : Mesh) → st ≡ start (suc n) m → r ≡ Ok m → Ended n h st r
+  stop : (f : LineFault) (m : Mesh) (d : Drawing) (w : List ℕ) (s : Bool) → st ≡ state n h (stopped f m d w s) → r ≡ Err f → Ended n h st r
 
 settled_end : (n : ℕ) (h : Bool) (p : Phase) → Settled p → Ended n h (next_line (state n h p)) (ahead n p [])
 unfolding next_line words line_faults line_mesh close_face flat sides

@@ -1,4 +1,5 @@
 -- The places of a line while its bytes are read, and what comes of the line from each of them.
+use Rattle.std.specs.Prelude.{Err, Ok, Result}
 use Prim.Native.Nat.{◌+◌, suc, ℕ}
 use mathlib.Core.Bool.{Bool, ◌||◌, and-false, false, true}
 use mathlib.Core.List.{List, [], ◌++◌, ◌∷◌, append_assoc, map}
@@ -15,23 +16,17 @@ use Rattle.lists.specs.Lists.{flat, pick, unless}
 use Rattle.text.specs.Text.{words}
 use Rattle.mesh.specs.Mesh.{Mesh, corner, corner_faults, fault_number, is_slash, letter, line_faults, line_mesh, numbered, point_of, side, sides, with_face, with_point}
 use Rattle.mesh.specs.Reading.{Drawing, State, corner_at, drawn, end_word, holding, ink, keyed, moved, no_drawing, side_to, spelled, start, with_sides}
-use Rattle.mesh.specs.declared.Corner.{Corner}
-use Rattle.mesh.specs.declared.Corner.TheVariants.{At, Not}
 use Rattle.mesh.specs.declared.LineFault.{LineFault}
 use Rattle.mesh.specs.declared.LineFault.TheVariants.{NotGiven, NotNumber, TooFew}
 use Rattle.mesh.proofs.Words.{Break, Ink, Spelled, spelled_all, spelled_next, spelled_none, words_break, words_word}
 
 -- ---- what comes of a line
 
-pub data Result : Type 0 where
-  good : Mesh → Result
-  bad : LineFault → Result
+abbrev pub result : List LineFault → Mesh → Result Mesh LineFault
+result [] m = Ok m
+result (f ∷ fs) m = Err f
 
-abbrev pub result : List LineFault → Mesh → Result
-result [] m = good m
-result (f ∷ fs) m = bad f
-
-abbrev pub line_result : ℕ → Mesh → List (List ℕ) → Result
+abbrev pub line_result : ℕ → Mesh → List (List ℕ) → Result Mesh LineFault
 line_result n m ws = result (line_faults (length m.points) ws) (line_mesh n m ws)
 
 -- the mesh once the face goes on to these points
@@ -41,7 +36,7 @@ face_mesh m d ps =
     pick (eqb d.corners 0) (with_face m ps) (record { points = m.points; edges = e.edges; wires = m.wires ++ (e.uses ∷ []) })
 
 -- the rest of an `f` has these words
-abbrev pub face_result : Mesh → Drawing → List (List ℕ) → Result
+abbrev pub face_result : Mesh → Drawing → List (List ℕ) → Result Mesh LineFault
 face_result m d ws =
     let given = length m.points in
     result
@@ -74,13 +69,13 @@ abbrev pub state : ℕ → Bool → Phase → State
 state n h p = holding h (shape n p)
 
 -- what comes of the line if these bytes are left of it
-abbrev pub ahead : ℕ → Phase → List ℕ → Result
+abbrev pub ahead : ℕ → Phase → List ℕ → Result Mesh LineFault
 ahead n (idle m) u = line_result n m (words u)
 ahead n (key m b w i) u = line_result n m (words (b ∷ (w ++ u)))
-ahead n (past m w) u = good m
+ahead n (past m w) u = Ok m
 ahead n (face m d w s) u = face_result m d (words u)
 ahead n (within m d b w v s i e) u = face_result m d (words (b ∷ (w ++ u)))
-ahead n (stopped f m d w s) u = bad f
+ahead n (stopped f m d w s) u = Err f
 
 -- a byte of a word can follow
 abbrev pub Live : Phase → Type 0
@@ -188,11 +183,11 @@ parted_key n h m b w i =
 
 -- a word of an `f`
 module _ (m : Mesh) (d : Drawing) (w : List ℕ) (ws : List (List ℕ)) where
-  face_not : (f : LineFault) → corner (length m.points) w ≡ Not f → face_result m d (w ∷ ws) ≡ bad f
+  face_not : (f : LineFault) → corner (length m.points) w ≡ Err f → face_result m d (w ∷ ws) ≡ Err f
   unfolding flat
   face_not f e = rw e
 
-  module _ (p : ℕ) (e : corner (length m.points) w ≡ At p) where
+  module _ (p : ℕ) (e : corner (length m.points) w ≡ Ok p) where
     face_first : eqb d.corners 0 ≡ true → face_result m d (w ∷ ws) ≡ face_result m (record { corners = 1; first = p; last = p; uses = [] }) ws
     unfolding flat sides
     face_first z =
@@ -213,17 +208,17 @@ parted_within : (n : ℕ) (h : Bool) (m : Mesh) (d : Drawing) (b : ℕ) (w v : L
 unfolding end_word corner_at side_to
 parted_within n h m d b w v s i e = at (numbered (length m.points) v) refl
   where
-    at : (c : Corner) → numbered (length m.points) v ≡ c → Parted n h (within m d b w v s i e)
-    at (Not f) k =
-        let is : corner (length m.points) (b ∷ w) ≡ Not f = ap (numbered (length m.points)) (spelled_all (b ∷ w) v s e) ∙ k in
+    at : (c : Result ℕ LineFault) → numbered (length m.points) v ≡ c → Parted n h (within m d b w v s i e)
+    at (Err f) k =
+        let is : corner (length m.points) (b ∷ w) ≡ Err f = ap (numbered (length m.points)) (spelled_all (b ∷ w) v s e) ∙ k in
         record {
           to = stopped f m d v s;
           settled = tt;
           is = rw k;
           same = λ y u x. ap (face_result m d) (words_word b w i x) ∙ face_not m d (b ∷ w) (words u) f is;
         }
-    at (At p) k =
-        let is : corner (length m.points) (b ∷ w) ≡ At p = ap (numbered (length m.points)) (spelled_all (b ∷ w) v s e) ∙ k in
+    at (Ok p) k =
+        let is : corner (length m.points) (b ∷ w) ≡ Ok p = ap (numbered (length m.points)) (spelled_all (b ∷ w) v s e) ∙ k in
         let t = side (record { edges = m.edges; uses = d.uses }) d.last p in
         ⊎_elim
         (λ (z : eqb d.corners 0 ≡ true). record {

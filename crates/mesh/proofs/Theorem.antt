@@ -1,4 +1,5 @@
 -- The bytes of a mesh in turn: its first fault, and the mesh where there is none.
+use Rattle.std.specs.Prelude.{Err, Ok, Result}
 use Prim.Native.Nat.{◌%◌, ◌<◌, suc, ℕ}
 use mathlib.Core.Bool.{Bool, false, true}
 use mathlib.Core.List.{List, [], ◌++◌, ◌∷◌, map}
@@ -8,21 +9,22 @@ use native.Mathlib.Omega.{arith}
 use lib.Dec.{eqb, leb}
 use lib.ListN.{drop, length, take}
 use borrow.Author.Tests.{leb-true}
+use Rattle.errors.specs.declared.CallError.{CallError}
+use Rattle.errors.specs.declared.CallError.TheVariants.{Refused}
 use Rattle.lists.proofs.Laws.{cases}
 use Rattle.lists.specs.Lists.{pick}
 use Rattle.text.proofs.Words.{fed_next}
 use Rattle.text.specs.Text.{before, fed, is_feed, lines, words}
 use Rattle.mesh.specs.Mesh.{Mesh, fault_number, line_faults, line_mesh, lines_faults, lines_mesh, no_mesh}
 use Rattle.mesh.specs.Reading.{State, byte, end_line, end_word, fault_at, next_line, no_drawing, read_bytes, reading, refused_at, start}
-use Rattle.mesh.specs.declared.Imported.{Imported}
-use Rattle.mesh.specs.declared.Imported.TheVariants.{Line}
 use Rattle.mesh.specs.declared.LineFault.{LineFault}
 use Rattle.mesh.specs.declared.LineFault.TheVariants.{NotGiven, NotNumber, TooFew}
+use Rattle.mesh.specs.declared.MeshError.{MeshError}
+use Rattle.mesh.specs.declared.MeshError.TheVariants.{Line}
 use Rattle.mesh.proofs.Bytes.{Ended, ahead_of, byte_read, ended, feed_read}
 use Rattle.mesh.proofs.Bytes.Ended.{next, stop}
-use Rattle.mesh.proofs.Phases.{Phase, Result, fault_place, line_result, result, state}
+use Rattle.mesh.proofs.Phases.{Phase, fault_place, line_result, result, state}
 use Rattle.mesh.proofs.Phases.Phase.{idle, stopped}
-use Rattle.mesh.proofs.Phases.Result.{bad, good}
 
 -- in pieces
 pub pieces : (a b : List ℕ) (st : State) → read_bytes (a ++ b) st ≡ read_bytes b (read_bytes a st)
@@ -37,9 +39,9 @@ data Outcome : Type 0 where
   refused : LineFault → ℕ → Outcome
 
 -- line n came to this, and the rest to that
-abbrev onward : ℕ → Result → (Mesh → Outcome) → Outcome
-onward n (good m) rest = rest m
-onward n (bad f) rest = refused f n
+abbrev onward : ℕ → Result Mesh LineFault → (Mesh → Outcome) → Outcome
+onward n (Ok m) rest = rest m
+onward n (Err f) rest = refused f n
 
 outcome : ℕ → Mesh → List (List ℕ) → Outcome
 outcome n m [] = finished m
@@ -49,12 +51,12 @@ outcome n m (l ∷ ls) = onward n (line_result n m (words l)) (λ (k : Mesh). ou
 abbrev outcome_of : State → Outcome
 outcome_of st = pick (leb 30 st.place) (refused (fault_at st.place) st.line) (finished st.mesh)
 
-abbrev faults_of : Outcome → List Imported
+abbrev faults_of : Outcome → List (CallError MeshError)
 faults_of (finished m) = []
-faults_of (refused f n) = Line f (n % 18446744073709551616) ∷ []
+faults_of (refused f n) = Refused (Line f (n % 18446744073709551616)) ∷ []
 
 -- line n came to this, and s is left, of which the bytes up to a line feed are its
-abbrev after : ℕ → Result → List ℕ → Outcome
+abbrev after : ℕ → Result Mesh LineFault → List ℕ → Outcome
 after n r s = onward n r (λ (m : Mesh). outcome (suc n) m (lines (drop (suc (length (before is_feed s))) s)))
 
 -- from the start of a line
@@ -68,7 +70,7 @@ fault_is NotNumber = refl
 fault_is NotGiven = refl
 fault_is TooFew = refl
 
-read_end : (n : ℕ) (h : Bool) (st : State) (r : Result) → Ended n h st r → outcome_of st ≡ after n r []
+read_end : (n : ℕ) (h : Bool) (st : State) (r : Result Mesh LineFault) → Ended n h st r → outcome_of st ≡ after n r []
 unfolding outcome before fed
 read_end n h st r (next m e k) = rw (e, k)
 read_end n h st r (stop f m d w s e k) = rw (e, k, (fault_place f).0, fault_is f)
@@ -85,7 +87,7 @@ read (b ∷ s) n h p =
   where
     -- after the line feed
     line : ((k : ℕ) (g : Bool) (q : Phase) → outcome_of (end_line (read_bytes s (state k g q))) ≡ after k (ahead_of k g q (before is_feed s)) s)
-        → (st : State) (r : Result) → Ended n h st r → outcome_of (end_line (read_bytes s st)) ≡ onward n r (λ (m : Mesh). outcome (suc n) m (lines s))
+        → (st : State) (r : Result Mesh LineFault) → Ended n h st r → outcome_of (end_line (read_bytes s st)) ≡ onward n r (λ (m : Mesh). outcome (suc n) m (lines s))
     line ih st r (next m e k) = rw (e, k) (ih (suc n) false (idle m) ∙ lines_start (suc n) m s)
     line ih st r (stop f m d w v e k) = rw (e, k) (ih n h (stopped f m d w v))
 
@@ -94,8 +96,8 @@ read_all s = read s 1 false (idle no_mesh) ∙ lines_start 1 no_mesh s
 
 -- ---- the first fault
 
-first : (n : ℕ) (fs : List LineFault) (m : Mesh) (rest : Mesh → Outcome) (is : List Imported) → take 1 is ≡ faults_of (rest m)
-    → take 1 (map (λ (f : LineFault). Line f (n % 18446744073709551616)) fs ++ is) ≡ faults_of (onward n (result fs m) rest)
+first : (n : ℕ) (fs : List LineFault) (m : Mesh) (rest : Mesh → Outcome) (is : List (CallError MeshError)) → take 1 is ≡ faults_of (rest m)
+    → take 1 (map (λ (f : LineFault). Refused (Line f (n % 18446744073709551616))) fs ++ is) ≡ faults_of (onward n (result fs m) rest)
 first n [] m rest is e = e
 first n (f ∷ fs) m rest is e = refl
 
@@ -114,8 +116,8 @@ first_fault s = first_of 1 no_mesh (lines s) ∙ ap faults_of (sym (read_all s))
 
 -- ---- no fault
 
-none : (n : ℕ) (fs : List LineFault) (m last : Mesh) (rest : Mesh → Outcome) (is : List Imported) → (is ≡ [] → rest m ≡ finished last)
-    → map (λ (f : LineFault). Line f (n % 18446744073709551616)) fs ++ is ≡ [] → onward n (result fs m) rest ≡ finished last
+none : (n : ℕ) (fs : List LineFault) (m last : Mesh) (rest : Mesh → Outcome) (is : List (CallError MeshError)) → (is ≡ [] → rest m ≡ finished last)
+    → map (λ (f : LineFault). Refused (Line f (n % 18446744073709551616))) fs ++ is ≡ [] → onward n (result fs m) rest ≡ finished last
 none n [] m last rest is go e = go e
 none n (f ∷ fs) m last rest is go e = absurd (let z : ◌≡◌ {A = ℕ} 0 1 = cc in omega arith)
 

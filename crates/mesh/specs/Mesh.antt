@@ -1,25 +1,22 @@
 -- A Wavefront OBJ mesh as a pattern: its lines in turn, and then the reading checks (FORMAT 8).
-use Rattle.std.specs.Prelude.{◌%◌, ◌+◌, ◌-◌, suc, ℕ, Bool, ◌&&◌, ◌||◌, List, [], ◌++◌, ◌∷◌, map, eqb, leb, ltb, drop, get_or, length}
+use Rattle.std.specs.Prelude.{◌%◌, ◌+◌, ◌-◌, suc, ℕ, Bool, ◌&&◌, ◌||◌, List, [], ◌++◌, ◌∷◌, map, eqb, leb, ltb, drop, get_or, length, Err, None, Ok, Option, Result, Some}
 use Rattle.std.specs.Float.{binary64}
 use Rattle.std.specs.Float.Ieee.{of_bits}
 use Rattle.edge.specs.Edges.{back_number, edge, front_number}
-use Rattle.edge.specs.declared.Curve.{Curve}
 use Rattle.edge.specs.declared.Edge.{Edge}
-use Rattle.errors.specs.Numbers.{Reply, done, refused, unread}
+use Rattle.errors.specs.Numbers.{Reply, call_reply, refused}
+use Rattle.errors.specs.declared.CallError.{CallError}
+use Rattle.errors.specs.declared.CallError.TheVariants.{Refused, Unread}
 use Rattle.lists.specs.Lists.{flat, numbers, pick, unless}
 use Rattle.pattern.specs.Checks.{content_faults, count_faults}
 use Rattle.pattern.specs.Contents.{Content, counts_of}
 use Rattle.pattern_file.specs.File.{file_bytes}
 use Rattle.text.specs.Text.{before, lines, words}
 use Rattle.text.specs.Tokens.{number}
-use Rattle.text.specs.declared.Token.{Token}
-use Rattle.text.specs.declared.Token.TheVariants.{Not as NoNumber, Value}
-use Rattle.mesh.specs.declared.Corner.{Corner}
-use Rattle.mesh.specs.declared.Corner.TheVariants.{At, Not}
-use Rattle.mesh.specs.declared.Imported.{Imported}
-use Rattle.mesh.specs.declared.Imported.TheVariants.{Length, Line, NoSpace, Refused}
 use Rattle.mesh.specs.declared.LineFault.{LineFault}
 use Rattle.mesh.specs.declared.LineFault.TheVariants.{NotGiven, NotNumber, TooFew}
+use Rattle.mesh.specs.declared.MeshError.{MeshError}
+use Rattle.mesh.specs.declared.MeshError.TheVariants.{Line, NoSpace}
 
 -- ---- words
 
@@ -31,28 +28,28 @@ abbrev pub is_slash : ℕ → Bool
 is_slash b = eqb b 47
 
 -- where so many points are given: counted from 1
-abbrev pub forward : ℕ → Token → Corner
-forward given NoNumber = Not NotNumber
-forward given (Value k) = pick (leb 1 k && leb k given) (At (k - 1)) (Not NotGiven)
+abbrev pub forward : ℕ → Option ℕ → Result ℕ LineFault
+forward given None = Err NotNumber
+forward given (Some k) = pick (leb 1 k && leb k given) (Ok (k - 1)) (Err NotGiven)
 
 -- counted from the latest point backwards
-abbrev pub backward : ℕ → Token → Corner
-backward given NoNumber = Not NotNumber
-backward given (Value k) = pick (leb 1 k && leb k given) (At (given - k)) (Not NotGiven)
+abbrev pub backward : ℕ → Option ℕ → Result ℕ LineFault
+backward given None = Err NotNumber
+backward given (Some k) = pick (leb 1 k && leb k given) (Ok (given - k)) (Err NotGiven)
 
 -- one to nine digits, with or without a minus
-unfoldable pub numbered : ℕ → List ℕ → Corner
+unfoldable pub numbered : ℕ → List ℕ → Result ℕ LineFault
 numbered given w = pick (eqb (get_or w 0 0) 45) (backward given (number (drop 1 w))) (forward given (number w))
 
 -- anything after a slash is skipped
-abbrev pub corner : ℕ → List ℕ → Corner
+abbrev pub corner : ℕ → List ℕ → Result ℕ LineFault
 corner given w = numbered given (before is_slash w)
 
 -- ---- what is wrong with a line
 
-abbrev pub corner_faults : Corner → List LineFault
-corner_faults (At p) = []
-corner_faults (Not f) = f ∷ []
+abbrev pub corner_faults : Result ℕ LineFault → List LineFault
+corner_faults (Ok p) = []
+corner_faults (Err f) = f ∷ []
 
 -- an `f`: word by word, then under three points
 abbrev pub corners_faults : ℕ → List (List ℕ) → List LineFault
@@ -124,9 +121,9 @@ with_face m ps =
 abbrev pub with_point : Mesh → ℕ → Mesh
 with_point m n = record { points = m.points ++ (n % 4294967296 ∷ []); edges = m.edges; wires = m.wires }
 
-abbrev pub point_of : Corner → ℕ
-point_of (At p) = p
-point_of (Not f) = 0
+abbrev pub point_of : Result ℕ LineFault → ℕ
+point_of (Ok p) = p
+point_of (Err f) = 0
 
 -- after line n
 unfoldable pub line_mesh : ℕ → Mesh → List (List ℕ) → Mesh
@@ -138,10 +135,10 @@ line_mesh n m (k ∷ ws) =
 -- ---- all lines, the first of which has number n
 
 -- a line's number as one of 64 bits: no file has more lines
-unfoldable pub lines_faults : ℕ → Mesh → List (List ℕ) → List Imported
+unfoldable pub lines_faults : ℕ → Mesh → List (List ℕ) → List (CallError MeshError)
 lines_faults n m [] = []
 lines_faults n m (l ∷ ls) =
-    map (λ (f : LineFault). Line f (n % 18446744073709551616)) (line_faults (length m.points) (words l))
+    map (λ (f : LineFault). Refused (Line f (n % 18446744073709551616))) (line_faults (length m.points) (words l))
     ++ lines_faults (suc n) (line_mesh n m (words l)) ls
 
 unfoldable pub lines_mesh : ℕ → Mesh → List (List ℕ) → Mesh
@@ -166,20 +163,20 @@ abbrev pub import_content : List ℕ → Content
 import_content s = mesh_content (lines_mesh 1 no_mesh (lines s))
 
 -- the checks in sequence: line by line; after the last line 2 in body order, then the reading checks of the records
-abbrev pub import_faults : List ℕ → List Imported
-import_faults s = lines_faults 1 no_mesh (lines s) ++ map Refused (count_faults (counts_of (import_content s)) ++ content_faults (import_content s))
+abbrev pub import_faults : List ℕ → List (CallError MeshError)
+import_faults s = lines_faults 1 no_mesh (lines s) ++ map Unread (count_faults (counts_of (import_content s)) ++ content_faults (import_content s))
 
 -- ---- the answer, and what the lent slice then holds: the slice keeps the rest, and everything if refused
 
-abbrev pub import_answer : List Imported → List ℕ → List ℕ → Imported
-import_answer (f ∷ fs) file out = f
-import_answer [] file out = pick (leb (length file) (length out)) (Length (length file)) (NoSpace (length file))
+abbrev pub import_answer : List (CallError MeshError) → List ℕ → List ℕ → Result ℕ (CallError MeshError)
+import_answer (e ∷ es) file out = Err e
+import_answer [] file out = pick (leb (length file) (length out)) (Ok (length file)) (Err (Refused (NoSpace (length file))))
 
-abbrev pub import_bytes : List Imported → List ℕ → List ℕ → List ℕ
-import_bytes (f ∷ fs) file out = out
+abbrev pub import_bytes : List (CallError MeshError) → List ℕ → List ℕ → List ℕ
+import_bytes (e ∷ es) file out = out
 import_bytes [] file out = pick (leb (length file) (length out)) (file ++ drop (length file) out) out
 
-abbrev pub imported : List ℕ → List ℕ → Imported
+abbrev pub imported : List ℕ → List ℕ → Result ℕ (CallError MeshError)
 imported s out = import_answer (import_faults s) (file_bytes (import_content s)) out
 
 abbrev pub imported_in : List ℕ → List ℕ → List ℕ
@@ -190,9 +187,11 @@ fault_number NotNumber = 30
 fault_number NotGiven = 31
 fault_number TooFew = 32
 
--- number and values: the length of the file; the line; body and record; 17 with the length that the file needs
-abbrev pub import_reply : Imported → Reply
-import_reply (Length n) = done (n ∷ [])
-import_reply (Line f n) = refused (fault_number f) (n ∷ [])
-import_reply (Refused f) = unread f
-import_reply (NoSpace n) = refused 17 (n ∷ [])
+-- the line; 17 with the length that the file needs
+abbrev pub mesh_reply : MeshError → Reply
+mesh_reply (Line f n) = refused (fault_number f) (n ∷ [])
+mesh_reply (NoSpace n) = refused 17 (n ∷ [])
+
+-- number and values: the length of the file
+abbrev pub import_reply : Result ℕ (CallError MeshError) → Reply
+import_reply r = call_reply (λ n. n ∷ []) mesh_reply r

@@ -1,14 +1,14 @@
 -- The bytes of a mesh in turn: what is known after each of them. Cited by inner contracts.
-use Rattle.std.specs.Prelude.{◌%◌, ◌+◌, suc, ℕ, Bool, ◌&&◌, ◌||◌, false, true, List, [], ◌++◌, ◌∷◌, eqb, leb, ltb, length}
+use Rattle.std.specs.Prelude.{◌%◌, ◌+◌, suc, ℕ, Bool, ◌&&◌, ◌||◌, false, true, List, [], ◌++◌, ◌∷◌, eqb, leb, length, Err, Ok, Result}
+use Rattle.errors.specs.declared.CallError.{CallError}
+use Rattle.errors.specs.declared.CallError.TheVariants.{Refused}
 use Rattle.lists.specs.Lists.{pick}
 use Rattle.text.specs.Text.{is_blank, is_feed}
 use Rattle.mesh.specs.Mesh.{Mesh, Sides, fault_number, is_slash, letter, no_mesh, numbered, side, with_point}
-use Rattle.mesh.specs.declared.Corner.{Corner}
-use Rattle.mesh.specs.declared.Corner.TheVariants.{At, Not}
-use Rattle.mesh.specs.declared.Imported.{Imported}
-use Rattle.mesh.specs.declared.Imported.TheVariants.{Line}
 use Rattle.mesh.specs.declared.LineFault.{LineFault}
 use Rattle.mesh.specs.declared.LineFault.TheVariants.{NotGiven, NotNumber, TooFew}
+use Rattle.mesh.specs.declared.MeshError.{MeshError}
+use Rattle.mesh.specs.declared.MeshError.TheVariants.{Line}
 
 -- the face that is being read: how many points, the first and the last of them, the uses between them
 pub record Drawing : Type 0 where
@@ -70,9 +70,9 @@ close_face st =
 
 -- ---- a word, a line ends
 
-abbrev pub cornered : Corner → State → State
-cornered (At p) st = moved 3 (corner_at p st)
-cornered (Not f) st = moved (fault_number f) st
+abbrev pub cornered : Result ℕ LineFault → State → State
+cornered (Ok p) st = moved 3 (corner_at p st)
+cornered (Err f) st = moved (fault_number f) st
 
 unfoldable pub keyed : State → State
 keyed st =
@@ -132,5 +132,5 @@ abbrev pub fault_at : ℕ → LineFault
 fault_at k = pick (eqb k 30) NotNumber (pick (eqb k 31) NotGiven TooFew)
 
 -- the first fault of a line
-abbrev pub refused_at : State → List Imported
-refused_at st = pick (leb 30 st.place) (Line (fault_at st.place) (st.line % 18446744073709551616) ∷ []) []
+abbrev pub refused_at : State → List (CallError MeshError)
+refused_at st = pick (leb 30 st.place) (Refused (Line (fault_at st.place) (st.line % 18446744073709551616)) ∷ []) []

@@ -1,7 +1,10 @@
-// A Wavefront OBJ mesh, as a pattern: what is wrong with one, and the answer of its import.
+// A Wavefront OBJ mesh, as a pattern: what is wrong with one, and why its import is refused.
 #![tactic(auto)]
 
-use errors::Refusal;
+ghost use Rattle.std.specs.Prelude.{◌≡◌};
+ghost use Rattle.errors.specs.declared.CallError.TheVariants.{Refused};
+
+use errors::CallError;
 
 // What is wrong with a line: a word that is no number (30), a point that is not yet given or zero (31), under three
 // points (32).
@@ -12,19 +15,18 @@ pub enum LineFault {
     TooFew,
 }
 
-// What a word of an `f` names: a point, or what is wrong with it.
+// Why an import is refused, by itself: a fault with the number of its line; no space (17) with the length that the
+// pattern's file needs.
 #[derive(Clone, Copy)]
-pub enum Corner {
-    At(usize),
-    Not(LineFault),
+pub enum MeshError {
+    Line(LineFault, u64),
+    NoSpace(usize),
 }
 
-// The answer of an import: the length of the pattern's file; a fault with the number of its line; the refusal of the
-// reading checks; no space (17) with the length that the file needs.
-#[derive(Clone, Copy)]
-pub enum Imported {
-    Length(usize),
-    Line(LineFault, u64),
-    Refused(Refusal),
-    NoSpace(usize),
+impl From<MeshError> for CallError<MeshError> {
+    ghost from_gives = { λ e r. r ≡ Refused e };
+
+    fn from(e: MeshError) -> CallError<MeshError> {
+        CallError::Refused(e)
+    }
 }

@@ -6,19 +6,20 @@ ghost use Rattle.std.proofs.lemmas.List.Edits.{sets};
 ghost use Rattle.mesh_answers.specs.ImportLines.{import_line, import_values, line_refusal};
 
 use answers::{Answer, done_with, refused, unread};
-use mesh::{Imported, LineFault};
+use errors::CallError;
+use mesh::{LineFault, MeshError};
 use mesh_corners::fault_number;
 use output::{put_field, put_refusal, put_text};
 
 // The answer as numbers.
-pub fn import_values(a: Imported) -> Answer
+pub fn import_values(a: Result<usize, CallError<MeshError>>) -> Answer
     ensures { result ≡ import_values a }
 {
     match a {
-        Imported::Length(n) => done_with(n, 0, 0),
-        Imported::Line(f, n) => refused(fault_number(f), n as usize),
-        Imported::Refused(r) => unread(r),
-        Imported::NoSpace(n) => refused(17, n),
+        Ok(n) => done_with(n, 0, 0),
+        Err(CallError::Unread(r)) => unread(r),
+        Err(CallError::Refused(MeshError::Line(f, n))) => refused(fault_number(f), n as usize),
+        Err(CallError::Refused(MeshError::NoSpace(n))) => refused(17, n),
     }
 }
 
@@ -34,13 +35,13 @@ fn put_line(f: LineFault, n: usize, out: &mut [u8]) -> usize
 }
 
 // Writes the line of a refusal, if it is one, and returns its length.
-pub fn put_import(a: Imported, out: &mut [u8; 96]) -> usize
+pub fn put_import(a: Result<usize, CallError<MeshError>>, out: &mut [u8; 96]) -> usize
     ensures { (out.new ≡ sets out.old 0 (import_line a)) × (result ≡ length (import_line a)) × (result ≤ 96) }
 {
     match a {
-        Imported::Length(n) => 0,
-        Imported::Line(f, n) => put_line(f, n as usize, out),
-        Imported::Refused(r) => put_refusal(r, out),
-        Imported::NoSpace(n) => put_text(out, 0, b"refused 17\n"),
+        Ok(_) => 0,
+        Err(CallError::Unread(r)) => put_refusal(r, out),
+        Err(CallError::Refused(MeshError::Line(f, n))) => put_line(f, n as usize, out),
+        Err(CallError::Refused(MeshError::NoSpace(_))) => put_text(out, 0, b"refused 17\n"),
     }
 }

@@ -4,8 +4,8 @@
 ghost use Rattle.std.specs.Prelude.{◌≡◌};
 ghost use Rattle.mesh.specs.Mesh.{backward, fault_number, forward, numbered};
 
-use mesh::{Corner, LineFault};
-use text::{Token, number_of};
+use mesh::LineFault;
+use text::number_of;
 
 // The number of a line's fault.
 pub fn fault_number(f: LineFault) -> usize
@@ -19,43 +19,35 @@ pub fn fault_number(f: LineFault) -> usize
 }
 
 // Where so many points are given: counted from 1.
-fn forward_of(number: Token, given: usize) -> Corner
+fn forward_of(number: Option<u64>, given: usize) -> Result<usize, LineFault>
     ensures { result ≡ forward given number }
 {
-    match number {
-        Token::Not => Corner::Not(LineFault::NotNumber),
-        Token::Value(k) => {
-            if k < 1 {
-                return Corner::Not(LineFault::NotGiven);
-            }
-            if k > given as u64 {
-                return Corner::Not(LineFault::NotGiven);
-            }
-            Corner::At((k - 1) as usize)
-        }
+    let k = number.ok_or(LineFault::NotNumber)?;
+    if k < 1 {
+        return Err(LineFault::NotGiven);
     }
+    if k > given as u64 {
+        return Err(LineFault::NotGiven);
+    }
+    Ok((k - 1) as usize)
 }
 
 // Counted from the latest point backwards.
-fn backward_of(number: Token, given: usize) -> Corner
+fn backward_of(number: Option<u64>, given: usize) -> Result<usize, LineFault>
     ensures { result ≡ backward given number }
 {
-    match number {
-        Token::Not => Corner::Not(LineFault::NotNumber),
-        Token::Value(k) => {
-            if k < 1 {
-                return Corner::Not(LineFault::NotGiven);
-            }
-            if k > given as u64 {
-                return Corner::Not(LineFault::NotGiven);
-            }
-            Corner::At(given - k as usize)
-        }
+    let k = number.ok_or(LineFault::NotNumber)?;
+    if k < 1 {
+        return Err(LineFault::NotGiven);
     }
+    if k > given as u64 {
+        return Err(LineFault::NotGiven);
+    }
+    Ok(given - k as usize)
 }
 
 // The point that a word names, up to its slash, where so many are given.
-pub fn corner_of(word: &[u8], given: usize) -> Corner
+pub fn corner_of(word: &[u8], given: usize) -> Result<usize, LineFault>
     ensures { result ≡ numbered given word.now }
 {
     let n = word.len();

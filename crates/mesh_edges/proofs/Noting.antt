@@ -1,13 +1,13 @@
--- One edge more in the index; an index of none.
+-- One edge more in the index.
 use Prim.Native.Nat.{◌+◌, ◌<◌, ◌≤◌, suc, ℕ}
 use mathlib.Core.Bool.{false, true}
-use mathlib.Core.List.{List, [], ◌++◌, ◌∷◌, append-nil}
+use mathlib.Core.List.{List, [], ◌++◌, ◌∷◌}
 use mathlib.Core.Logic.{◌≢◌, ⊎_elim}
 use mathlib.Core.Path.{◌∙◌, ◌≡◌, sym}
 use native.Mathlib.Numerals.{add-one}
 use native.Mathlib.Omega.{arith}
 use lib.Dec.{eqb}
-use lib.ListN.{get_or-append, drop, drop_of_length-le, get_or, get_or-replicate, length, length-append, length-set, replicate, set}
+use lib.ListN.{get_or-append, get_or, get_or-replicate, length, length-append, length-set, replicate, set}
 use lib.Seq.{get_or_at, get_or-set_other, get_or-set_same}
 use borrow.Author.Tests.{eq-eqb, eqb-false, eqb-true, ne_eqb}
 use Rattle.edge.specs.Edges.{back_number, front_number}
@@ -104,7 +104,3 @@ none_indexed n l = record {
 
 pub indexed_none : Indexed [] (replicate 17408 0)
 indexed_none = none_indexed 17408 (omega arith)
-
--- a list filled with zeros to its end
-pub zeros : (n k : ℕ) (old out : List ℕ) → length old ≡ n → k ≡ n → out ≡ replicate k 0 ++ drop k old → out ≡ replicate n 0
-zeros n k old out long e is = is ∙ rw (e, drop_of_length-le old {i = n} (omega arith), append-nil)

@@ -59,11 +59,7 @@ pub fn clear_index(index: &mut Index)
     ensures { index.new ≡ replicate 17408 0 }
 {
     index_known(index);
-    let mut k: usize = 0;
-    while k < INDEX {
-        index[k] = 0;
-        k += 1;
-    }
+    index.fill(0);
 }
 
 // The edge between two points among the first n; n where there is none. Any content of the index is taken to an answer.
@@ -74,6 +70,7 @@ pub fn find_edge(t: &Tables, spans: &Spans, index: &Index, n: usize, p: u16, q: 
 {
     index_known(index);
     let mut c = words::index(index[bucket(p, q)]);
+    // No `for`: it follows a chain of the index, to its end.
     while c > 0 {
         let e = c - 1;
         if e >= n {

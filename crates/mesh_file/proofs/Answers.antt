@@ -1,4 +1,5 @@
 -- The answers of an import.
+use Rattle.std.specs.Prelude.{Err, Ok, Result}
 use Prim.Native.Nat.{◌<◌, ◌≤◌, ℕ}
 use mathlib.Core.Bool.{Bool, false, true}
 use mathlib.Core.List.{List, [], ◌++◌, ◌∷◌, map}
@@ -9,15 +10,15 @@ use lib.ListN.{length, take}
 use borrow.Author.Tests.{le-leb, lt-leb}
 use Rattle.errors.proofs.Laws.{none_both, refused_first}
 use Rattle.errors.specs.Faults.{first}
-use Rattle.errors.specs.declared.Check.{Check}
-use Rattle.errors.specs.declared.Check.TheVariants.{Refused as Check-as-Refused}
+use Rattle.errors.specs.declared.CallError.{CallError}
+use Rattle.errors.specs.declared.CallError.TheVariants.{Refused, Unread}
 use Rattle.errors.specs.declared.Refusal.{Refusal}
 use Rattle.lists.specs.Lists.{pick}
 use Rattle.mesh.proofs.Theorem.{ended_idle, first_fault, mesh_read}
 use Rattle.mesh.specs.Mesh.{Mesh, import_answer, import_bytes, imported, imported_in, lines_faults, lines_mesh, mesh_content, no_mesh}
 use Rattle.mesh.specs.Reading.{Drawing, State, end_line, fault_at, reading}
-use Rattle.mesh.specs.declared.Imported.{Imported}
-use Rattle.mesh.specs.declared.Imported.TheVariants.{Length, Line, NoSpace, Refused}
+use Rattle.mesh.specs.declared.MeshError.{MeshError}
+use Rattle.mesh.specs.declared.MeshError.TheVariants.{Line, NoSpace as NoMeshSpace}
 use Rattle.mesh.specs.declared.LineFault.{LineFault}
 use Rattle.mesh_draw.specs.Kept.{Kept}
 use Rattle.mesh_draw.specs.declared.Filled.{Filled}
@@ -27,20 +28,19 @@ use Rattle.pattern.proofs.Counts.{Full}
 use Rattle.pattern.specs.Checks.{content_faults, count_faults}
 use Rattle.pattern.specs.Contents.{Content, Pattern, content, counts_of}
 use Rattle.pattern_file.specs.File.{file_bytes}
-use Rattle.store_write.specs.Writing.{write_answer, write_bytes}
-use Rattle.store_write.specs.declared.Written.{Written}
-use Rattle.store_write.specs.declared.Written.TheVariants.{Length as FileLength, NoSpace as NoFileSpace}
+use Rattle.store_write.specs.Writing.{no_space, write_answer, write_bytes}
+use Rattle.store_write.specs.declared.NoSpace.{NoSpace}
 use Rattle.text.specs.Text.{lines}
 use Rattle.mesh_file.proofs.Meshes.{first_same, mesh_few, rest_content, rest_kept}
 use Rattle.mesh_file.specs.Judging.{Judged, answer_of, filled_counts, mesh_faults, with_rest}
 
 -- ---- after the last line
 
-refused : (fs : List Refusal) (r : Refusal) (file out : List ℕ) → first fs ≡ Check-as-Refused r → (Refused r ≡ import_answer (map Refused fs) file out) × (out ≡ import_bytes (map Refused fs) file out)
+refused : (fs : List Refusal) (r : Refusal) (file out : List ℕ) → first fs ≡ Err r → (Err (Unread r) ≡ import_answer (map Unread fs) file out) × (out ≡ import_bytes (map Unread fs) file out)
 refused [] r file out h = (cc, cc)
-refused (g ∷ fs) r file out h = let e : r ≡ g = cc in (ap Refused e, refl)
+refused (g ∷ fs) r file out h = let e : r ≡ g = cc in (rw e, refl)
 
-fitting : (b : Bool) (n : ℕ) → answer_of (pick b (FileLength n) (NoFileSpace n)) ≡ pick b (Length n) (NoSpace n)
+fitting : (b : Bool) (n : ℕ) → answer_of (pick b (Ok n) (Err (Refused (no_space n)))) ≡ pick b (Ok n) (Err (Refused (NoMeshSpace n)))
 fitting true n = refl
 fitting false n = refl
 
@@ -51,16 +51,16 @@ many m = count_faults (counts_of (mesh_content m))
 abbrev bad : Mesh → List Refusal
 bad m = content_faults (mesh_content m)
 
-judged_refused : (m : Mesh) (out : List ℕ) (r : Refusal) → first (many m ++ bad m) ≡ Check-as-Refused r → Judged m out (Refused r) out
-judged_refused m out r h =
+judged_refused : (m : Mesh) (out : List ℕ) (r : Refusal) {a : Result ℕ (CallError MeshError)} → a ≡ Err (Unread r) → first (many m ++ bad m) ≡ Err r → Judged m out a out
+judged_refused m out r i h =
     let both = refused (many m ++ bad m) r (file_bytes (mesh_content m)) out h in
-    record { answer = both.0; bytes = both.1 }
+    record { answer = i ∙ both.0; bytes = both.1 }
 
 module _ {m : Mesh} {f : Filled} {p : Pattern} {index : List ℕ} (k : Kept m [] f p index) (ns : List ℕ) (is : ns ≡ filled_counts f) (out : List ℕ) where
   -- a count is over its limit
-  pub judged_many : (few : Check) (r : Refusal) → few ≡ first (count_faults ns) → few ≡ Check-as-Refused r → Judged m out (Refused r) out
-  judged_many few r a b =
-      judged_refused m out r (refused_first (many m) (bad m) r (sym (first_same k) ∙ ap (λ (l : List ℕ). first (count_faults l)) (sym is) ∙ sym a ∙ b))
+  pub judged_many : (few : Result Unit Refusal) (r : Refusal) {a : Result ℕ (CallError MeshError)} → a ≡ Err (Unread r) → few ≡ first (count_faults ns) → few ≡ Err r → Judged m out a out
+  judged_many few r i a b =
+      judged_refused m out r i (refused_first (many m) (bad m) r (sym (first_same k) ∙ ap (λ (l : List ℕ). first (count_faults l)) (sym is) ∙ sym a ∙ b))
 
   module _ (full : Full p) (none : count_faults ns ≡ []) (q : Pattern) (e : q ≡ with_rest p ns) where
     few : count_faults (filled_counts f) ≡ []
@@ -73,16 +73,16 @@ module _ {m : Mesh} {f : Filled} {p : Pattern} {index : List ℕ} (k : Kept m []
     kept = rw e (rest_kept k ns)
 
     -- a record is refused
-    pub judged_bad : (checked : Check) (r : Refusal) → checked ≡ first (content_faults (content q)) → checked ≡ Check-as-Refused r → Judged m out (Refused r) out × Kept m [] f q index
-    judged_bad checked r a b =
-        (judged_refused m out r (rw (mesh_few k few) (ap (λ (c : Content). first (content_faults c)) (sym is_mesh) ∙ sym a ∙ b)), kept)
+    pub judged_bad : (checked : Result Unit Refusal) (r : Refusal) {a : Result ℕ (CallError MeshError)} → a ≡ Err (Unread r) → checked ≡ first (content_faults (content q)) → checked ≡ Err r → Judged m out a out × Kept m [] f q index
+    judged_bad checked r i a b =
+        (judged_refused m out r i (rw (mesh_few k few) (ap (λ (c : Content). first (content_faults c)) (sym is_mesh) ∙ sym a ∙ b)), kept)
 
     -- none is
-    pub judged_good : content_faults (content q) ≡ [] → (out' : List ℕ) (r : Imported) (w : Written) → r ≡ answer_of w → w ≡ write_answer [] (file_bytes (content q)) out
+    pub judged_good : content_faults (content q) ≡ [] → (out' : List ℕ) (r : Result ℕ (CallError MeshError)) (w : Result ℕ (CallError NoSpace)) → r ≡ answer_of w → w ≡ write_answer [] (file_bytes (content q)) out
         → out' ≡ write_bytes [] (file_bytes (content q)) out → Judged m out r out' × Kept m [] f q index
     judged_good ok out' r w i a b =
         let file = file_bytes (mesh_content m) in
-        let fine : mesh_faults m ≡ [] = ap (map Refused) (none_both (many m) (bad m) (mesh_few k few) (ap content_faults (sym is_mesh) ∙ ok)) in
+        let fine : mesh_faults m ≡ [] = ap (map Unread) (none_both (many m) (bad m) (mesh_few k few) (ap content_faults (sym is_mesh) ∙ ok)) in
         let judged : Judged m out r out' = record {
           answer = rw (fine, i) (ap answer_of (a ∙ ap (λ (c : Content). write_answer [] (file_bytes c) out) is_mesh) ∙ fitting (leb (length file) (length out)) (length file));
           bytes = rw fine (b ∙ ap (λ (c : Content). write_bytes [] (file_bytes c) out) is_mesh);
@@ -91,11 +91,11 @@ module _ {m : Mesh} {f : Filled} {p : Pattern} {index : List ℕ} (k : Kept m []
 
 -- ---- all lines
 
-faulty : (fs gs : List Imported) (f : Imported) (file out : List ℕ) → take 1 fs ≡ f ∷ [] → (f ≡ import_answer (fs ++ gs) file out) × (out ≡ import_bytes (fs ++ gs) file out)
+faulty : (fs gs : List (CallError MeshError)) (f : CallError MeshError) (file out : List ℕ) → take 1 fs ≡ f ∷ [] → (Err f ≡ import_answer (fs ++ gs) file out) × (out ≡ import_bytes (fs ++ gs) file out)
 faulty [] gs f file out h = (cc, cc)
 faulty (g ∷ fs) gs f file out h = (cc, refl)
 
-taken_none : (fs : List Imported) → take 1 fs ≡ [] → fs ≡ []
+taken_none : (fs : List (CallError MeshError)) → take 1 fs ≡ [] → fs ≡ []
 taken_none [] h = refl
 taken_none (f ∷ fs) h = cc
 
@@ -104,10 +104,10 @@ module _ (s : List ℕ) {r : Reader} {p : Pattern} {index : List ℕ} (w : Follo
   st = end_line (reading s)
 
   -- a line is refused
-  pub finished_bad : 30 ≤ r.place → (f : LineFault) → f ≡ fault_at r.place → (out : List ℕ) → (Line f r.line ≡ imported s out) × (out ≡ imported_in s out)
+  pub finished_bad : 30 ≤ r.place → (f : LineFault) → f ≡ fault_at r.place → (out : List ℕ) → (Err (Refused (Line f r.line)) ≡ imported s out) × (out ≡ imported_in s out)
   finished_bad h f e out =
       let stopped = le-leb 30 st.place (omega (arith, w.place)) in
-      faulty (lines_faults 1 no_mesh (lines s)) _ (Line f r.line) _ out (first_fault s ∙ rw (stopped, e, w.line, w.place))
+      faulty (lines_faults 1 no_mesh (lines s)) _ (Refused (Line f r.line)) _ out (first_fault s ∙ rw (stopped, e, w.line, w.place))
 
   -- none is
   module _ (h : r.place < 30) where
@@ -123,7 +123,7 @@ module _ (s : List ℕ) {r : Reader} {p : Pattern} {index : List ℕ} (w : Follo
     pub finished_kept : Kept st.mesh [] r.filled p index
     finished_kept = rw idle at (w.going going).kept
 
-    pub finished_good : (out : List ℕ) (a : Imported) (out' : List ℕ) → Judged st.mesh out a out' → (a ≡ imported s out) × (out' ≡ imported_in s out)
+    pub finished_good : (out : List ℕ) (a : Result ℕ (CallError MeshError)) (out' : List ℕ) → Judged st.mesh out a out' → (a ≡ imported s out) × (out' ≡ imported_in s out)
     finished_good out a out' j =
         let i : Judged (lines_mesh 1 no_mesh (lines s)) out a out' = rw (mesh_read s none) at j in
         rw none (i.answer, i.bytes)

@@ -1,17 +1,18 @@
 -- The tables of a mesh, filled up, and the answer for them. Cited by inner contracts.
-use Rattle.std.specs.Prelude.{ℕ, List, [], ◌++◌, ◌∷◌, map, ◌≡◌, get_or, set}
+use Rattle.std.specs.Prelude.{ℕ, List, [], ◌++◌, ◌∷◌, map, ◌≡◌, Result, Ok, Err, get_or, set}
 use Rattle.std.proofs.lemmas.List.Edits.{sets}
+use Rattle.errors.specs.declared.CallError.{CallError}
+use Rattle.errors.specs.declared.CallError.TheVariants.{Refused, Unread}
 use Rattle.lists.specs.Lists.{numbers, tabulate}
 use Rattle.mesh.specs.Mesh.{Mesh, import_answer, import_bytes, mesh_content}
-use Rattle.mesh.specs.declared.Imported.{Imported}
-use Rattle.mesh.specs.declared.Imported.TheVariants.{Length, NoSpace, Refused}
+use Rattle.mesh.specs.declared.MeshError.{MeshError}
+use Rattle.mesh.specs.declared.MeshError.TheVariants.{NoSpace as NoMeshSpace}
 use Rattle.mesh_draw.specs.declared.Filled.{Filled}
 use Rattle.pattern.specs.Checks.{content_faults, count_faults}
 use Rattle.pattern.specs.Contents.{Pattern, counts_of}
 use Rattle.pattern_file.specs.File.{file_bytes}
 use Rattle.store.specs.Columns.{with_counts, with_faces, with_listings, with_shells}
-use Rattle.store_write.specs.declared.Written.{Written}
-use Rattle.store_write.specs.declared.Written.TheVariants.{Length as FileLength, NoSpace as NoFileSpace, Refused as FileRefused}
+use Rattle.store_write.specs.declared.NoSpace.{NoSpace}
 
 -- the number of records of each body: each face has one wire and is listed once, in one shell
 abbrev pub filled_counts : Filled → List ℕ
@@ -28,15 +29,16 @@ with_rest p ns =
     with_counts (with_shells (with_listed p n) (set p.shells 0 n)) ns
 
 -- the checks after the last line
-abbrev pub mesh_faults : Mesh → List Imported
-mesh_faults m = map Refused (count_faults (counts_of (mesh_content m)) ++ content_faults (mesh_content m))
+abbrev pub mesh_faults : Mesh → List (CallError MeshError)
+mesh_faults m = map Unread (count_faults (counts_of (mesh_content m)) ++ content_faults (mesh_content m))
 
-abbrev pub answer_of : Written → Imported
-answer_of (FileLength n) = Length n
-answer_of (FileRefused f) = Refused f
-answer_of (NoFileSpace n) = NoSpace n
+-- the writer's answer, as one of an import
+abbrev pub answer_of : Result ℕ (CallError NoSpace) → Result ℕ (CallError MeshError)
+answer_of (Ok n) = Ok n
+answer_of (Err (Unread f)) = Err (Unread f)
+answer_of (Err (Refused e)) = Err (Refused (NoMeshSpace e.needed))
 
 -- the answer for a mesh, and what the lent slice then holds
-pub record Judged (m : Mesh) (out : List ℕ) (r : Imported) (out' : List ℕ) : Type 0 where
+pub record Judged (m : Mesh) (out : List ℕ) (r : Result ℕ (CallError MeshError)) (out' : List ℕ) : Type 0 where
   pub answer : r ≡ import_answer (mesh_faults m) (file_bytes (mesh_content m)) out
   pub bytes : out' ≡ import_bytes (mesh_faults m) (file_bytes (mesh_content m)) out

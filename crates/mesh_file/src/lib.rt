@@ -11,19 +11,19 @@ ghost use Rattle.pattern.specs.Checks.{count_faults};
 ghost use Rattle.store.specs.Columns.{with_counts};
 ghost use Rattle.store.specs.Store.{held};
 
-use errors::Check;
+use errors::CallError;
 use face::Face;
-use mesh::{Imported, LineFault};
+use mesh::{LineFault, MeshError};
 use mesh_draw::Filled;
 use mesh_edges::{INDEX, Index};
 use mesh_read::{end_line, step};
 use mesh_words::Reader;
-use pattern::{BODIES, Counts, check_counts};
+use pattern::{Counts, check_counts};
 use store::{
     LISTINGS, SHELLS, SPANS, Spans, TABLES, Tables, store_count, store_face, tables_known,
 };
 use store_check::check_records;
-use store_write::{Written, put_file};
+use store_write::{NoSpace, put_file};
 
 // The number of records of each body: each face has one wire and is listed once, in one shell.
 fn counts_of(f: Filled) -> Counts
@@ -37,8 +37,7 @@ fn put_faces(t: &mut Tables, n: usize)
     requires { n ≤ 256 }
     ensures { (spans : List Float) → held t.new spans ≡ with_listed (held t.old spans) n }
 {
-    let mut k: usize = 0;
-    while k < n {
+    for k in 0..n {
         store_face(
             t,
             k,
@@ -49,7 +48,6 @@ fn put_faces(t: &mut Tables, n: usize)
         );
         tables_known(t);
         t[LISTINGS + k] = k as u16;
-        k += 1;
     }
 }
 
@@ -59,10 +57,8 @@ fn put_counts(t: &mut Tables, counts: Counts)
     ensures { (spans : List Float) → held t.new spans ≡ with_counts (held t.old spans) counts }
 {
     tables_known(t);
-    let mut b: usize = 0;
-    while b < BODIES {
-        store_count(t, b, counts[b] as u16);
-        b += 1;
+    for (b, n) in counts.iter().enumerate() {
+        store_count(t, b, *n as u16);
     }
 }
 
@@ -79,37 +75,30 @@ fn put_rest(t: &mut Tables, counts: Counts)
 }
 
 // The answer of the writer, as one of an import.
-fn answer_of(w: Written) -> Imported
+fn answer_of(w: Result<usize, CallError<NoSpace>>) -> Result<usize, CallError<MeshError>>
     ensures { result ≡ answer_of w }
 {
     match w {
-        Written::Length(n) => Imported::Length(n),
-        Written::Refused(r) => Imported::Refused(r),
-        Written::NoSpace(n) => Imported::NoSpace(n),
+        Ok(n) => Ok(n),
+        Err(CallError::Unread(r)) => Err(CallError::Unread(r)),
+        Err(CallError::Refused(e)) => Err(CallError::Refused(MeshError::NoSpace(e.needed))),
     }
 }
 
 // The answer for the mesh that the tables hold, after its last line.
-fn judge(f: Filled, t: &mut Tables, spans: &Spans, out: &mut [u8]) -> Imported
+fn judge(
+    f: Filled,
+    t: &mut Tables,
+    spans: &Spans,
+    out: &mut [u8],
+) -> Result<usize, CallError<MeshError>>
     ensures { (m : Mesh) (index : List ℕ) → Kept m [] f (held t.old spans.now) index → Judged m out.old result out.new × Kept m [] f (held t.new spans.now) index }
 {
     tables_known(t);
     let counts = counts_of(f);
-    let few = check_counts(counts);
-    match few {
-        Check::Refused(r) => {
-            return Imported::Refused(r);
-        }
-        Check::Accepted => {}
-    }
+    check_counts(counts)?;
     put_rest(t, counts);
-    let checked = check_records(t, spans);
-    match checked {
-        Check::Refused(r) => {
-            return Imported::Refused(r);
-        }
-        Check::Accepted => {}
-    }
+    check_records(t, spans)?;
     answer_of(put_file(t, spans, out))
 }
 
@@ -129,7 +118,7 @@ fn fault_at(place: usize) -> LineFault
 // The answer of an import, and the reader after its last line.
 #[derive(Clone, Copy)]
 pub struct Finished {
-    pub answer: Imported,
+    pub answer: Result<usize, CallError<MeshError>>,
     pub reader: Reader,
 }
 
@@ -146,7 +135,7 @@ pub fn finish(
     let r = end_line(from, t, spans, index);
     if r.place >= 30 {
         return Finished {
-            answer: Imported::Line(fault_at(r.place), r.line),
+            answer: Err(CallError::Refused(MeshError::Line(fault_at(r.place), r.line))),
             reader: r,
         };
     }
@@ -156,7 +145,7 @@ pub fn finish(
 }
 
 // Writes the pattern file of a mesh, or answers what is wrong with it.
-pub fn import_mesh(mesh: &[u8], out: &mut [u8]) -> Imported
+pub fn import_mesh(mesh: &[u8], out: &mut [u8]) -> Result<usize, CallError<MeshError>>
     ensures { (result ≡ imported mesh.now out.old) × (out.new ≡ imported_in mesh.now out.old) }
 {
     let mut t = [0u16; TABLES];

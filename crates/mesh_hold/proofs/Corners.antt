@@ -1,4 +1,6 @@
 -- The points of a face line without fault are given.
+use Rattle.mesh.specs.declared.LineFault.{LineFault}
+use Rattle.std.specs.Prelude.{Err, None, Ok, Option, Result, Some}
 use Prim.Native.Nat.{◌-◌, ◌<◌, ◌≤◌, ℕ}
 use mathlib.Core.Bool.{Bool, ◌&&◌, false, true}
 use mathlib.Core.List.{List, [], ◌∷◌, map}
@@ -12,30 +14,26 @@ use Rattle.lists.proofs.Count.{All}
 use Rattle.lists.proofs.Laws.{left_true, right_true}
 use Rattle.lists.specs.Lists.{flat, pick, unless}
 use Rattle.mesh.specs.Mesh.{backward, corner, corner_faults, corners_faults, forward, is_slash, numbered, point_of}
-use Rattle.mesh.specs.declared.Corner.{Corner}
-use Rattle.mesh.specs.declared.Corner.TheVariants.{At, Not}
 use Rattle.mesh.specs.declared.LineFault.TheVariants.{NotGiven, TooFew}
 use Rattle.text.specs.Text.{before}
 use Rattle.text.specs.Tokens.{number}
-use Rattle.text.specs.declared.Token.{Token}
-use Rattle.text.specs.declared.Token.TheVariants.{Not as NoNumber, Value}
 
 -- it names a point, and of those that are given
-abbrev Given : ℕ → Corner → Type 0
+abbrev Given : ℕ → Result ℕ LineFault → Type 0
 Given given c = corner_faults c ≡ [] → point_of c < given
 
 module _ (given : ℕ) where
-  picked : (k p : ℕ) (b : Bool) → b ≡ (leb 1 k && leb k given) → ((1 ≤ k) → (k ≤ given) → p < given) → Given given (pick b (At p) (Not NotGiven))
+  picked : (k p : ℕ) (b : Bool) → b ≡ (leb 1 k && leb k given) → ((1 ≤ k) → (k ≤ given) → p < given) → Given given (pick b (Ok p) (Err NotGiven))
   picked k p true e f h = f (leb-true 1 k (left_true (leb 1 k) (leb k given) (cc))) (leb-true k given (right_true (leb 1 k) (leb k given) (cc)))
   picked k p false e f h = let z : ◌≡◌ {A = ℕ} 0 1 = cc in omega arith
 
-  forward_given : (t : Token) → Given given (forward given t)
-  forward_given NoNumber h = let z : ◌≡◌ {A = ℕ} 0 1 = cc in omega arith
-  forward_given (Value k) h = picked k (k - 1) (leb 1 k && leb k given) refl (λ a b. omega arith) h
+  forward_given : (t : Option ℕ) → Given given (forward given t)
+  forward_given None h = let z : ◌≡◌ {A = ℕ} 0 1 = cc in omega arith
+  forward_given (Some k) h = picked k (k - 1) (leb 1 k && leb k given) refl (λ a b. omega arith) h
 
-  backward_given : (t : Token) → Given given (backward given t)
-  backward_given NoNumber h = let z : ◌≡◌ {A = ℕ} 0 1 = cc in omega arith
-  backward_given (Value k) h = picked k (given - k) (leb 1 k && leb k given) refl (λ a b. omega arith) h
+  backward_given : (t : Option ℕ) → Given given (backward given t)
+  backward_given None h = let z : ◌≡◌ {A = ℕ} 0 1 = cc in omega arith
+  backward_given (Some k) h = picked k (given - k) (leb 1 k && leb k given) refl (λ a b. omega arith) h
 
   corner_given : (w : List ℕ) → Given given (corner given w)
   unfolding numbered

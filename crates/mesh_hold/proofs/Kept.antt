@@ -1,4 +1,8 @@
 -- What holds of a mesh after each of its lines, where none has a fault: its labels, its edges, its wires.
+use Rattle.errors.specs.declared.CallError.{CallError}
+use Rattle.errors.specs.declared.CallError.TheVariants.{Refused}
+use Rattle.mesh.specs.declared.MeshError.{MeshError}
+use Rattle.mesh.specs.declared.MeshError.TheVariants.{Line}
 use Prim.Native.Nat.{◌%◌, ◌<◌, ◌≤◌, suc, ℕ}
 use mathlib.Core.Bool.{Bool, false, true}
 use mathlib.Core.List.{List, [], ◌∷◌, map}
@@ -9,8 +13,6 @@ use Rattle.errors.proofs.Laws.{none_left, none_right}
 use Rattle.lists.proofs.Count.{All, all_append, all_weaker}
 use Rattle.lists.specs.Lists.{pick}
 use Rattle.mesh.specs.Mesh.{Mesh, corner, corners_faults, letter, line_faults, line_mesh, lines_faults, lines_mesh, no_mesh, outline, point_of, with_face, with_point}
-use Rattle.mesh.specs.declared.Imported.{Imported}
-use Rattle.mesh.specs.declared.Imported.TheVariants.{Line}
 use Rattle.mesh.specs.declared.LineFault.{LineFault}
 use Rattle.mesh_hold.proofs.Corners.{corners_given, corners_three}
 use Rattle.mesh_hold.proofs.Sides.{Closed, Grows, Sided, grows_not, grows_on, outline_closed, outline_grows, outline_sided}
@@ -95,7 +97,7 @@ module _ (whole : Mesh) where
         let next = line_mesh n m (words l) in
         let here = line_faults (length m.points) (words l) in
         let later = lines_faults (suc n) next ls in
-        let name : LineFault → Imported = λ (f : LineFault). Line f (n % 18446744073709551616) in
+        let name : LineFault → CallError MeshError = λ (f : LineFault). Refused (Line f (n % 18446744073709551616)) in
         let part-next = within_on next (lines_mesh (suc n) next ls) whole (lines_within (suc n) next ls) part in
         lines_fine (suc n) next ls (none_right (map name here) later ok) part
         (line_fine n m (words l) (map_none name here (none_left (map name here) later ok)) part-next h)

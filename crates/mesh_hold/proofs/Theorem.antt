@@ -1,4 +1,5 @@
 -- An accepted mesh: its file is read back as it is, its openings hold, its one shell shows each face once.
+use Rattle.errors.specs.declared.CallError.TheVariants.{Unread}
 use Prim.Native.Nat.{◌%◌, ◌<◌, ◌≤◌, suc, zero, ℕ}
 use mathlib.Core.List.{List, [], ◌++◌, ◌∷◌, map}
 use mathlib.Core.Path.{◌∙◌, ◌≡◌, ap, refl, sym}
@@ -18,7 +19,6 @@ use Rattle.lists.proofs.Marks.{AllBelow}
 use Rattle.lists.proofs.Parts.{all_place, split_flat}
 use Rattle.lists.specs.Lists.{flat, numbers, split, sum}
 use Rattle.mesh.specs.Mesh.{Mesh, import_content, import_faults, lines_faults, lines_mesh, mesh_content, no_mesh}
-use Rattle.mesh.specs.declared.Imported.TheVariants.{Refused}
 use Rattle.mesh_hold.proofs.Checks.{face_of, import_fine, sum_lengths, uses_named}
 use Rattle.mesh_hold.proofs.Kept.{Fine, map_none}
 use Rattle.mesh_hold.proofs.Sides.{Closed, Sided}
@@ -114,8 +114,8 @@ accepted s ok =
     let counts = count_faults (counts_of (import_content s)) in
     let content = content_faults (import_content s) in
     let first = lines_faults 1 no_mesh (lines s) in
-    let rest : counts ++ content ≡ [] = map_none Refused (counts ++ content) (none_right first (map Refused (counts ++ content)) ok) in
-    record { lines = none_left first (map Refused (counts ++ content)) ok; counts = none_left counts content rest; content = none_right counts content rest }
+    let rest : counts ++ content ≡ [] = map_none Unread (counts ++ content) (none_right first (map Unread (counts ++ content)) ok) in
+    record { lines = none_left first (map Unread (counts ++ content)) ok; counts = none_left counts content rest; content = none_right counts content rest }
 
 module _ (s : List ℕ) (ok : import_faults s ≡ []) where
   abbrev mesh : Mesh

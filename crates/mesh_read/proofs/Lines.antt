@@ -1,11 +1,11 @@
 -- The end of a line.
+use Rattle.mesh.specs.declared.LineFault.{LineFault}
+use Rattle.std.specs.Prelude.{Err, Ok, Result}
 use Rattle.std.proofs.Common.{◌≡◌, ℕ, suc, ◌%◌, ◌<◌, ◌≤◌, true, false, eqb, leb, List, [], ◌∷◌, ◌++◌, length, refl, ◌∙◌, ⊎_elim, arith, eq-eqb, ne_eqb, le-leb, leb-false, leb-true}
 use borrow.Author.Tests.{eqb-false, lt-leb}
 use Rattle.lists.proofs.Laws.{cases}
 use Rattle.mesh.specs.Mesh.{Mesh, letter, numbered, side_use, with_side}
 use Rattle.mesh.specs.Reading.{State, close_face, cornered, end_line, end_word, keyed, next_line, start}
-use Rattle.mesh.specs.declared.Corner.{Corner}
-use Rattle.mesh.specs.declared.Corner.TheVariants.{At, Not}
 use Rattle.mesh.specs.declared.LineFault.TheVariants.{NotGiven, NotNumber, TooFew}
 use Rattle.mesh_draw.proofs.Points.{points_alone}
 use Rattle.mesh_draw.specs.Kept.{Kept, with_edges, with_wire}
@@ -30,11 +30,11 @@ kept_closed {st} g some f q index' k =
 -- ---- no word goes on after its end
 
 module _ (st : State) where
-  cornered_place : (k : Corner) → (cornered k st).place ≡ 4 → ⊥
-  cornered_place (At p) e = omega arith
-  cornered_place (Not NotNumber) e = omega arith
-  cornered_place (Not NotGiven) e = omega arith
-  cornered_place (Not TooFew) e = omega arith
+  cornered_place : (k : Result ℕ LineFault) → (cornered k st).place ≡ 4 → ⊥
+  cornered_place (Ok p) e = omega arith
+  cornered_place (Err NotNumber) e = omega arith
+  cornered_place (Err NotGiven) e = omega arith
+  cornered_place (Err TooFew) e = omega arith
 
   keyed_place : (keyed st).place ≡ 4 → ⊥
   unfolding keyed

@@ -115,14 +115,12 @@ fn ink_end(text: &[u8], from: usize) -> usize
     requires { from ≤ length text.now }
     ensures { (result ≡ from + length (before is_break (drop from text.now))) × (result ≤ length text.now) }
 {
-    let mut i = from;
-    while i < text.len() {
+    for i in from..text.len() {
         if is_break(text[i]) {
-            break;
+            return i;
         }
-        i += 1;
     }
-    i
+    text.len()
 }
 
 // Where the bytes end that are read alike: passed over with the rest of a line, or put to a word.
@@ -151,6 +149,7 @@ pub fn step(
 {
     let mut r = from;
     let mut i: usize = 0;
+    // No `for`: each turn takes a whole run of bytes, and the byte that ends it.
     while i < piece.len() {
         if r.place >= REFUSED {
             return r;

@@ -1,4 +1,5 @@
 -- No byte yet; the end of a word: a reader follows them.
+use Rattle.std.specs.Prelude.{Err, Ok, Result}
 use Prim.Native.Nat.{◌+◌, ◌-◌, ◌<◌, ◌≤◌, min, ℕ}
 use mathlib.Core.Bool.{false, true}
 use mathlib.Core.List.{List, [], ◌++◌, ◌∷◌}
@@ -13,8 +14,6 @@ use Rattle.lists.proofs.Laws.{cases}
 use Rattle.lists.specs.Lists.{flat}
 use Rattle.mesh.specs.Mesh.{Mesh, fault_number, letter, no_mesh, numbered, point_of, side_use, with_point, with_side}
 use Rattle.mesh.specs.Reading.{State, corner_at, cornered, end_word, keyed, moved, side_to}
-use Rattle.mesh.specs.declared.Corner.{Corner}
-use Rattle.mesh.specs.declared.Corner.TheVariants.{At, Not}
 use Rattle.mesh.specs.declared.LineFault.{LineFault}
 use Rattle.mesh.specs.declared.LineFault.TheVariants.{NotGiven, NotNumber, TooFew}
 use Rattle.mesh_draw.proofs.Points.{points_alone}
@@ -169,10 +168,10 @@ fault_high TooFew = omega arith
 
 module _ {st : State} {r : Reader} {p : Pattern} {index : List ℕ} (f : Follows st r p index) (at : st.place ≡ 4) where
   -- what it names, and what the reader is told of it
-  abbrev Named : Corner
+  abbrev Named : Result ℕ LineFault
   Named = numbered (length st.mesh.points) st.word
 
-  abbrev Told : Corner
+  abbrev Told : Result ℕ LineFault
   Told = numbered r.filled.points (take (r.length - 0) r.word)
 
   pub within_table : r.length ≤ 11
@@ -184,14 +183,14 @@ module _ {st : State} {r : Reader} {p : Pattern} {index : List ℕ} (f : Follows
       let n : r.length - 0 ≡ min (length st.word) 11 = omega (arith, g.long) in
       rw (g.kept.points, n, g.word) (numbered_first (min (length st.mesh.points) 999999999) st.word)
 
-  pub end_not : {fault : LineFault} → Told ≡ Not fault → Follows (end_word st) (placed (fault_number fault) r) p index
+  pub end_not : {fault : LineFault} → Told ≡ Err fault → Follows (end_word st) (placed (fault_number fault) r) p index
   end_not {fault} e =
       rw (end_corner st at, named_not (length st.mesh.points) st.word fault (sym told ∙ e))
       (record { line = f.line; place = refl; going = λ l. absurd (omega (arith, fault_high fault)) })
 
-  module _ {a : ℕ} (e : Told ≡ At a) where
+  module _ {a : ℕ} (e : Told ≡ Ok a) where
     pub end_at : end_word st ≡ moved 3 (corner_at (point_of Named) st)
-    end_at = end_corner st at ∙ ap (λ (c : Corner). cornered c st) (named_at (length st.mesh.points) st.word a (sym told ∙ e))
+    end_at = end_corner st at ∙ ap (λ (c : Result ℕ LineFault). cornered c st) (named_at (length st.mesh.points) st.word a (sym told ∙ e))
 
     pub end_near : length st.mesh.points ≤ 2048 → short a ≡ point_of Named
     end_near = named_near (length st.mesh.points) st.word a (sym told ∙ e)

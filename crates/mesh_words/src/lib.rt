@@ -9,7 +9,6 @@ ghost use Rattle.mesh_words.specs.Following.{Follows, inks};
 ghost use Rattle.pattern.specs.Contents.{Pattern};
 ghost use Rattle.store.specs.Store.{held};
 
-use mesh::Corner;
 use mesh_corners::{corner_of, fault_number};
 use mesh_draw::{Filled, add_point, add_side, no_mesh};
 use mesh_edges::Index;
@@ -119,11 +118,9 @@ impl Reader {
         let place = self.place;
         let mut word = self.word;
         let mut n = self.length;
-        let mut i: usize = 0;
-        while i < bytes.len() {
-            let b = bytes[i];
+        for b in bytes {
             if place == WORD {
-                if b == b'/' {
+                if *b == b'/' {
                     self.word = word;
                     self.length = n;
                     self.slashed = true;
@@ -131,10 +128,9 @@ impl Reader {
                 }
             }
             if n < 11 {
-                word[n] = b;
+                word[n] = *b;
                 n += 1;
             }
-            i += 1;
         }
         self.word = word;
         self.length = n;
@@ -216,11 +212,11 @@ impl Reader {
         let bytes = self.word;
         let named = corner_of(&bytes[0..n], self.filled.points);
         match named {
-            Corner::Not(f) => {
+            Err(f) => {
                 self.place = fault_number(f);
                 self
             }
-            Corner::At(p) => self.corner(saturated(p as u64), t, spans, index),
+            Ok(p) => self.corner(saturated(p as u64), t, spans, index),
         }
     }
 

@@ -1,7 +1,7 @@
 -- One start: the loop of lookups is the chain.
+use Rattle.std.specs.Prelude.{None, Option, Some}
 use Prim.Native.Nat.{◌+◌, ◌<◌, ◌≤◌, suc, zero, ℕ}
 use mathlib.Core.List.{List, [], ◌++◌, ◌∷◌, append_assoc, append-nil}
-use mathlib.Core.Option.{none}
 use mathlib.Core.Path.{◌∙◌, ◌≡◌, ap, refl, sym}
 use native.Mathlib.Omega.{arith}
 use lib.ListN.{get_or, length, length-append, length-set, set}
@@ -10,9 +10,7 @@ use Rattle.edge.specs.Uses.{back_of, edge_number, front_of}
 use Rattle.lists.proofs.Sets.{sets_append}
 use Rattle.openings.proofs.Slots.{found_nothing, found_use, holding_out, kept_le, kept_out, kept_still, slot_none, slot_some, slots_get, slots_set}
 use Rattle.openings.specs.Passes.{Followed}
-use Rattle.openings.specs.Slots.{Holding, answer_of, kept_in, slots}
-use Rattle.openings.specs.declared.Lookup.{Lookup}
-use Rattle.openings.specs.declared.Lookup.TheVariants.{Nothing, Use}
+use Rattle.openings.specs.Slots.{Holding, kept_in, slots}
 use Rattle.openings.specs.declared.Step.{Step}
 use Rattle.shell.specs.Openings.{Found, chain}
 
@@ -122,11 +120,11 @@ module _ (fronts backs kept₀ out₀ : List ℕ) (at n₀ : ℕ) where
             }
 
     -- a lookup at q answers a and leaves kept' and the count n'
-    module _ (a : Lookup) (kept' : List ℕ) (n' : ℕ) (answers : a ≡ answer_of (get_or (slots kept) q none)) (leaves : kept' ≡ set kept q 65535) (counts : n' ≡ n + 1) where
-      pub end : a ≡ Nothing → (r : Step) → r.at ≡ m → r.lookups ≡ n' → Followed f fronts backs kept₀ out₀ at n₀ kept' out r
+    module _ (a : Option ℕ) (kept' : List ℕ) (n' : ℕ) (answers : a ≡ get_or (slots kept) q None) (leaves : kept' ≡ set kept q 65535) (counts : n' ≡ n + 1) where
+      pub end : a ≡ None → (r : Step) → r.at ≡ m → r.lookups ≡ n' → Followed f fronts backs kept₀ out₀ at n₀ kept' out r
       end e r x y = rw leaves (going_end (found_nothing kept q g.inside a answers e) r x (y ∙ counts))
 
-      module _ (u : ℕ) (e : a ≡ Use u) where
+      module _ (u : ℕ) (e : a ≡ Some u) where
         is : (get_or kept q 0 ≡ u) × (get_or kept q 0 ≡ 65535 → ⊥)
         is = found_use kept q g.inside a u answers e
 

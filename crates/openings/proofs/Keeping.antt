@@ -1,8 +1,8 @@
 -- The uses of a part kept one after the other.
+use Rattle.std.specs.Prelude.{Some}
 use Prim.Native.Nat.{ℕ, ◌+◌, ◌≤◌, ◌<◌}
 use mathlib.Core.Bool.{Bool, true, false}
 use mathlib.Core.List.{List, [], ◌∷◌, ◌++◌}
-use mathlib.Core.Option.{some}
 use mathlib.Core.Path.{◌∙◌, ◌≡◌, refl, sym}
 use native.Mathlib.Numerals.{add-one}
 use native.Mathlib.Omega.{arith}
@@ -19,7 +19,7 @@ use Rattle.openings.proofs.Slots.{holding_in, slot_some, slots_set}
 keep_append : (front back : ℕ → ℕ) (us vs : List ℕ) (kept : Kept) → keep front back (us ++ vs) kept ≡ keep front back vs (keep front back us kept)
 unfolding keep
 keep_append front back [] vs kept = refl
-keep_append front back (u ∷ us) vs kept = keep_append front back us vs (set kept (front u) (some u))
+keep_append front back (u ∷ us) vs kept = keep_append front back us vs (set kept (front u) (Some u))
 
 -- several parts in sequence are one
 pub keep_parts : (front back : ℕ → ℕ) (q : ℕ → Bool) (us vs : List ℕ) (kept : Kept)

@@ -1,7 +1,7 @@
 -- Passes one after the other are one pass, and what one use adds.
+use Rattle.std.specs.Prelude.{Option, None, Some}
 use Prim.Native.Nat.{ℕ, suc, ◌+◌, ◌-◌, ◌<◌, ◌≤◌}
 use mathlib.Core.List.{List, [], ◌∷◌, ◌++◌, append-nil, map}
-use mathlib.Core.Option.{Option, none, some}
 use mathlib.Core.Path.{◌∙◌, ◌≡◌, ap, refl}
 use native.Mathlib.Numerals.{add-one}
 use native.Mathlib.Omega.{arith}
@@ -29,13 +29,13 @@ module _ (front back : ℕ → ℕ) where
       → pass front back (us ++ vs) kept n ≡ (let w = pass front back us kept n in joined w.openings (pass front back vs w.kept w.lookups))
   unfolding pass
   pass_append [] vs kept n = refl
-  pass_append (u ∷ us) vs kept n = go (get_or kept (front u) none) (λ k m. pass_append us vs k m)
+  pass_append (u ∷ us) vs kept n = go (get_or kept (front u) None) (λ k m. pass_append us vs k m)
     where
       go : (o : Option ℕ) → ((k : Kept) (m : ℕ) → pass front back (us ++ vs) k m ≡ (let w = pass front back us k m in joined w.openings (pass front back vs w.kept w.lookups)))
           → begin_at front back o (front u) kept n (λ (k : Kept) (m : ℕ). pass front back (us ++ vs) k m)
           ≡ (let w = begin_at front back o (front u) kept n (λ (k : Kept) (m : ℕ). pass front back us k m) in joined w.openings (pass front back vs w.kept w.lookups))
-      go none more = more kept n
-      go (some v) more =
+      go None more = more kept n
+      go (Some v) more =
           let r = chain front back (suc (length kept)) (front u) kept n in
           ap (joined (r.opening ∷ [])) (more r.kept r.lookups)
 

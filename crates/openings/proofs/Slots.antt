@@ -1,9 +1,9 @@
 -- Laws of the kept uses in an array.
+use Rattle.std.specs.Prelude.{None, Some, Option}
 use Prim.Native.Nat.{◌+◌, ◌<◌, ◌≤◌, suc, zero, ℕ}
 use mathlib.Core.Bool.{Bool, false, not, true}
 use mathlib.Core.List.{List, [], ◌∷◌}
 use mathlib.Core.Logic.{⊎_elim}
-use mathlib.Core.Option.{none, some}
 use mathlib.Core.Path.{◌∙◌, ◌≡◌, ap, refl, sym}
 use native.Mathlib.Nat.{le_of_suc-le-suc}
 use native.Mathlib.Omega.{arith}
@@ -15,22 +15,20 @@ use Rattle.edge.specs.Uses.{back_of, edge_number}
 use Rattle.lists.proofs.Count.{bit}
 use Rattle.lists.proofs.Laws.{cases}
 use Rattle.lists.specs.Lists.{count}
-use Rattle.openings.specs.Slots.{Holding, answer_of, kept_in, slot, slots}
-use Rattle.openings.specs.declared.Lookup.{Lookup}
-use Rattle.openings.specs.declared.Lookup.TheVariants.{Nothing, Use}
+use Rattle.openings.specs.Slots.{Holding, kept_in, slot, slots}
 use Rattle.shell.specs.Openings.{Kept}
 
-pub slot_none : (u : ℕ) → u ≡ 65535 → slot u ≡ none
+pub slot_none : (u : ℕ) → u ≡ 65535 → slot u ≡ None
 slot_none u e = rw (eq-eqb u 65535 e)
 
-pub slot_some : (u : ℕ) → (u ≡ 65535 → ⊥) → slot u ≡ some u
+pub slot_some : (u : ℕ) → (u ≡ 65535 → ⊥) → slot u ≡ Some u
 slot_some u h = rw (ne_eqb u 65535 h)
 
 pub length_slots : (kept : List ℕ) → length (slots kept) ≡ length kept
 unfolding slots
 length_slots kept = length-map kept slot
 
-pub slots_get : (kept : List ℕ) (p : ℕ) → p < length kept → get_or (slots kept) p none ≡ slot (get_or kept p 0)
+pub slots_get : (kept : List ℕ) (p : ℕ) → p < length kept → get_or (slots kept) p None ≡ slot (get_or kept p 0)
 unfolding slots
 slots_get [] p h = absurd (omega arith)
 slots_get (u ∷ kept) zero h = refl
@@ -43,26 +41,24 @@ slots_set (v ∷ kept) zero u = refl
 slots_set (v ∷ kept) (suc p) u = ap (λ (r : Kept). slot v ∷ r) (slots_set kept p u)
 
 -- nothing kept anywhere
-pub slots_bare : (n : ℕ) → slots (replicate n 65535) ≡ replicate n none
+pub slots_bare : (n : ℕ) → slots (replicate n 65535) ≡ replicate n None
 unfolding slots
 slots_bare zero = refl
-slots_bare (suc n) = ap (λ (r : Kept). none ∷ r) (slots_bare n)
+slots_bare (suc n) = ap (λ (r : Kept). None ∷ r) (slots_bare n)
 
 -- the answer of a lookup says what was kept
-answer_use : (v u : ℕ) → answer_of (slot v) ≡ Use u → (v ≡ u) × (v ≡ 65535 → ⊥)
-unfolding answer_of
+answer_use : (v u : ℕ) → slot v ≡ Some u → (v ≡ u) × (v ≡ 65535 → ⊥)
 answer_use v u e =
     ⊎_elim
-    (λ (b : eqb v 65535 ≡ true). let z : Nothing ≡ Use u = rw b at e in let y : ◌≡◌ {A = ℕ} 0 1 = cc in absurd (omega arith))
-    (λ (b : eqb v 65535 ≡ false). let z : Use v ≡ Use u = rw b at e in let y : v ≡ u = cc in (y, eqb-false v 65535 b))
+    (λ (b : eqb v 65535 ≡ true). let z : None ≡ Some u = rw b at e in let y : ◌≡◌ {A = ℕ} 0 1 = cc in absurd (omega arith))
+    (λ (b : eqb v 65535 ≡ false). let z : Some v ≡ Some u = rw b at e in let y : v ≡ u = cc in (y, eqb-false v 65535 b))
     (cases (eqb v 65535))
 
-answer_nothing : (v : ℕ) → answer_of (slot v) ≡ Nothing → v ≡ 65535
-unfolding answer_of
+answer_nothing : (v : ℕ) → slot v ≡ None → v ≡ 65535
 answer_nothing v e =
     ⊎_elim
     (λ (b : eqb v 65535 ≡ true). eqb-true v 65535 b)
-    (λ (b : eqb v 65535 ≡ false). let z : Use v ≡ Nothing = rw b at e in let y : ◌≡◌ {A = ℕ} 0 1 = cc in absurd (omega arith))
+    (λ (b : eqb v 65535 ≡ false). let z : Some v ≡ None = rw b at e in let y : ◌≡◌ {A = ℕ} 0 1 = cc in absurd (omega arith))
     (cases (eqb v 65535))
 
 pub kept_le : (kept : List ℕ) → kept_in kept ≤ length kept
@@ -121,17 +117,15 @@ module _ (fronts backs : List ℕ) where
 
 -- what a lookup answers
 module _ (kept : List ℕ) (p : ℕ) (l : p < length kept) where
-  pub finds_nothing : get_or kept p 0 ≡ 65535 → Nothing ≡ answer_of (get_or (slots kept) p none)
-  unfolding answer_of
+  pub finds_nothing : get_or kept p 0 ≡ 65535 → None ≡ get_or (slots kept) p None
   finds_nothing e = rw (slots_get kept p l, slot_none (get_or kept p 0) e)
 
-  pub finds_use : (get_or kept p 0 ≡ 65535 → ⊥) → Use (get_or kept p 0) ≡ answer_of (get_or (slots kept) p none)
-  unfolding answer_of
+  pub finds_use : (get_or kept p 0 ≡ 65535 → ⊥) → Some (get_or kept p 0) ≡ get_or (slots kept) p None
   finds_use n = rw (slots_get kept p l, slot_some (get_or kept p 0) n)
 
   -- what is known of the answer
-  pub found_use : (a : Lookup) (u : ℕ) → a ≡ answer_of (get_or (slots kept) p none) → a ≡ Use u → (get_or kept p 0 ≡ u) × (get_or kept p 0 ≡ 65535 → ⊥)
+  pub found_use : (a : Option ℕ) (u : ℕ) → a ≡ get_or (slots kept) p None → a ≡ Some u → (get_or kept p 0 ≡ u) × (get_or kept p 0 ≡ 65535 → ⊥)
   found_use a u e f = answer_use (get_or kept p 0) u (rw (slots_get kept p l) at (sym e ∙ f))
 
-  pub found_nothing : (a : Lookup) → a ≡ answer_of (get_or (slots kept) p none) → a ≡ Nothing → get_or kept p 0 ≡ 65535
+  pub found_nothing : (a : Option ℕ) → a ≡ get_or (slots kept) p None → a ≡ None → get_or kept p 0 ≡ 65535
   found_nothing a e f = answer_nothing (get_or kept p 0) (rw (slots_get kept p l) at (sym e ∙ f))

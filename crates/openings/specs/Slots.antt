@@ -1,22 +1,14 @@
 -- The kept uses in an array: a place for each point, 65,535 where none is kept.
-use Rattle.std.specs.Prelude.{ℕ, ◌<◌, not, List, map, ◌≡◌, eqb, get_or, length}
-use Rattle.std.proofs.Math.Option.{Option, none, some}
+use Rattle.std.specs.Prelude.{ℕ, ◌<◌, not, List, map, ◌≡◌, eqb, get_or, length, Option, None, Some}
 use Rattle.lists.specs.Lists.{count, pick}
 use Rattle.edge.specs.Uses.{back_of, edge_number}
 use Rattle.shell.specs.Openings.{Kept}
-use Rattle.openings.specs.declared.Lookup.{Lookup}
-use Rattle.openings.specs.declared.Lookup.TheVariants.{Nothing, Use}
 
 abbrev pub slot : ℕ → Option ℕ
-slot u = pick (eqb u 65535) none (some u)
+slot u = pick (eqb u 65535) None (Some u)
 
 unfoldable pub slots : List ℕ → Kept
 slots kept = map slot kept
-
--- the answer of a lookup
-unfoldable pub answer_of : Option ℕ → Lookup
-answer_of none = Nothing
-answer_of (some u) = Use u
 
 -- how many are kept
 unfoldable pub kept_in : List ℕ → ℕ

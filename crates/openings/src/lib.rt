@@ -8,22 +8,15 @@ ghost use Rattle.edge.specs.Uses.{front_of, back_of, edge_number};
 ghost use Rattle.wire.specs.Named.{Named};
 ghost use Rattle.shell.specs.Openings.{look_up, chain, keep};
 ghost use Rattle.shell.specs.OnePass.{pass};
-ghost use Rattle.openings.specs.Slots.{slots, answer_of, kept_in, Holding};
+ghost use Rattle.openings.specs.Slots.{slots, kept_in, Holding};
 ghost use Rattle.openings.specs.Passes.{is_odd, Keepable, Followed, Ready, Passed};
 
 use edge::{back_of, front_of};
 
-// What a lookup answers.
-#[derive(Clone, Copy)]
-pub enum Lookup {
-    Use(u16),
-    Nothing,
-}
-
-// The answer, with the count of lookups.
+// What a lookup answers: the use that is kept, or none; with the count of lookups.
 #[derive(Clone, Copy)]
 pub struct Looked {
-    pub answer: Lookup,
+    pub answer: Option<u16>,
     pub lookups: usize,
 }
 
@@ -46,7 +39,7 @@ pub struct Walked {
 pub fn look_up(kept: &mut [u16], p: usize, lookups: usize) -> Looked
     requires p_in_bounds { p < length kept.old }
     requires lookups_bound { lookups < 1000000 }
-    ensures answer_value { result.answer ≡ answer_of (look_up p (slots kept.old) lookups).answer }
+    ensures answer_value { result.answer ≡ (look_up p (slots kept.old) lookups).answer }
     ensures kept_after { slots kept.new ≡ (look_up p (slots kept.old) lookups).kept }
     ensures lookups_value { result.lookups ≡ lookups + 1 }
     ensures kept_after_2 { kept.new ≡ set kept.old p 65535 }
@@ -56,12 +49,12 @@ pub fn look_up(kept: &mut [u16], p: usize, lookups: usize) -> Looked
     let n = lookups + 1;
     if u == 65535 {
         return Looked {
-            answer: Lookup::Nothing,
+            answer: None,
             lookups: n,
         };
     }
     Looked {
-        answer: Lookup::Use(u),
+        answer: Some(u),
         lookups: n,
     }
 }
@@ -83,20 +76,14 @@ pub fn follow_from(
     let mut q = p;
     let mut m = at;
     let mut n = lookups;
+    // No `for`: each lookup is at the back of what the one before found.
     loop {
         let l = look_up(kept, q, n);
         n = l.lookups;
-        let found = l.answer;
-        match found {
-            Lookup::Nothing => {
-                break;
-            }
-            Lookup::Use(u) => {
-                out[m] = u;
-                m += 1;
-                q = back_of(u, fronts, backs);
-            }
-        }
+        let Some(u) = l.answer else { break };
+        out[m] = u;
+        m += 1;
+        q = back_of(u, fronts, backs);
     }
     Step { at: m, lookups: n }
 }
@@ -115,15 +102,12 @@ pub fn keep_part(kept: &mut [u16], part: &[u16], odd: &[u8], fronts: &[u16], bac
     ensures kept_after { slots kept.new ≡ keep (front_of fronts.now backs.now) (back_of fronts.now backs.now) (only (is_odd odd.now) part.now) (slots kept.old) }
     ensures holding { Holding fronts.now backs.now kept.new }
 {
-    let mut i: usize = 0;
-    while i < part.len() {
-        let u = part[i];
+    for &u in part {
         let e = (u % 32768) as usize;
         if odd[e] / 16 % 2 == 1 {
             let p = front_of(u, fronts, backs);
             keep_at(kept, p, u);
         }
-        i += 1;
     }
 }
 
@@ -176,10 +160,8 @@ pub fn walk_part(
     ensures ready_2 { Ready fronts.now backs.now kept.new out.new lens.new result }
 {
     let mut w = state;
-    let mut i: usize = 0;
-    while i < part.len() {
-        w = walk_use(kept, part[i], fronts, backs, out, lens, w);
-        i += 1;
+    for &u in part {
+        w = walk_use(kept, u, fronts, backs, out, lens, w);
     }
     w
 }

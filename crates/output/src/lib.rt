@@ -12,12 +12,9 @@ pub fn put_text(out: &mut [u8], at: usize, text: &[u8]) -> usize
     requires { at + length text.now ≤ length out.old }
     ensures { (out.new ≡ sets out.old at text.now) × (result ≡ at + length text.now) }
 {
-    let mut i: usize = 0;
-    while i < text.len() {
-        out[at + i] = text[i];
-        i += 1;
-    }
-    at + i
+    let end = at + text.len();
+    out[at..end].copy_from_slice(text);
+    end
 }
 
 // Writes a number in decimal from `at` on, and returns the place after it.
@@ -48,9 +45,9 @@ pub fn put_refusal(f: Refusal, out: &mut [u8]) -> usize
     requires { 96 ≤ length out.old }
     ensures { (out.new ≡ sets out.old 0 (refusal_line f)) × (result ≡ length (refusal_line f)) × (result ≤ 96) }
 {
-    let n = errors::number_of(f);
-    let b = errors::body_of(f);
-    let k = errors::record_of(f);
+    let n = f.number();
+    let b = f.body();
+    let k = f.record();
     let mut at = put_field(out, 0, b"refused ", n);
     at = put_field(out, at, b" body ", b);
     at = put_field(out, at, b" record ", k);

@@ -73,10 +73,8 @@ fn distinct(listings: &[u16], firsts: &[usize], out: &mut [u16]) -> usize
 {
     let mut marks = [0u8; 512];
     let mut at: usize = 0;
-    let mut k: usize = 0;
-    while k < listings.len() {
-        at = add_pair(&mut marks, firsts, out, at, listings[k]);
-        k += 1;
+    for &l in listings {
+        at = add_pair(&mut marks, firsts, out, at, l);
     }
     at
 }
@@ -101,11 +99,9 @@ fn put_spans<'a>(
     requires parted { Parted uses.now turned.now starts.now pairs.now }
     ensures { out.new ≡ padded 512 0 (map (λ (l : ℕ). length (part_at uses.now turned.now starts.now l)) pairs.now) }
 {
-    let mut k: usize = 0;
-    while k < pairs.len() {
-        let part = part_of(uses, turned, starts, pairs[k]);
+    for (k, &pair) in pairs.iter().enumerate() {
+        let part = part_of(uses, turned, starts, pair);
         out[k] = short(part.len());
-        k += 1;
     }
 }
 
@@ -133,10 +129,8 @@ fn put_parts<'a>(
     ensures value { result ≡ length (parts_of uses.now turned.now starts.now pairs.now) }
 {
     let mut at: usize = 0;
-    let mut pair: usize = 0;
-    while pair < pairs.len() {
-        at = put_part(out, at, part_of(uses, turned, starts, pairs[pair]));
-        pair += 1;
+    for &pair in pairs {
+        at = put_part(out, at, part_of(uses, turned, starts, pair));
     }
     at
 }

@@ -1,4 +1,5 @@
 -- What columns without fault say: uses name edges, the sums are right.
+use Rattle.std.specs.Prelude.{Err, Result}
 use Prim.Native.Nat.{◌+◌, ◌<◌, ℕ}
 use mathlib.Core.Bool.{false, true}
 use mathlib.Core.List.{List, [], ◌++◌, map}
@@ -12,10 +13,8 @@ use borrow.Author.Tests.{eqb-true, ltb-true}
 use Rattle.edge.specs.Edges.{back_number, front_number}
 use Rattle.edge.specs.Uses.{edge_number, front_of}
 use Rattle.edge.specs.declared.Edge.{Edge}
-use Rattle.errors.proofs.Laws.{each_record, first_append, none_left, none_right, unless_passes}
+use Rattle.errors.proofs.Laws.{and_then, each_record, first_append, none_left, none_right, unless_passes}
 use Rattle.errors.specs.Faults.{each, first}
-use Rattle.errors.specs.declared.Check.{Check}
-use Rattle.errors.specs.declared.Check.TheVariants.{Refused}
 use Rattle.errors.specs.declared.Refusal.{Refusal}
 use Rattle.errors.specs.declared.Refusal.TheVariants.{Unnamed}
 use Rattle.face.specs.Faces.{face_rule, wire_count}
@@ -28,7 +27,6 @@ use Rattle.pattern.specs.Checks.{content_faults, edge_faults, name_faults, recor
 use Rattle.pattern.specs.Contents.{Pattern, content}
 use Rattle.wire.specs.Named.{Named}
 use Rattle.pattern.specs.Columns.{Checkable, column_faults, list_faults}
-use Rattle.errors.specs.Sequence.{and_then}
 
 module _ (edges : ℕ) (uses wires counts shells listings : List ℕ) (ok : list_faults edges uses wires counts shells listings ≡ []) where
   abbrev names : List Refusal
@@ -97,8 +95,8 @@ module _ {counts fronts backs uses wires faces shells listings : List ℕ} (c : 
   pub columns_first : first (column_faults E B U W F S L) ≡ and_then (first (list_faults (get_or counts 1 0) U W F S L)) (first (face_rule E B 0 (split F (split W U))))
   columns_first = rw fronts_taken (first_append (list_faults (get_or counts 1 0) U W F S L) (face_rule E B 0 (split F (split W U))))
 
-  pub columns_refused : (f : Refusal) → first (list_faults (get_or counts 1 0) U W F S L) ≡ Refused f → Refused f ≡ first (column_faults E B U W F S L)
-  columns_refused f h = sym (columns_first ∙ ap (λ (r : Check). and_then r (first (face_rule E B 0 (split F (split W U))))) h)
+  pub columns_refused : (f : Refusal) → first (list_faults (get_or counts 1 0) U W F S L) ≡ Err f → Err f ≡ first (column_faults E B U W F S L)
+  columns_refused f h = sym (columns_first ∙ ap (λ (r : Result Unit Refusal). and_then r (first (face_rule E B 0 (split F (split W U))))) h)
 
   module _ (ok : list_faults (get_or counts 1 0) U W F S L ≡ []) where
     pub columns_passed : first (face_rule E B 0 (split F (split W U))) ≡ first (column_faults E B U W F S L)
@@ -156,6 +154,6 @@ module _ (p : Pattern) (s : Limited p.counts) (full : Full p) (fine : edge_fault
   pub content_columns : first (column_faults (take e fronts) (take e backs) (content p).uses (content p).wires (take (get_or p.counts 4 0) counts) (content p).shells (content p).listings) ≡ first (content_faults (content p))
   content_columns =
       columns_first checkable
-      ∙ ap (λ (r : Check). and_then r (first (face_rule (take e fronts) (take e backs) 0 (split (take (get_or p.counts 4 0) counts) (split (content p).wires (content p).uses))))) (lists_with p counts w ∙ sym (records_are p s full fine))
+      ∙ ap (λ (r : Result Unit Refusal). and_then r (first (face_rule (take e fronts) (take e backs) 0 (split (take (get_or p.counts 4 0) counts) (split (content p).wires (content p).uses))))) (lists_with p counts w ∙ sym (records_are p s full fine))
       ∙ ap (and_then (first (record_faults (content p)))) (rule_with p fronts backs counts f b w)
       ∙ sym (first_append (record_faults (content p)) (rule p))

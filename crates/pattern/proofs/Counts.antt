@@ -7,7 +7,7 @@ use lib.Dec.{leb}
 use lib.ListN.{get_or, length, length-map, take}
 use lib.Seq.{length-take-le}
 use borrow.Author.Tests.{leb-true}
-use Rattle.errors.proofs.Laws.{each_record, first_append, unless_passes}
+use Rattle.errors.proofs.Laws.{and_then, each_record, first_append, unless_passes}
 use Rattle.errors.specs.Faults.{each, first}
 use Rattle.errors.specs.declared.Refusal.{Refusal}
 use Rattle.errors.specs.declared.Refusal.TheVariants.{Limit}
@@ -16,7 +16,6 @@ use Rattle.lists.proofs.Laws.{map_take}
 use Rattle.pattern.specs.Checks.{count_faults, edge_faults, limit_faults, name_faults, record_faults, sum_faults}
 use Rattle.pattern.specs.Contents.{Pattern, content, layout}
 use Rattle.pattern.specs.Columns.{list_faults}
-use Rattle.errors.specs.Sequence.{and_then}
 
 pub record Limited (counts : List ℕ) : Type 0 where
   pub points : get_or counts 0 0 ≤ 2048

@@ -1,13 +1,12 @@
 -- The reading checks of the edges, and those after them.
+use Rattle.std.specs.Prelude.{Err, Result}
 use Prim.Native.Nat.{ℕ}
 use mathlib.Core.List.{List, [], map}
 use mathlib.Core.Path.{◌∙◌, ◌≡◌, ap}
 use lib.ListN.{get_or, take}
 use Rattle.edge.specs.Edges.{back_number, front_number}
-use Rattle.errors.proofs.Laws.{refused_first}
+use Rattle.errors.proofs.Laws.{and_then, refused_first}
 use Rattle.errors.specs.Faults.{each, first}
-use Rattle.errors.specs.declared.Check.{Check}
-use Rattle.errors.specs.declared.Check.TheVariants.{Refused}
 use Rattle.errors.specs.declared.Refusal.{Refusal}
 use Rattle.face.specs.Faces.{face_rule, wire_count}
 use Rattle.lists.specs.Lists.{split}
@@ -16,7 +15,6 @@ use Rattle.pattern.proofs.Named.{tables_rule}
 use Rattle.pattern.specs.Checks.{content_faults, edge_faults, outlines, record_faults}
 use Rattle.pattern.specs.Contents.{Pattern, content}
 use Rattle.pattern.specs.Columns.{list_faults}
-use Rattle.errors.specs.Sequence.{and_then}
 
 -- the answers of the reading checks after the counts
 module _ (p : Pattern) where
@@ -40,8 +38,8 @@ module _ (p : Pattern) where
   rule_with fronts backs counts f b e = rw (f, b, e) (ap first (tables_rule p))
 
   module _ (s : Limited p.counts) (full : Full p) where
-    pub edge_refused : (f : Refusal) → first edge_faults_lem ≡ Refused f → first (content_faults (content p)) ≡ Refused f
-    edge_refused f h = refused_first (record_faults (content p)) rule f (records_first p s full ∙ ap (λ (r : Check). and_then r (first list_faults_lem)) h)
+    pub edge_refused : (f : Refusal) → first edge_faults_lem ≡ Err f → first (content_faults (content p)) ≡ Err f
+    edge_refused f h = refused_first (record_faults (content p)) rule f (records_first p s full ∙ ap (λ (r : Result Unit Refusal). and_then r (first list_faults_lem)) h)
 
     module _ (edges : edge_faults_lem ≡ []) where
       pub records_are : first (record_faults (content p)) ≡ first list_faults_lem

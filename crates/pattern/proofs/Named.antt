@@ -9,7 +9,7 @@ use lib.Dec.{eqb, leb, ltb}
 use lib.ListN.{get_or-map, get_or, length, length-map, take}
 use borrow.Author.Tests.{eqb-true, ltb-true, not-true}
 use Rattle.edge.proofs.Laws.{no_edge}
-use Rattle.edge.specs.Edges.{back_number, edge, front_number, is_span}
+use Rattle.edge.specs.Edges.{back_number, front_number, is_span}
 use Rattle.edge.specs.Uses.{back_of, edge_number, front_of}
 use Rattle.errors.proofs.Laws.{each_record, none_left, none_right, unless_passes}
 use Rattle.errors.specs.Faults.{each}

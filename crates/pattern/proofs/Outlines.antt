@@ -1,9 +1,11 @@
 -- The answers of `wire_place`.
+use Rattle.errors.specs.Numbers.{not_there}
+use Rattle.errors.specs.declared.CallError.TheVariants.{Refused, Unread}
+use Rattle.std.specs.Prelude.{Err, Ok}
 use Prim.Native.Nat.{◌+◌, ◌<◌, ◌≤◌, suc, ℕ}
 use mathlib.Core.List.{List, [], ◌∷◌}
 use mathlib.Core.Path.{◌≡◌, ap, sym}
 use native.Mathlib.Omega.{arith}
-use lib.Ieee.{fits}
 use lib.ListN.{get_or, length, take}
 use lib.Seq.{get_or-take, take-take}
 use borrow.Author.Tests.{le-leb, le-ltb, lt-ltb}
@@ -17,19 +19,17 @@ use Rattle.pattern.proofs.Named.{wires_summed}
 use Rattle.pattern.specs.Checks.{pattern_faults, record_faults}
 use Rattle.pattern.specs.Contents.{Content, Pattern, content}
 use Rattle.pattern.specs.Outlines.{place_of, wire_place}
-use Rattle.errors.specs.declared.Check.TheVariants.{Refused as Check-as-Refused}
-use Rattle.pattern.specs.declared.WirePlace.TheVariants.{At, NoWire, Refused}
 use Rattle.wire.specs.Wires.{outline_of}
 
-pub place_refused : (fs : List Refusal) (c : Content) (w : ℕ) (f : Refusal) → first fs ≡ Check-as-Refused f → Refused f ≡ place_of fs c w
+pub place_refused : (fs : List Refusal) (c : Content) (w : ℕ) (f : Refusal) → first fs ≡ Err f → (Err (Unread f)) ≡ place_of fs c w
 place_refused [] c w f h = cc
-place_refused (g ∷ fs) c w f h = let e : f ≡ g = cc in ap Refused e
+place_refused (g ∷ fs) c w f h = let e : f ≡ g = cc in ap (λ x. Err (Unread x)) e
 
 module _ (p : Pattern) (ok : pattern_faults p ≡ []) (s : Limited p.counts) (full : Full p) (w : ℕ) where
-  pub no_wire : get_or p.counts 3 0 ≤ w → NoWire ≡ wire_place p w
+  pub no_wire : get_or p.counts 3 0 ≤ w → (Err (Refused not_there)) ≡ wire_place p w
   no_wire h = rw (ok, wires_counted p s full, le-ltb w (get_or p.counts 3 0) h)
 
-  pub wire_there : w < get_or p.counts 3 0 → At (sum (take w p.wires)) (get_or p.wires w 0) ≡ wire_place p w
+  pub wire_there : w < get_or p.counts 3 0 → (Ok (sum (take w p.wires), get_or p.wires w 0)) ≡ wire_place p w
   wire_there h =
       rw (ok, wires_counted p s full, lt-ltb w (get_or p.counts 3 0) h, take-take w (get_or p.counts 3 0) p.wires (omega arith), get_or-take (get_or p.counts 3 0) p.wires w 0 h)
 

@@ -8,7 +8,7 @@ ghost use Rattle.pattern.specs.Checks.{count_faults, edge_faults, name_faults, s
 ghost use Rattle.pattern.specs.Columns.{Checkable, column_faults, list_faults};
 
 use edge::Edge;
-use errors::{Check, Refusal};
+use errors::Refusal;
 use face::check_faces;
 use words::{index, sum_of};
 
@@ -41,22 +41,20 @@ pub fn file_layout() -> Layout
 }
 
 // Counts in body order: 2.
-pub fn check_counts(counts: Counts) -> Check
+pub fn check_counts(counts: Counts) -> Result<(), Refusal>
     ensures { result ≡ firstFault (count_faults counts) }
 {
     let lay = file_layout();
-    let mut b: usize = 0;
-    while b < BODIES {
-        if counts[b] > lay.limits[b] {
-            return Check::Refused(Refusal::Limit(b));
+    for (b, count) in counts.iter().enumerate() {
+        if *count > lay.limits[b] {
+            return Err(Refusal::Limit(b));
         }
-        b += 1;
     }
-    Check::Accepted
+    Ok(())
 }
 
 // One edge for its points, ends and span: 3, 5, 4.
-pub fn check_edge(e: Edge, k: usize, points: usize) -> Check
+pub fn check_edge(e: Edge, k: usize, points: usize) -> Result<(), Refusal>
     ensures { result ≡ firstFault (edge_faults points k e) }
 {
     let front = index(e.front.0);
@@ -64,44 +62,42 @@ pub fn check_edge(e: Edge, k: usize, points: usize) -> Check
     let curve = e.curve;
     let span = curve.is_span();
     if front >= points {
-        return Check::Refused(Refusal::Unnamed(1, k));
+        return Err(Refusal::Unnamed(1, k));
     }
     if back >= points {
-        return Check::Refused(Refusal::Unnamed(1, k));
+        return Err(Refusal::Unnamed(1, k));
     }
     if front == back {
-        return Check::Refused(Refusal::SameVertex(k));
+        return Err(Refusal::SameVertex(k));
     }
     if !span {
-        return Check::Refused(Refusal::Span(k));
+        return Err(Refusal::Span(k));
     }
-    Check::Accepted
+    Ok(())
 }
 
 // The first n uses or listings: 3.
-fn check_names(numbers: &[u16], n: usize, body: usize, names: usize) -> Check
+fn check_names(numbers: &[u16], n: usize, body: usize, names: usize) -> Result<(), Refusal>
     requires { n ≤ length numbers.now }
     ensures { result ≡ firstFault (each (name_faults body names) 0 (take n numbers.now)) }
 {
-    let mut k: usize = 0;
-    while k < n {
-        if index(numbers[k] % 32768) >= names {
-            return Check::Refused(Refusal::Unnamed(body, k));
+    for (k, number) in numbers[..n].iter().enumerate() {
+        if index(*number % 32768) >= names {
+            return Err(Refusal::Unnamed(body, k));
         }
-        k += 1;
     }
-    Check::Accepted
+    Ok(())
 }
 
 // The sum of the first n numbers against a count: 3.
-fn check_sum(ns: &[u16], n: usize, body: usize, total: usize) -> Check
+fn check_sum(ns: &[u16], n: usize, body: usize, total: usize) -> Result<(), Refusal>
     requires { (n ≤ length ns.now) × (n ≤ 4096) }
     ensures { result ≡ firstFault (sum_faults body (take n ns.now) total) }
 {
     if sum_of(ns, n) == total {
-        Check::Accepted
+        Ok(())
     } else {
-        Check::Refused(Refusal::Unnamed(body, n))
+        Err(Refusal::Unnamed(body, n))
     }
 }
 
@@ -118,15 +114,15 @@ fn check_lists<'a>(
     scount: usize,
     listings: &'a [u16],
     lcount: usize,
-) -> Check
+) -> Result<(), Refusal>
     requires { (ucount ≤ length uses.now) × (wcount ≤ length wires.now) × (wcount ≤ 1024) × (fcount ≤ length counts.now) × (fcount ≤ 256) × (scount ≤ length shells.now) × (scount ≤ 16) × (lcount ≤ length listings.now) }
     ensures { result ≡ firstFault (list_faults ecount (take ucount uses.now) (take wcount wires.now) (take fcount counts.now) (take scount shells.now) (take lcount listings.now)) }
 {
-    check_names(uses, ucount, 2, ecount)
-        .and_then(check_sum(wires, wcount, 3, ucount))
-        .and_then(check_sum(counts, fcount, 4, wcount))
-        .and_then(check_sum(shells, scount, 5, lcount))
-        .and_then(check_names(listings, lcount, 6, fcount))
+    check_names(uses, ucount, 2, ecount)?;
+    check_sum(wires, wcount, 3, ucount)?;
+    check_sum(counts, fcount, 4, wcount)?;
+    check_sum(shells, scount, 5, lcount)?;
+    check_names(listings, lcount, 6, fcount)
 }
 
 // The reading checks after those of the edges, on columns: the other records, the face rule. Of each
@@ -140,7 +136,7 @@ pub fn check_columns<'a>(
     faces: &'a [u16],
     shells: &'a [u16],
     listings: &'a [u16],
-) -> Check
+) -> Result<(), Refusal>
     requires { Checkable counts fronts.now backs.now uses.now wires.now faces.now shells.now listings.now }
     ensures { result ≡ firstFault (column_faults (take (get_or counts 1 0) fronts.now) (take (get_or counts 1 0) backs.now) (take (get_or counts 2 0) uses.now) (take (get_or counts 3 0) wires.now) (take (get_or counts 4 0) faces.now) (take (get_or counts 5 0) shells.now) (take (get_or counts 6 0) listings.now)) }
 {
@@ -150,27 +146,15 @@ pub fn check_columns<'a>(
     let fcount = counts[4];
     let scount = counts[5];
     let lcount = counts[6];
-    let records = check_lists(
+    check_lists(
         uses, ucount, ecount, wires, wcount, faces, fcount, shells, scount, listings, lcount,
-    );
-    match records {
-        Check::Refused(f) => Check::Refused(f),
-        Check::Accepted => check_faces(
-            &uses[0..ucount],
-            &wires[0..wcount],
-            faces,
-            fcount,
-            &fronts[0..ecount],
-            &backs[0..ecount],
-        ),
-    }
-}
-
-// Where the uses of a wire stand in the use list: their start and their number; or the refusal of
-// the reading checks; or no such wire (3).
-#[derive(Clone, Copy)]
-pub enum WirePlace {
-    At(usize, usize),
-    Refused(Refusal),
-    NoWire,
+    )?;
+    check_faces(
+        &uses[0..ucount],
+        &wires[0..wcount],
+        faces,
+        fcount,
+        &fronts[0..ecount],
+        &backs[0..ecount],
+    )
 }

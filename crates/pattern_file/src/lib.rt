@@ -16,11 +16,9 @@ pub fn starts_of(counts: Counts) -> Starts
     let lay = file_layout();
     let mut out = [0usize; BODIES + 1];
     let mut at = lay.first;
-    let mut b: usize = 0;
-    while b < BODIES {
+    for b in 0..BODIES {
         out[b] = at;
         at += lay.sizes[b] * counts[b];
-        b += 1;
     }
     out[BODIES] = at;
     out

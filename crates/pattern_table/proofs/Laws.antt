@@ -1,5 +1,6 @@
 -- What the proofs of the contents table cite, and what a right table says of the bodies.
-use Prim.Native.Nat.{◌*◌, ◌+◌, ◌-◌, ◌<◌, ◌≤◌, suc, ℕ}
+use Rattle.std.specs.Prelude.{Err, Ok}
+use Prim.Native.Nat.{◌*◌, ◌+◌, ◌<◌, ◌≤◌, suc, ℕ}
 use mathlib.Core.Bool.{◌&&◌}
 use mathlib.Core.List.{List, [], ◌++◌}
 use mathlib.Core.Path.{◌∙◌, ◌≡◌, ap, refl, sym}
@@ -9,7 +10,6 @@ use lib.ListN.{get_or, length}
 use borrow.Author.Tests.{eq-eqb, eqb-true, le-leb, leb-true, lt-leb, ne_eqb}
 use Rattle.errors.proofs.Laws.{Passed, accepted_none, none_left, none_right, passed_all, passed_next, passed_stop, refused_first, unless_passes}
 use Rattle.errors.specs.Faults.{each, first}
-use Rattle.errors.specs.declared.Check.TheVariants.{Accepted, Refused}
 use Rattle.errors.specs.declared.Refusal.TheVariants.{Layout}
 use Rattle.errors.specs.declared.Refusal.{Refusal}
 use Rattle.lists.proofs.Flat.{get_d_tabulate}
@@ -32,7 +32,7 @@ module _ (s : List ℕ) where
     entry : b < length (tabulate 7 (offset_at s))
     entry = rw (length_tabulate 7 (offset_at s)) h
 
-    pub wrong_offset : (offset_at s b ≡ start_of (file_counts s) b → ⊥) → Refused (Layout b) ≡ first (offset_faults s)
+    pub wrong_offset : (offset_at s b ≡ start_of (file_counts s) b → ⊥) → (Err (Layout b)) ≡ first (offset_faults s)
     wrong_offset ne =
         sym
         (refused_first (each (offset_fault (file_counts s)) 0 (tabulate 7 (offset_at s))) _ (Layout b)
@@ -48,30 +48,30 @@ module _ (s : List ℕ) where
     offsets_right : each (offset_fault (file_counts s)) 0 (tabulate 7 (offset_at s)) ≡ []
     offsets_right = passed_all (offset_fault (file_counts s)) 0 (tabulate 7 (offset_at s)) 0 b passed (omega (arith, length_tabulate 7 (offset_at s)))
 
-    pub wrong_end : (length s ≡ start_of (file_counts s) 7 → ⊥) → Refused (Layout 6) ≡ first (offset_faults s)
+    pub wrong_end : (length s ≡ start_of (file_counts s) 7 → ⊥) → (Err (Layout 6)) ≡ first (offset_faults s)
     wrong_end ne = rw (offsets_right, ne_eqb (length s) (start_of (file_counts s) 7) ne)
 
-    pub right_end : length s ≡ start_of (file_counts s) 7 → Accepted ≡ first (offset_faults s)
+    pub right_end : length s ≡ start_of (file_counts s) 7 → Ok tt ≡ first (offset_faults s)
     right_end e = rw (offsets_right, eq-eqb (length s) (start_of (file_counts s) 7) e)
 
   lengths_right : layout.first ≤ length s → length s ≤ start_of layout.limits 7 → length_faults s ≡ []
   lengths_right a b = rw (le-leb layout.first (length s) a, le-leb (length s) (start_of layout.limits 7) b)
 
-  pub too_short : length s < layout.first → Refused (Layout 0) ≡ first (table_faults s)
+  pub too_short : length s < layout.first → (Err (Layout 0)) ≡ first (table_faults s)
   too_short h = rw (lt-leb layout.first (length s) h)
 
   module _ (a : layout.first ≤ length s) where
-    pub too_long : start_of layout.limits 7 < length s → Refused (Layout 0) ≡ first (table_faults s)
+    pub too_long : start_of layout.limits 7 < length s → (Err (Layout 0)) ≡ first (table_faults s)
     too_long h = rw (le-leb layout.first (length s) a, lt-leb (length s) (start_of layout.limits 7) h)
 
     module _ (b : length s ≤ start_of layout.limits 7) where
-      pub counts_wrong : (f : Refusal) → first (count_faults (file_counts s)) ≡ Refused f → Refused f ≡ first (table_faults s)
+      pub counts_wrong : (f : Refusal) → first (count_faults (file_counts s)) ≡ Err f → Err f ≡ first (table_faults s)
       counts_wrong f e =
           sym
           (rw (lengths_right a b)
           (refused_first (count_faults (file_counts s)) (offset_faults s) f e))
 
-      pub counts_right : first (count_faults (file_counts s)) ≡ Accepted → first (offset_faults s) ≡ first (table_faults s)
+      pub counts_right : first (count_faults (file_counts s)) ≡ Ok tt → first (offset_faults s) ≡ first (table_faults s)
       counts_right e = rw (lengths_right a b, accepted_none (count_faults (file_counts s)) e)
 
   -- ---- the bodies of a file whose table is right

@@ -1,18 +1,17 @@
 -- The refusals of a removal in sequence, and the wires that the code finds.
+use Rattle.std.specs.Prelude.{Err, Ok, Result}
 use Prim.Native.Nat.{◌-◌, ◌<◌, ◌≤◌, suc, zero, ℕ}
 use Prim.{⊥}
 use mathlib.Core.Bool.{Bool, ◌||◌, false, true, true≢false}
 use mathlib.Core.List.{List, [], ◌++◌, ◌∷◌}
 use mathlib.Core.Logic.{⊎_elim}
-use mathlib.Core.Path.{◌∙◌, ◌≡◌, ap, refl, sym}
+use mathlib.Core.Path.{◌≡◌, ap, refl, sym}
 use native.Mathlib.Omega.{arith}
 use lib.Dec.{leb, ltb}
 use lib.ListN.{get_or-eq_default, get_or, length}
 use borrow.Author.Tests.{le-leb, le-ltb, lt-leb, lt-ltb, ltb-true, ltb-false}
 use Rattle.concat.proofs.Judged.{and_false}
 use Rattle.concat.specs.Joins.{joint}
-use Rattle.concat.specs.declared.Joint.TheVariants.{Not as Joint-as-Not, Whole}
-use Rattle.remove_vertex_corners.specs.Corners.{fit}
 use Rattle.remove_vertex_corners.specs.declared.Corner.{Corner}
 use Rattle.edge.specs.declared.Edge.{Edge}
 use Rattle.edit_answers.specs.declared.EditError.{EditError}
@@ -24,9 +23,6 @@ use Rattle.pattern.specs.Contents.{Content}
 use Rattle.remove_vertex_corners.specs.Endings.{ending_of, ends_at}
 use Rattle.remove_vertex.specs.Removals.{OfEdges, pairing, removal}
 use Rattle.remove_vertex_corners.specs.declared.Ending.{Ending}
-use Rattle.remove_vertex.specs.declared.Pairing.{Pairing}
-use Rattle.remove_vertex.specs.declared.Pairing.TheVariants.{Found, Not as Pair-as-Not}
-use Rattle.remove_vertex.specs.declared.Removal.TheVariants.{Joins, Not}
 use Rattle.shell_edits.proofs.Removal.{only_pass}
 use Rattle.shell_edits.specs.Edits.{ending_wires, first_wire, last_wire, matched, near_faults, shares_face}
 
@@ -52,43 +48,28 @@ module _ (fronts backs : List ℕ) (v : ℕ) (xss : List (List ℕ)) where
       )
 
 -- ---- the refusals
-module _ (es : List EditError) (d : Edge) (e : Ending) where
-  pub removal_not : {x : EditError} → joint es d ≡ Joint-as-Not x → Not x ≡ removal es d e
-  removal_not h = go es h
-    where
-      go : (es : List EditError) {x : EditError} → joint es d ≡ Joint-as-Not x → Not x ≡ removal es d e
-      go [] h = cc
-      go (y ∷ es) {x} h = let k : x ≡ y = cc in ap Not k
-
-  pub removal_joins : {k : Edge} → joint es d ≡ Whole k → Joins k e ≡ removal es d e
-  removal_joins h = go es h
-    where
-      go : (es : List EditError) {k : Edge} → joint es d ≡ Whole k → Joins k e ≡ removal es d e
-      go [] {k} h = let z : k ≡ d = cc in ap (λ (r : Edge). Joins r e) z
-      go (y ∷ es) h = cc
-
 module _ (c : Content) (n v points shells : ℕ) (ps : length c.points ≡ points) (ss : length c.shells ≡ shells) (k : Corner) (e : Ending) where
-  abbrev found : Pairing
+  abbrev found : Result (Ending × Corner) EditError
   found = pairing (near_faults c n v) e k
 
-  pub no_shell : shells ≤ n → Pair-as-Not Unnamed ≡ found
+  pub no_shell : shells ≤ n → Err Unnamed ≡ found
   no_shell h = rw (ss, le-ltb n shells h)
 
-  pub no_point : points ≤ v → Pair-as-Not Unnamed ≡ found
+  pub no_point : points ≤ v → Err Unnamed ≡ found
   no_point h = rw (ps, and_false (ltb n (length c.shells)) (ltb v points) (le-ltb v points h))
 
   module _ (hn : n < shells) (hv : v < points) where
-    pub is_shared : shares_face c n ≡ true → Pair-as-Not SharedFace ≡ found
+    pub is_shared : shares_face c n ≡ true → Err SharedFace ≡ found
     is_shared h = rw (ps, ss, lt-ltb n shells hn, lt-ltb v points hv, h)
 
     module _ (own : shares_face c n ≡ false) (g : Ending) (is : g ≡ ending_of (ending_wires c n v)) where
       number : g.number ≡ length (ending_wires c n v)
       number = ap (λ (r : Ending). r.number) is
 
-      pub no_wire : g.number ≡ 0 → Pair-as-Not NotOneOrTwoWires ≡ found
+      pub no_wire : g.number ≡ 0 → Err NotOneOrTwoWires ≡ found
       no_wire h = rw (ps, ss, lt-ltb n shells hn, lt-ltb v points hv, own, ← number, h)
 
-      pub many_wires : 2 < g.number → Pair-as-Not NotOneOrTwoWires ≡ found
+      pub many_wires : 2 < g.number → Err NotOneOrTwoWires ≡ found
       many_wires h =
           rw (ps, ss, lt-ltb n shells hn, lt-ltb v points hv, own, ← number, and_false (ltb 0 g.number) (leb g.number 2) (lt-leb g.number 2 h))
 
@@ -96,37 +77,26 @@ module _ (c : Content) (n v points shells : ℕ) (ps : length c.points ≡ point
       near_are h l =
           rw (ps, ss, lt-ltb n shells hn, lt-ltb v points hv, own, ← number, lt-ltb 0 g.number h, le-leb g.number 2 l, is)
 
--- the corners that the code reads
-module _ (e : Ending) {a b k l : Corner} (ea : a ≡ k) (eb : b ≡ l) {t : Bool} (et : t ≡ fit e a b) where
-  fit_is : t ≡ fit e k l
-  fit_is = et ∙ ap (λ (c : Corner). fit e c b) ea ∙ ap (λ (c : Corner). fit e k c) eb
-
-  pub unmatched : t ≡ false → Pair-as-Not Unmatched ≡ pairing (unless (fit e k l) Unmatched) e l
-  unmatched h = ap (λ (x : Bool). pairing (unless x Unmatched) e l) (sym h ∙ fit_is)
-
-  pub fitting : t ≡ true → Found e b ≡ pairing (unless (fit e k l) Unmatched) e l
-  fitting h = ap (Found e) eb ∙ ap (λ (x : Bool). pairing (unless x Unmatched) e l) (sym h ∙ fit_is)
-
-pub of_edges : (m : ℕ) {r q : Pairing} → r ≡ q → OfEdges m r → OfEdges m q
+pub of_edges : (m : ℕ) {r q : Result (Ending × Corner) EditError} → r ≡ q → OfEdges m r → OfEdges m q
 of_edges m e h = rw e at h
 
 -- ---- the pair, then its edges
-pub pairing_not : (near es : List EditError) (e : Ending) (k : Corner) (d : Edge) {x : EditError} → Pair-as-Not x ≡ pairing near e k → Not x ≡ removal (near ++ es) d e
+pub pairing_not : (near es : List EditError) (e : Ending) (k : Corner) (d : Edge) {x : EditError} → Err x ≡ pairing near e k → Err x ≡ removal (near ++ es) d e
 pairing_not [] es e k d h = cc
-pairing_not (y ∷ near) es e k d {x} h = let z : x ≡ y = cc in ap Not z
+pairing_not (y ∷ near) es e k d {x} h = let z : x ≡ y = cc in ap Err z
 
-pub pairing_found : (near : List EditError) (e : Ending) (k : Corner) {g : Ending} {l : Corner} → Found g l ≡ pairing near e k → (near ≡ []) × (g ≡ e) × (l ≡ k)
-pairing_found [] e k h = (refl, cc, cc)
+pub pairing_found : (near : List EditError) (e : Ending) (k : Corner) {g : Ending} {l : Corner} → Ok (g, l) ≡ pairing near e k → (near ≡ []) × (g ≡ e) × (l ≡ k)
+pairing_found [] e k {g} {l} h = let z : ◌≡◌ {A = Ending × Corner} (g, l) (e, k) = cc in (refl, ap (λ (x : Ending × Corner). x.0) z, ap (λ (x : Ending × Corner). x.1) z)
 pairing_found (y ∷ near) e k h = (cc, cc, cc)
 
 -- ---- and back
-pub not_joint : (es : List EditError) (d : Edge) (e : Ending) {x : EditError} → removal es d e ≡ Not x → joint es d ≡ Joint-as-Not x
+pub not_joint : (es : List EditError) (d : Edge) (e : Ending) {x : EditError} → removal es d e ≡ Err x → joint es d ≡ Err x
 not_joint [] d e h = cc
-not_joint (y ∷ es) d e {x} h = let k : y ≡ x = cc in ap Joint-as-Not k
+not_joint (y ∷ es) d e {x} h = let k : y ≡ x = cc in ap Err k
 
-pub joins_whole : (es : List EditError) (d : Edge) (e : Ending) {k : Edge} {g : Ending} → removal es d e ≡ Joins k g → (es ≡ []) × ((k ≡ d) × (g ≡ e))
-joins_whole [] d e {k} {g} h = let a : k ≡ d = cc in let b : g ≡ e = cc in (refl, (a, b))
-joins_whole (y ∷ es) d e {k} {g} h = let a : y ∷ es ≡ [] = cc in let b : k ≡ d = cc in let z : g ≡ e = cc in (a, (b, z))
+pub joins_whole : (es : List EditError) (d : Edge) (e : Ending) {k : Edge} {g : Ending} → removal es d e ≡ Ok (k, g) → (es ≡ []) × ((k ≡ d) × (g ≡ e))
+joins_whole [] d e {k} {g} h = let z : ◌≡◌ {A = Edge × Ending} (k, g) (d, e) = cc in (refl, (ap (λ (x : Edge × Ending). x.0) z, ap (λ (x : Edge × Ending). x.1) z))
+joins_whole (y ∷ es) d e h = (cc, (cc, cc))
 
 pub positive : (n : ℕ) → (n ≡ 0 → ⊥) → 0 < n
 positive zero h = absurd (h refl)

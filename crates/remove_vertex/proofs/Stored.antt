@@ -1,4 +1,5 @@
 -- What the reading checks say of the tables; the storage after a removal.
+use Rattle.std.specs.Prelude.{Err, Ok, Result}
 use native.Mathlib.Nat.{sub-zero}
 use native.Mathlib.Omega.{arith}
 use Prim.Native.Nat.{◌+◌, ◌-◌, ◌<◌, suc, ℕ, ◌≤◌}
@@ -47,13 +48,9 @@ use Rattle.shell_wires.proofs.Made.{ends_named, ends_room, lent_fine, uses_room,
 use Rattle.shell_wires.specs.Lent.{Lent}
 use Rattle.store.specs.Store.{count_table, held, listing_table, shell_table, use_table, wire_table}
 use Rattle.wire.proofs.Laws.{faultless_sound}
-use Rattle.wire.specs.Wires.{closed, points, runs, wire_faults}
+use Rattle.wire.specs.Wires.{closed, runs, wire_faults}
 use Rattle.remove_vertex.proofs.Removals.{ending_inside, pairing_found, pairing_not}
 use Rattle.remove_vertex.specs.Removals.{corner_in, corner_lent, pair_edge, pairing, pair_stored, pair_wires, removal, removed_in}
-use Rattle.remove_vertex.specs.declared.Pairing.{Pairing}
-use Rattle.remove_vertex.specs.declared.Pairing.TheVariants.{Found, Not as Pair-as-Not}
-use Rattle.remove_vertex.specs.declared.Removal.{Removal}
-use Rattle.remove_vertex.specs.declared.Removal.TheVariants.{Not}
 use Rattle.store.specs.Columns.{back_table, face_table, front_table, with_counts, with_uses, with_wires}
 
 -- ---- every wire has two uses or more
@@ -112,8 +109,8 @@ module _ (c : Content) (ok : content_faults c ≡ []) where
       omega (arith, two, part_long c.wires c.uses w (wires_summed c records) h)
 
 -- refused before the edges are joined
-pub pair_refused : (c : Content) (n v : ℕ) {x : EditError} → Pair-as-Not x ≡ pairing (near_faults c n v) (ending_of (ending_wires c n v)) (corner_in c v (last_wire (ending_wires c n v)))
-    → Not x ≡ removal (remove_faults c n v) (pair_edge c v (ending_of (ending_wires c n v))) (ending_of (ending_wires c n v))
+pub pair_refused : (c : Content) (n v : ℕ) {x : EditError} → Err x ≡ pairing (near_faults c n v) (ending_of (ending_wires c n v)) (corner_in c v (last_wire (ending_wires c n v)))
+    → Err x ≡ removal (remove_faults c n v) (pair_edge c v (ending_of (ending_wires c n v))) (ending_of (ending_wires c n v))
 pair_refused c n v h =
     let g = ending_of (ending_wires c n v) in
     pairing_not (near_faults c n v) (join_faults c (end_use c v g.last) (next_use c v g.last)) g (corner_in c v g.last) (pair_edge c v g) h
@@ -176,7 +173,7 @@ module _ (p : Pattern) (counts fronts backs uses wires faces shells listings : L
   corner_is : (v w : ℕ) → corner_lent counts fronts backs uses wires v w ≡ corner_in (content p) v w
   corner_is v w = rw (fronts_are, backs_are, split_is)
 
-  pub pair_matched : (n v : ℕ) (e : Ending) (r : Pairing) → e ≡ ending_of (ending_wires (content p) n v)
+  pub pair_matched : (n v : ℕ) (e : Ending) (r : Result (Ending × Corner) EditError) → e ≡ ending_of (ending_wires (content p) n v)
       → unless (ltb e.number 2 || matched (content p) v e.first e.last) Unmatched ≡ near_faults (content p) n v
       → r ≡ pairing (unless (fit e (corner_lent counts fronts backs uses wires v e.first) (corner_lent counts fronts backs uses wires v e.last)) Unmatched) e (corner_lent counts fronts backs uses wires v e.last)
       → r ≡ pairing (near_faults (content p) n v) (ending_of (ending_wires (content p) n v)) (corner_in (content p) v (last_wire (ending_wires (content p) n v)))
@@ -200,8 +197,8 @@ module _ (p : Pattern) (counts fronts backs uses wires faces shells listings : L
 
   -- the edges of the pair, joined
   pub pair_removed : (n v : ℕ) (e : Ending) (k : Corner)
-      → Found e k ≡ pairing (near_faults (content p) n v) (ending_of (ending_wires (content p) n v)) (corner_in (content p) v (last_wire (ending_wires (content p) n v)))
-      → (a b : Edge) → a ≡ edge_of (content p) k.ending → b ≡ edge_of (content p) k.next → (r : Removal)
+      → Ok (e, k) ≡ pairing (near_faults (content p) n v) (ending_of (ending_wires (content p) n v)) (corner_in (content p) v (last_wire (ending_wires (content p) n v)))
+      → (a b : Edge) → a ≡ edge_of (content p) k.ending → b ≡ edge_of (content p) k.next → (r : Result (Edge × Ending) EditError)
       → r ≡ removal (end_faults a k.ending b k.next (get_or counts 1 0)) (joined_ends a k.ending b k.next) e
       → r ≡ removal (remove_faults (content p) n v) (pair_edge (content p) v (ending_of (ending_wires (content p) n v))) (ending_of (ending_wires (content p) n v))
   pair_removed n v e k h a b ea eb r is =

@@ -1,5 +1,5 @@
 -- The removal of a point, from the wires with a use that ends there.
-use Rattle.std.specs.Prelude.{◌<◌, ℕ, List, [], map, ◌∷◌, ◌≡◌, get_or, length, take}
+use Rattle.std.specs.Prelude.{◌<◌, ℕ, List, [], map, ◌∷◌, ◌≡◌, get_or, length, take, Err, Ok, Result}
 use Rattle.lists.specs.Lists.{flat, split}
 use Rattle.edge.specs.Edges.{back_number, front_number}
 use Rattle.edge.specs.Uses.{edge_number}
@@ -11,10 +11,6 @@ use Rattle.remove_vertex_corners.specs.Corners.{corner_of, removed_wire}
 use Rattle.remove_vertex_corners.specs.declared.Corner.{Corner}
 use Rattle.remove_vertex_corners.specs.declared.Ending.{Ending}
 use Rattle.store.specs.Store.{count_table, use_table, wire_table}
-use Rattle.remove_vertex.specs.declared.Pairing.{Pairing}
-use Rattle.remove_vertex.specs.declared.Pairing.TheVariants.{Found, Not}
-use Rattle.remove_vertex.specs.declared.Removal.{Removal}
-use Rattle.remove_vertex.specs.declared.Removal.TheVariants.{Joins, Not as Rmv-as-Not}
 use Rattle.store.specs.Columns.{back_table, front_table}
 
 -- the use of wire w that ends at v, and the next: by the definition, and in lent tables
@@ -27,23 +23,23 @@ corner_lent counts fronts backs uses wires v w =
     corner_of (take m fronts) (take m backs) v (get_or (split (take (get_or counts 3 0) wires) (take (get_or counts 2 0) uses)) w [])
 
 -- the first refusal, or the wires and the pair
-abbrev pub pairing : List EditError → Ending → Corner → Pairing
-pairing [] e k = Found e k
-pairing (x ∷ xs) e k = Not x
+abbrev pub pairing : List EditError → Ending → Corner → Result (Ending × Corner) EditError
+pairing [] e k = Ok (e, k)
+pairing (x ∷ xs) e k = Err x
 
 -- a pair is of the first m edges
-abbrev pub OfEdges : ℕ → Pairing → Type 0
-OfEdges m (Found e k) = (edge_number k.ending < m) × (edge_number k.next < m)
-OfEdges m (Not x) = m ≡ m
+abbrev pub OfEdges : ℕ → Result (Ending × Corner) EditError → Type 0
+OfEdges m (Ok (e, k)) = (edge_number k.ending < m) × (edge_number k.next < m)
+OfEdges m (Err x) = m ≡ m
 
 -- the new edge: the last wire's pair, joined
 abbrev pub pair_edge : Content → ℕ → Ending → Edge
 pair_edge c v e = joined_edge c (end_use c v e.last) (next_use c v e.last)
 
 -- the first refusal, or the edge and the wires
-abbrev pub removal : List EditError → Edge → Ending → Removal
-removal [] d e = Joins d e
-removal (x ∷ xs) d e = Rmv-as-Not x
+abbrev pub removal : List EditError → Edge → Ending → Result (Edge × Ending) EditError
+removal [] d e = Ok (d, e)
+removal (x ∷ xs) d e = Err x
 
 -- all wires after the removal
 abbrev pub pair_wires : Content → ℕ → Ending → List (List ℕ)

@@ -18,10 +18,10 @@ ghost use Rattle.store.specs.Store.{count_table, held, use_table, wire_table};
 ghost use Rattle.remove_vertex.specs.Removals.{OfEdges, corner_in, corner_lent, pair_edge, pair_stored, pairing, removal, removed_in};
 ghost use Rattle.store.specs.Columns.{back_table, front_table};
 
-use concat::{Joint, append_edge, judge_join};
+use concat::{append_edge, judge_join};
 use edge::{Edge, EdgeID};
-use edit_answers::{EditError, JoinAnswer};
-use errors::Check;
+use edit_answers::EditError;
+use errors::CallError;
 use pattern::Counts;
 use remove_vertex_corners::{Corner, Ending, corners_fit, corners_in, ending_in, put_tables};
 use shell_wires::mark_wires;
@@ -32,20 +32,6 @@ use store::{
 use store_check::check;
 use vertex::VertexID;
 use words::{index, sum_of};
-
-// The wires that take a new edge, and the pair of uses that it joins; or why not.
-#[derive(Clone, Copy)]
-enum Pairing {
-    Found(Ending, Corner),
-    Not(EditError),
-}
-
-// A new edge, and the wires that take it; or why not.
-#[derive(Clone, Copy)]
-enum Removal {
-    Joins(Edge, Ending),
-    Not(EditError),
-}
 
 // The wires of shell n with a use that ends at v, counted per listing; from columns of a pattern
 // without fault.
@@ -73,7 +59,7 @@ fn ending_at<'a>(
     )
 }
 
-// The last wire's pair, where these wires end at v: 24.
+// These wires, and the last one's pair, where they end at v: 24.
 fn match_pair<'a>(
     counts: Counts,
     fronts: &'a [u16],
@@ -82,7 +68,7 @@ fn match_pair<'a>(
     wires: &'a [u16],
     v: VertexID,
     e: Ending,
-) -> Pairing
+) -> Result<(Ending, Corner), EditError>
     requires wire_tables { WireTables uses.now (get_or counts 2 0) wires.now (get_or counts 3 0) fronts.now backs.now (get_or counts 1 0) }
     requires first_bound { (e.first < get_or counts 3 0) × (e.last < get_or counts 3 0) }
     ensures value { result ≡ pairing (unless (fit e (corner_lent counts fronts.now backs.now uses.now wires.now v.0 e.first) (corner_lent counts fronts.now backs.now uses.now wires.now v.0 e.last)) Unmatched) e (corner_lent counts fronts.now backs.now uses.now wires.now v.0 e.last) }
@@ -94,9 +80,9 @@ fn match_pair<'a>(
     let first = k.first;
     let last = k.last;
     if !corners_fit(e, first, last) {
-        return Pairing::Not(EditError::Unmatched);
+        return Err(EditError::Unmatched);
     }
-    Pairing::Found(e, last)
+    Ok((e, last))
 }
 
 // The wires of shell n that end at v, and the last one's pair, from columns of a pattern without
@@ -112,52 +98,61 @@ fn find_pair<'a>(
     listings: &'a [u16],
     n: usize,
     v: VertexID,
-) -> Pairing
+) -> Result<(Ending, Corner), EditError>
     requires { (p : Pattern) × Lent p counts fronts.now backs.now uses.now wires.now faces.now shells.now listings.now }
     ensures value { (p : Pattern) → Lent p counts fronts.now backs.now uses.now wires.now faces.now shells.now listings.now → result ≡ pairing (near_faults (content p) n v.0) (ending_of (ending_wires (content p) n v.0)) (corner_in (content p) v.0 (last_wire (ending_wires (content p) n v.0))) }
     ensures of_edges { OfEdges (get_or counts 1 0) result }
 {
     if n >= counts[5] {
-        return Pairing::Not(EditError::Unnamed);
+        return Err(EditError::Unnamed);
     }
     if index(v.0) >= counts[0] {
-        return Pairing::Not(EditError::Unnamed);
+        return Err(EditError::Unnamed);
     }
     let marks = mark_wires(counts, faces, shells, listings, n);
     if marks.shared {
-        return Pairing::Not(EditError::SharedFace);
+        return Err(EditError::SharedFace);
     }
     let e = ending_at(
         counts, fronts, backs, uses, wires, faces, shells, listings, n, v,
     );
     if e.number == 0 {
-        return Pairing::Not(EditError::NotOneOrTwoWires);
+        return Err(EditError::NotOneOrTwoWires);
     }
     if e.number > 2 {
-        return Pairing::Not(EditError::NotOneOrTwoWires);
+        return Err(EditError::NotOneOrTwoWires);
     }
     match_pair(counts, fronts, backs, uses, wires, v, e)
 }
 
-// The pair joined, where a and b are its edges and there are so many: 25, 26, 17.
-fn join_pair(e: Ending, k: Corner, a: Edge, b: Edge, edges: usize) -> Removal
+// The pair joined, and the wires that take it, where a and b are its edges and there are so many: 25,
+// 26, 17.
+fn join_pair(
+    e: Ending,
+    k: Corner,
+    a: Edge,
+    b: Edge,
+    edges: usize,
+) -> Result<(Edge, Ending), EditError>
     ensures { result ≡ removal (end_faults a k.ending b k.next edges) (joined_ends a k.ending b k.next) e }
 {
-    let made = judge_join(a, k.ending, b, k.next, edges);
-    match made {
-        Joint::Not(x) => Removal::Not(x),
-        Joint::Whole(d) => Removal::Joins(d, e),
-    }
+    let d = judge_join(a, k.ending, b, k.next, edges)?;
+    Ok((d, e))
 }
 
 // The new edge and the wires that take it: 3, 27, 23, 24, 25, 26, 17.
-fn judge_removal(t: &Tables, spans: &Spans, n: usize, v: VertexID) -> Removal
+fn judge_removal(
+    t: &Tables,
+    spans: &Spans,
+    n: usize,
+    v: VertexID,
+) -> Result<(Edge, Ending), EditError>
     requires { pattern_faults (held t.now spans.now) ≡ [] }
     ensures { result ≡ removal (remove_faults (content (held t.now spans.now)) n v.0) (pair_edge (content (held t.now spans.now)) v.0 (ending_of (ending_wires (content (held t.now spans.now)) n v.0))) (ending_of (ending_wires (content (held t.now spans.now)) n v.0)) }
 {
     tables_known(t);
     let counts = counts_in(t);
-    let found = find_pair(
+    let (e, k) = find_pair(
         counts,
         fronts_in(t),
         backs_in(t),
@@ -168,15 +163,10 @@ fn judge_removal(t: &Tables, spans: &Spans, n: usize, v: VertexID) -> Removal
         listings_in(t),
         n,
         v,
-    );
-    match found {
-        Pairing::Not(x) => Removal::Not(x),
-        Pairing::Found(e, k) => {
-            let a = edge_in(t, spans, index(k.ending % 32768));
-            let b = edge_in(t, spans, index(k.next % 32768));
-            join_pair(e, k, a, b, counts[1])
-        }
-    }
+    )?;
+    let a = edge_in(t, spans, index(k.ending % 32768));
+    let b = edge_in(t, spans, index(k.next % 32768));
+    join_pair(e, k, a, b, counts[1])
 }
 
 // Writes the wires that take the new edge and all others; how many uses there are then.
@@ -236,22 +226,13 @@ pub fn remove_vertex_by_concat_edges(
     spans: &mut Spans,
     n: usize,
     v: VertexID,
-) -> JoinAnswer
+) -> Result<EdgeID, CallError<EditError>>
     ensures value { result ≡ remove_answer (held t.old spans.old) n v.0 }
     ensures spans_after { held t.new spans.new ≡ after_remove (held t.old spans.old) n v.0 }
     ensures spans_after_2 { pattern_faults (held t.old spans.old) ≡ [] → pattern_faults (held t.new spans.new) ≡ [] }
 {
     tables_known(t);
-    let checked = check(t, spans);
-    match checked {
-        Check::Refused(f) => {
-            return JoinAnswer::Refused(f);
-        }
-        Check::Accepted => {}
-    }
-    let judged = judge_removal(t, spans, n, v);
-    match judged {
-        Removal::Not(x) => JoinAnswer::Not(x),
-        Removal::Joins(d, e) => JoinAnswer::Joined(write_removal(t, spans, v, e, d)),
-    }
+    check(t, spans)?;
+    let (d, e) = judge_removal(t, spans, n, v)?;
+    Ok(write_removal(t, spans, v, e, d))
 }

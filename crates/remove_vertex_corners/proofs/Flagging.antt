@@ -1,4 +1,5 @@
 -- A flag for each wire with a use that ends at the point.
+use Rattle.std.specs.Prelude.{is_some}
 use Prim.Native.Nat.{◌+◌, ◌-◌, ◌<◌, ◌≤◌, ℕ}
 use mathlib.Core.Bool.{Bool, false, true}
 use mathlib.Core.List.{List, [], ◌∷◌, map}
@@ -13,19 +14,13 @@ use Rattle.lists.proofs.Split.{Walk, walk_next, walk_part, walk_start}
 use Rattle.lists.specs.Lists.{has, padded, split, tabulate, only}
 use Rattle.remove_vertex_corners.specs.Endings.{ends_at, flagged}
 use Rattle.wire.specs.Wires.{end_from}
-use Rattle.wire.specs.declared.Found.{Found}
-use Rattle.wire.specs.declared.Found.TheVariants.{At, Nothing}
 use Rattle.lists.proofs.Count.{All}
 use Rattle.lists.proofs.Parts.{only_same}
 use Rattle.remove_vertex_corners.proofs.Endings.{get_d_padded}
 
-abbrev pub is_at : Found → Bool
-is_at (At i) = true
-is_at Nothing = false
-
 module _ (fronts backs : List ℕ) (v : ℕ) where
   -- a use ends at v exactly if the search finds one
-  ends_found : (us : List ℕ) (i : ℕ) → ends_at fronts backs v us ≡ is_at (end_from fronts backs i v us)
+  pub ends_found : (us : List ℕ) (i : ℕ) → ends_at fronts backs v us ≡ is_some (end_from fronts backs i v us)
   unfolding has end_from
   ends_found [] i = refl
   ends_found (u ∷ us) i =
@@ -34,12 +29,6 @@ module _ (fronts backs : List ℕ) (v : ℕ) where
       (λ (t : eqb (back_of fronts backs u) v ≡ true). rw t)
       (λ (t : eqb (back_of fronts backs u) v ≡ false). rw t (ends_found us (i + 1)))
       (cases (eqb (back_of fronts backs u) v)))
-
-  pub ends_some : (us : List ℕ) {i : ℕ} → end_from fronts backs 0 v us ≡ At i → true ≡ ends_at fronts backs v us
-  ends_some us h = rw (ends_found us 0, h)
-
-  pub ends_none : (us : List ℕ) → end_from fronts backs 0 v us ≡ Nothing → false ≡ ends_at fronts backs v us
-  ends_none us h = rw (ends_found us 0, h)
 
 -- ---- a flag for each wire
 module _ (g : List ℕ → Bool) (wires uses : List ℕ) where

@@ -1,4 +1,5 @@
 -- The use that ends at the point, the next on its wire, and two such pairs.
+use Rattle.std.specs.Prelude.{None, Option, Some, is_some}
 use Prim.Native.Nat.{◌+◌, ◌<◌, ◌≤◌, suc, ℕ}
 use Prim.{⊥}
 use mathlib.Core.Bool.{false, true, true≢false}
@@ -22,38 +23,27 @@ use Rattle.shell_edits.specs.Edits.{place_in}
 use Rattle.wire.proofs.Laws.{named_part}
 use Rattle.wire.specs.Named.{Named}
 use Rattle.wire.specs.Wires.{end_from}
-use Rattle.wire.specs.declared.Found.{Found}
-use Rattle.wire.specs.declared.Found.TheVariants.{At, Nothing}
-use Rattle.remove_vertex_corners.proofs.Flagging.{is_at}
 
 module _ (fronts backs : List ℕ) (v : ℕ) where
   -- the place lies on the wire
-  place_low : (us : List ℕ) (i j : ℕ) → end_from fronts backs i v us ≡ At j → j < i + length us
+  place_low : (us : List ℕ) (i j : ℕ) → end_from fronts backs i v us ≡ Some j → j < i + length us
   unfolding end_from
-  place_low [] i j h = absurd (true≢false (sym (ap is_at h)))
+  place_low [] i j h = absurd (true≢false (sym (ap is_some h)))
   place_low (u ∷ us) i j h =
       ⊎_elim
       (λ (t : eqb (back_of fronts backs u) v ≡ true). let e : i ≡ j = at_same (rw t at h) in omega arith)
       (λ (t : eqb (back_of fronts backs u) v ≡ false). omega (arith, place_low us (i + 1) j (rw t at h)))
       (cases (eqb (back_of fronts backs u) v))
     where
-      at_same : {a b : ℕ} → At a ≡ At b → a ≡ b
+      at_same : {a b : ℕ} → Some a ≡ Some b → a ≡ b
       at_same h = cc
 
-  module _ (us : List ℕ) where
-    pub place_some : {i : ℕ} → end_from fronts backs 0 v us ≡ At i → (i ≡ place_of fronts backs v us) × (i < length us)
-    place_some {i} h = (rw h, omega (arith, place_low us 0 i h))
-
-    pub place_none : end_from fronts backs 0 v us ≡ Nothing → 0 < length us → (0 ≡ place_of fronts backs v us) × (0 < length us)
-    place_none h l = (rw h, l)
-
-module _ (fronts backs : List ℕ) (v : ℕ) (us : List ℕ) where
-  pub place_inside : 0 < length us → place_of fronts backs v us < length us
-  place_inside some = go (end_from fronts backs 0 v us) refl
+  pub place_inside : (us : List ℕ) → 0 < length us → place_of fronts backs v us < length us
+  place_inside us some = go (end_from fronts backs 0 v us) refl
     where
-      go : (f : Found) → end_from fronts backs 0 v us ≡ f → place_in f < length us
-      go (At i) h = (place_some fronts backs v us h).1
-      go Nothing h = some
+      go : (f : Option ℕ) → end_from fronts backs 0 v us ≡ f → place_in f < length us
+      go (Some i) h = omega (arith, place_low us 0 i h)
+      go None h = some
 
 -- ---- the next use
 next_last : (us : List ℕ) (i : ℕ) → i + 1 ≡ length us → get_or (rotated us) i 0 ≡ get_or us 0 0

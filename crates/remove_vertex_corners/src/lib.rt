@@ -14,7 +14,7 @@ ghost use Rattle.edge.specs.Uses.{edge_number};
 ghost use Rattle.remove_vertex_corners.specs.Corners.{corner_of, joined_wire, place_of, removed_wire, fit};
 
 use vertex::VertexID;
-use wire::{Found, find_end};
+use wire::find_end;
 use wire_swaps::swap_subwire_into_edges;
 use words::{copy_u16s, index, sum_of};
 
@@ -90,11 +90,9 @@ fn ending_among(flags: &[bool], start: usize, n: usize) -> Ending
         first: 0,
         last: 0,
     };
-    let mut k: usize = 0;
-    while k < n {
-        let d = one_wire(flags[start + k], start + k);
+    for w in start..start + n {
+        let d = one_wire(flags[w], w);
         e = e.then(d);
-        k += 1;
     }
     e
 }
@@ -111,13 +109,11 @@ fn face_endings(flags: &[bool], counts: &[u16]) -> [Ending; 256]
     };
     let mut out = [none; 256];
     let mut at: usize = 0;
-    let mut f: usize = 0;
-    while f < counts.len() {
-        let n = index(counts[f]);
+    for (f, count) in counts.iter().enumerate() {
+        let n = index(*count);
         let e = ending_among(flags, at, n);
         out[f] = e;
         at += n;
-        f += 1;
     }
     out
 }
@@ -134,11 +130,9 @@ fn ending_wires(flags: &[bool], counts: &[u16], listings: &[u16]) -> Ending
         first: 0,
         last: 0,
     };
-    let mut k: usize = 0;
-    while k < listings.len() {
-        let d = ends[index(listings[k] % 32768)];
+    for l in listings {
+        let d = ends[index(*l % 32768)];
         e = e.then(d);
-        k += 1;
     }
     e
 }
@@ -148,11 +142,7 @@ fn ends_at(uses: &[u16], fronts: &[u16], backs: &[u16], v: VertexID) -> bool
     requires { Named fronts.now backs.now uses.now }
     ensures { result ≡ ends_at fronts.now backs.now v.0 uses.now }
 {
-    let found = find_end(uses, fronts, backs, v);
-    match found {
-        Found::At(_) => true,
-        Found::Nothing => false,
-    }
+    find_end(uses, fronts, backs, v).is_some()
 }
 
 // A flag for each wire with a use that ends at v. The rest is false.
@@ -169,12 +159,10 @@ fn wire_ends(
 {
     let mut out = [false; 1024];
     let mut at: usize = 0;
-    let mut w: usize = 0;
-    while w < wires.len() {
-        let n = index(wires[w]);
+    for (w, len) in wires.iter().enumerate() {
+        let n = index(*len);
         out[w] = ends_at(&uses[at..at + n], fronts, backs, v);
         at += n;
-        w += 1;
     }
     out
 }
@@ -231,11 +219,7 @@ fn end_place(uses: &[u16], fronts: &[u16], backs: &[u16], v: VertexID) -> usize
     ensures value { result ≡ place_of fronts.now backs.now v.0 uses.now }
     ensures upper_bound { result < length uses.now }
 {
-    let found = find_end(uses, fronts, backs, v);
-    match found {
-        Found::At(i) => i,
-        Found::Nothing => 0,
-    }
+    find_end(uses, fronts, backs, v).unwrap_or(0)
 }
 
 // That use, and the next on its wire; after the last, the first.
@@ -325,14 +309,12 @@ fn put_wires(
 {
     let mut from: usize = 0;
     let mut at: usize = 0;
-    let mut w: usize = 0;
-    while w < wires.len() {
-        let n = index(wires[w]);
+    for (w, len) in wires.iter().enumerate() {
+        let n = index(*len);
         let m = put_wire(&uses[from..from + n], w, e, a, fronts, backs, v, out, at);
         lens[w] = m as u16;
         from += n;
         at += m;
-        w += 1;
     }
     at
 }

@@ -12,14 +12,8 @@ const LAST: usize = PATH_MAX - 1;
 
 // Fills `to` from the start of `from`, as far as both go.
 fn copy(from: &[u8], to: &mut [u8]) {
-    let mut i = 0;
-    while i < from.len() {
-        if i >= to.len() {
-            return;
-        }
-        to[i] = from[i];
-        i += 1;
-    }
+    let n = from.len().min(to.len());
+    to[..n].copy_from_slice(&from[..n]);
 }
 
 // How many of the path's bytes C can be handed: all, or none where they are too many or one of them is 0.
@@ -29,14 +23,10 @@ fn taken(path: &[u8]) -> usize
     if path.len() >= PATH_MAX {
         return 0;
     }
-    let mut i = 0;
-    while i < path.len() {
-        if path[i] == 0 {
-            return 0;
-        }
-        i += 1;
+    if path.contains(&0) {
+        return 0;
     }
-    i
+    path.len()
 }
 
 // The path as C takes it. One that C cannot be handed becomes the empty path, which names no file.
@@ -55,11 +45,7 @@ pub fn end_of(path: &[u8; PATH_MAX]) -> usize
     requires { Ended path.now }
     ensures { result < length path.now }
 {
-    let mut n = 0;
-    while path[n] != 0 {
-        n += 1;
-    }
-    n
+    path.iter().position(|b| *b == 0).unwrap_or(LAST)
 }
 
 // The path as std takes it.
@@ -108,12 +94,5 @@ pub fn complete(name: &mut [u8], random: &[u8; 6]) {
 pub fn last_slash(path: &[u8]) -> usize
     ensures { result ≤ length path.now }
 {
-    let mut i = path.len();
-    while i > 0 {
-        i -= 1;
-        if path[i] == b'/' {
-            return i;
-        }
-    }
-    path.len()
+    path.iter().rposition(|b| *b == b'/').unwrap_or(path.len())
 }

@@ -5,7 +5,7 @@
 
 use pattern::LONGEST;
 use std::io;
-use text::{line_end, name_of};
+use text::name_of;
 
 // The words of the lines that are no job, as `text::name_of` has them.
 const FRESH: u64 = 0x16672657368;
@@ -25,28 +25,24 @@ fn print_line(rt: &HostRuntime, mark: &[u8], line: &[u8]) -> io::Result<()> {
     rt.write_all(b"\n")
 }
 
+// A line without the line feed at its end.
+fn without_feed(line: &[u8]) -> &[u8] {
+    line.strip_suffix(b"\n").unwrap_or(line)
+}
+
 // Whether a text has this line.
 fn has_line(text: &[u8], line: &[u8]) -> bool {
-    let mut from: usize = 0;
-    while from < text.len() {
-        let end = line_end(text, from);
-        if &text[from..end] == line {
-            return true;
-        }
-        from = end + 1;
-    }
-    false
+    text.split_inclusive(|b| *b == b'\n')
+        .any(|other| without_feed(other) == line)
 }
 
 // Prints each line of one text that the other has not, after a mark.
 fn print_missing(rt: &HostRuntime, one: &[u8], other: &[u8], mark: &[u8]) -> io::Result<()> {
-    let mut from: usize = 0;
-    while from < one.len() {
-        let end = line_end(one, from);
-        if !has_line(other, &one[from..end]) {
-            print_line(rt, mark, &one[from..end])?;
+    for line in one.split_inclusive(|b| *b == b'\n') {
+        let line = without_feed(line);
+        if !has_line(other, line) {
+            print_line(rt, mark, line)?;
         }
-        from = end + 1;
     }
     Ok(())
 }
@@ -158,11 +154,8 @@ fn replay_line(rt: &HostRuntime, file: File, read: File, line: &[u8]) -> io::Res
 
 fn replay_lines(rt: &HostRuntime, read: File, lines: &[u8]) -> io::Result<()> {
     let mut file = read;
-    let mut from: usize = 0;
-    while from < lines.len() {
-        let end = line_end(lines, from);
-        file = replay_line(rt, file, read, &lines[from..end])?;
-        from = end + 1;
+    for line in lines.split_inclusive(|b| *b == b'\n') {
+        file = replay_line(rt, file, read, without_feed(line))?;
     }
     Ok(())
 }
@@ -183,13 +176,8 @@ fn replay(rt: &HostRuntime, k: usize, e: usize) -> io::Result<()> {
 
 fn main(rt: HostRuntime) -> io::Result<()> {
     let n = console::arg_count(&rt);
-    let mut k: usize = 1;
-    while k < n {
-        if n - k < 2 {
-            break;
-        }
-        replay(&rt, k, k + 1)?;
-        k += 2;
+    for e in (2..n).step_by(2) {
+        replay(&rt, e - 1, e)?;
     }
     Ok(())
 }

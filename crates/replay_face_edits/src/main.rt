@@ -7,10 +7,10 @@ ghost use Rattle.std.specs.Prelude.{◌≤◌};
 
 use answer_lines::put_refused;
 use answers::Answer;
-use forms::{Matched, NUMBER, SIGNED, put_values};
+use forms::{Matched, WordKind, put_values};
 use job_lines::put_done;
 use std::io;
-use text::{line_end, name_of, word_end};
+use text::{name_of, word_end};
 use words::{index, put_saturated, sum_of};
 use wuzsanget::{
     wuzsanget_add_boundary, wuzsanget_cut_by_edge, wuzsanget_cut_by_wire, wuzsanget_glue,
@@ -26,11 +26,21 @@ const CUTEDGE: u64 = 0x163757465646765;
 const GLUE: u64 = 0x1676c7565;
 
 // The kinds of the words after a name; any further word is a use.
-fn kinds_of(name: u64) -> [u64; 4] {
+fn kinds_of(name: u64) -> [WordKind; 4] {
     if name == GLUE {
-        return [SIGNED, SIGNED, NUMBER, NUMBER];
+        return [
+            WordKind::Signed,
+            WordKind::Signed,
+            WordKind::Number,
+            WordKind::Number,
+        ];
     }
-    [SIGNED, NUMBER, NUMBER, SIGNED]
+    [
+        WordKind::Signed,
+        WordKind::Number,
+        WordKind::Number,
+        WordKind::Signed,
+    ]
 }
 
 // Whether the words after a name make the edit. A line that is no edit has no answer.
@@ -156,7 +166,7 @@ fn replay_line(rt: &HostRuntime, file: &[u8], line: &[u8]) -> io::Result<()> {
     let kinds = kinds_of(name);
     let mut values = [0u64; 2048];
     let mut small = [0u16; 2048];
-    let m = put_values(line, end, &kinds, SIGNED, &mut values);
+    let m = put_values(line, end, &kinds, Some(WordKind::Signed), &mut values);
     if is_edit(name, m) {
         put_saturated(&values, &mut small, 0);
         replay_values(rt, name, &small, m.words, file)?;
@@ -165,11 +175,8 @@ fn replay_line(rt: &HostRuntime, file: &[u8], line: &[u8]) -> io::Result<()> {
 }
 
 fn replay_lines(rt: &HostRuntime, file: &[u8], lines: &[u8]) -> io::Result<()> {
-    let mut from: usize = 0;
-    while from < lines.len() {
-        let end = line_end(lines, from);
-        replay_line(rt, file, &lines[from..end])?;
-        from = end + 1;
+    for line in lines.split_inclusive(|b| *b == b'\n') {
+        replay_line(rt, file, line.strip_suffix(b"\n").unwrap_or(line))?;
     }
     Ok(())
 }
@@ -187,13 +194,8 @@ fn replay(rt: &HostRuntime, k: usize, e: usize) -> io::Result<()> {
 
 fn main(rt: HostRuntime) -> io::Result<()> {
     let n = console::arg_count(&rt);
-    let mut k: usize = 1;
-    while k < n {
-        if n - k < 2 {
-            break;
-        }
-        replay(&rt, k, k + 1)?;
-        k += 2;
+    for e in (2..n).step_by(2) {
+        replay(&rt, e - 1, e)?;
     }
     Ok(())
 }

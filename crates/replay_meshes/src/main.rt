@@ -3,9 +3,8 @@
 // another file, a line says so.
 #![tactic(auto)]
 
-ghost use Rattle.std.specs.Prelude.{◌≤◌};
-
-use mesh::Imported;
+use errors::CallError;
+use mesh::MeshError;
 use mesh_edges::INDEX;
 use mesh_file::{finish, import_mesh};
 use mesh_read::step;
@@ -14,33 +13,30 @@ use pattern::LONGEST;
 use std::io;
 use store::{SPANS, TABLES};
 
-fn least(a: usize, b: usize) -> usize
-    ensures { result ≤ a }
-{
-    if a < b { a } else { b }
-}
-
-// Reads a mesh in pieces of so many bytes.
-fn in_pieces(mesh: &[u8], size: usize, file: &mut [u8; LONGEST]) -> Imported {
+// Reads a mesh in pieces of so many bytes, at least 1.
+fn in_pieces(
+    mesh: &[u8],
+    size: usize,
+    file: &mut [u8; LONGEST],
+) -> Result<usize, CallError<MeshError>> {
     let mut t = [0u16; TABLES];
     let mut spans = [0.0; SPANS];
     let mut index = [0u16; INDEX];
     let mut reader = Reader::new();
-    let mut at: usize = 0;
-    while at < mesh.len() {
-        let n = least(mesh.len() - at, size);
-        if n == 0 {
-            break;
-        }
-        reader = step(reader, &mesh[at..at + n], &mut t, &mut spans, &mut index);
-        at += n;
+    for piece in mesh.chunks(size.max(1)) {
+        reader = step(reader, piece, &mut t, &mut spans, &mut index);
     }
     let end = finish(reader, &mut t, &mut spans, &mut index, file);
     end.answer
 }
 
 // Whether two answers have the same numbers, and two files the same bytes.
-fn same(a: Imported, b: Imported, file: &[u8; LONGEST], other: &[u8; LONGEST]) -> bool {
+fn same(
+    a: Result<usize, CallError<MeshError>>,
+    b: Result<usize, CallError<MeshError>>,
+    file: &[u8; LONGEST],
+    other: &[u8; LONGEST],
+) -> bool {
     let x = mesh_answers::import_values(a);
     let y = mesh_answers::import_values(b);
     if x.outcome != y.outcome {
@@ -55,21 +51,14 @@ fn same(a: Imported, b: Imported, file: &[u8; LONGEST], other: &[u8; LONGEST]) -
     if x.second != y.second {
         return false;
     }
-    let mut k: usize = 0;
-    while k < LONGEST {
-        if file[k] != other[k] {
-            return false;
-        }
-        k += 1;
-    }
-    true
+    file == other
 }
 
 fn try_pieces(
     rt: &HostRuntime,
     mesh: &[u8],
     size: usize,
-    whole: Imported,
+    whole: Result<usize, CallError<MeshError>>,
     file: &[u8; LONGEST],
 ) -> io::Result<()> {
     let mut other = [0u8; LONGEST];
@@ -98,9 +87,13 @@ fn print_line(rt: &HostRuntime, line: &[u8; 96], n: usize) -> io::Result<()> {
     console::print_first(rt, line, n)
 }
 
-fn print_answer(rt: &HostRuntime, answer: Imported, file: &[u8; LONGEST]) -> io::Result<()> {
+fn print_answer(
+    rt: &HostRuntime,
+    answer: Result<usize, CallError<MeshError>>,
+    file: &[u8; LONGEST],
+) -> io::Result<()> {
     match answer {
-        Imported::Length(n) => print_pattern(rt, file, n),
+        Ok(n) => print_pattern(rt, file, n),
         other => {
             let mut line = [0u8; 96];
             let length = mesh_answers::put_import(other, &mut line);

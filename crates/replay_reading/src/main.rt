@@ -2,36 +2,31 @@
 // written back and compared with the file.
 #![tactic(auto)]
 
-use errors::Check;
 use pattern::LONGEST;
 use std::io;
 use store::{SPANS, Spans, TABLES, Tables};
-use store_write::Written;
 
 // Whether the file of a pattern is just these bytes.
 fn written_back(t: &Tables, spans: &Spans, bytes: &[u8]) -> bool {
     let mut file = [0u8; LONGEST];
-    let answer = store_write::write(t, spans, &mut file);
-    match answer {
-        Written::Length(n) => {
+    match store_write::write(t, spans, &mut file) {
+        Ok(n) => {
             if n <= LONGEST {
                 &file[0..n] == bytes
             } else {
                 false
             }
         }
-        Written::Refused(_) => false,
-        Written::NoSpace(_) => false,
+        Err(_) => false,
     }
 }
 
 fn answer(rt: &HostRuntime, bytes: &[u8]) -> io::Result<()> {
     let mut t = [0u16; TABLES];
     let mut spans = [0.0; SPANS];
-    let answer = store_read::read(bytes, &mut t, &mut spans);
-    match answer {
-        Check::Refused(f) => console::print_refusal(rt, f),
-        Check::Accepted => {
+    match store_read::read(bytes, &mut t, &mut spans) {
+        Err(f) => console::print_refusal(rt, f),
+        Ok(()) => {
             if written_back(&t, &spans, bytes) {
                 rt.write_all(b"accepted\n")
             } else {

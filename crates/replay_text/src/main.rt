@@ -6,23 +6,10 @@
 use pattern::LONGEST;
 use std::io;
 
-// Whether the first n bytes of two lists are the same.
+// Whether one list is the first n bytes of another.
 fn same(a: &[u8], b: &[u8; LONGEST], n: usize) -> bool {
     let other: &[u8] = b;
-    let mut i: usize = 0;
-    while i < n {
-        if i >= a.len() {
-            return false;
-        }
-        if i >= other.len() {
-            return false;
-        }
-        if a[i] != other[i] {
-            return false;
-        }
-        i += 1;
-    }
-    a.len() == n
+    n <= other.len() && a == &other[..n]
 }
 
 // Makes the first n bytes of a text, and answers whether that gives these bytes.

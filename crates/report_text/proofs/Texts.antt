@@ -1,8 +1,11 @@
 -- The lines of a shell from its figures; the text shell by shell; the text of a file.
+use Rattle.solid.specs.declared.SolidError.{SolidError}
+use Rattle.std.specs.Prelude.{Err, Ok, Result}
 use Prim.Native.Nat.{◌*◌, ◌+◌, ◌-◌, ◌<◌, ◌≤◌, ℕ}
 use mathlib.Core.Bool.{false, true, true≢false}
 use mathlib.Core.List.{List, [], ◌++◌, ◌∷◌, map}
 use mathlib.Core.Path.{◌∙◌, ◌≡◌, ap, refl, sym}
+use native.Mathlib.Bridge.{le_prop}
 use native.Mathlib.Nat.{sub-zero}
 use native.Mathlib.Numerals.{add-one}
 use native.Mathlib.Omega.{arith}
@@ -13,7 +16,6 @@ use Rattle.columns.proofs.Shells.{content_fine, uses_small}
 use Rattle.columns.specs.Sound.{OfTables, Sound}
 use Rattle.errors.proofs.Laws.{accepted_none, none_left}
 use Rattle.errors.specs.Faults.{first}
-use Rattle.errors.specs.declared.Check.TheVariants.{Accepted as Check-as-Accepted, Refused as Check-as-Refused}
 use Rattle.errors.specs.declared.Refusal.{Refusal}
 use Rattle.lines.specs.Lines.{shell_lines}
 use Rattle.lines.specs.Parts.{Fits}
@@ -29,6 +31,7 @@ use Rattle.pattern_file.specs.File.{file_content, file_faults, table_faults}
 use Rattle.report_text.specs.Report.{ReportPromised, report_of, report_text, shell_report, solid_text, text_for}
 use Rattle.report_text.specs.Texts.{Shelled}
 use Rattle.report_text.specs.declared.ShellText.{ShellText}
+use Rattle.reports.proofs.Columned.{by_pattern}
 use Rattle.reports.proofs.Groups.{components_bound, pairs_bound, singular_bound, sum_lengths}
 use Rattle.reports.specs.Figures.{Grouped, Opened}
 use Rattle.reports.specs.declared.GroupCounts.{GroupCounts}
@@ -41,12 +44,8 @@ use Rattle.shell.specs.Shells.{listings_of}
 use Rattle.shell.specs.Singular.{singular_points}
 use Rattle.solid.proofs.Laws.{solid_next}
 use Rattle.solid.specs.Solid.{errors_of, first_of_solid, in_shell, reason_number, shell_errors, solid_errors, solid_shell}
-use Rattle.solid.specs.declared.ShellCheck.{ShellCheck}
-use Rattle.solid.specs.declared.ShellCheck.TheVariants.{Fine, Wrong}
 use Rattle.solid.specs.declared.ShellError.{ShellError}
 use Rattle.solid.specs.declared.ShellError.TheVariants.{EmptyShell, NotClosedShell, NotConnected, NotManifold}
-use Rattle.solid.specs.declared.SolidCheck.{SolidCheck}
-use Rattle.solid.specs.declared.SolidCheck.TheVariants.{Accepted, Refused}
 use Rattle.store.specs.Store.{count_table, held}
 use Rattle.store_read.proofs.Fresh.{blank, fresh_faults, fresh_pattern}
 use Rattle.store_read.specs.Loading.{loaded, pattern_of}
@@ -145,7 +144,7 @@ module _ (p : Pattern) (s : Sound p) (n : ℕ) (here : n < get_or p.counts 5 0) 
   lines_are : written ≡ shell_lines n (shell_report (content p) n)
   lines_are = rw (uses_first, lens_first, pairs_first, sizes_first, points_first, split_flat O, split_flat C, eo.counts, eg.counts)
 
-  pub shelled : {listings : ℕ} → listings ≡ length (listings_of (content p) n) → (out₀ out : List ℕ) (at after : ℕ) (check : ShellCheck)
+  pub shelled : {listings : ℕ} → listings ≡ length (listings_of (content p) n) → (out₀ out : List ℕ) (at after : ℕ) (check : Result Unit ShellError)
       → (out ≡ sets out₀ at written) × (after ≡ at + length written) × (after ≤ at + 70300)
       → check ≡ first_error (errors_of listings g.connected o.condition.0 g.singular)
       → Shelled (content p) n out₀ at out (record { at = after; check = check })
@@ -159,38 +158,38 @@ module _ (p : Pattern) (s : Sound p) (n : ℕ) (here : n < get_or p.counts 5 0) 
 abbrev pub lines_to : Content → ℕ → List ℕ
 lines_to c n = flat (map (λ (i : ℕ). shell_lines i (shell_report c i)) (numbers n))
 
-abbrev pub wrong_to : Content → ℕ → SolidCheck
+abbrev pub wrong_to : Content → ℕ → Result Unit SolidError
 wrong_to c n = first_of_solid (flat (map (λ (i : ℕ). in_shell i (shell_errors c i)) (numbers n)))
 
-pub record Writing (t : List ℕ) (shells : ℕ) (out₀ out : List ℕ) (solid : SolidCheck) (at n : ℕ) : Type 0 where
+pub record Writing (t : List ℕ) (shells : ℕ) (out₀ out : List ℕ) (solid : Result Unit SolidError) (at n : ℕ) : Type 0 where
   pub low : n ≤ shells
   pub room : at ≤ 70300 * n
   pub long : length out ≡ length out₀
   pub shell : solid_shell solid ≤ n
   pub each : OfTables t (λ p. (out ≡ sets out₀ 0 (lines_to (content p) n)) × (at ≡ 0 + length (lines_to (content p) n)) × (solid ≡ wrong_to (content p) n))
 
-shell_low : (a : SolidCheck) (n : ℕ) (w : ShellCheck) → solid_shell a ≤ n → solid_shell (and_then a (in_solid n w)) ≤ n
-shell_low Accepted n Fine h = omega arith
-shell_low Accepted n (Wrong e) h = omega arith
-shell_low (Refused e) n w h = h
+shell_low : (a : Result Unit SolidError) (n : ℕ) (w : Result Unit ShellError) → solid_shell a ≤ n → solid_shell (and_then a (in_solid n w)) ≤ n
+shell_low (Ok x) n (Ok y) h = omega arith
+shell_low (Ok x) n (Err e) h = omega arith
+shell_low (Err e) n w h = h
 
 -- a pattern has few shells
 pub shells_few : {t turned starts firsts places : List ℕ} → Made t turned starts firsts places → get_or (count_table t) 5 0 ≤ 16
-shells_few m = (m.all m.faultless.spans m.faultless.ok).0.limits.shells
+shells_few m = by_pattern m (hlevel le_prop) (λ spans s e. s.limits.shells)
 
 module _ {t : List ℕ} {shells : ℕ} {out₀ : List ℕ} where
-  pub writing_start : Writing t shells out₀ out₀ Accepted 0 0
+  pub writing_start : Writing t shells out₀ out₀ (Ok tt) 0 0
   unfolding flat tabulate
   writing_start = record { low = omega arith; room = omega arith; long = refl; shell = omega arith; each = λ spans ok. (refl, refl, refl) }
 
-  module _ {out : List ℕ} {solid : SolidCheck} {at n : ℕ} (v : Writing t shells out₀ out solid at n) (few : shells ≤ 16) where
+  module _ {out : List ℕ} {solid : Result Unit SolidError} {at n : ℕ} (v : Writing t shells out₀ out solid at n) (few : shells ≤ 16) where
     pub writing_room : 1126400 ≤ length out₀ → n < shells → at + 70300 ≤ length out
     writing_room r l = omega (arith, v.room, v.long, few)
 
     pub writing_end : 1126400 ≤ length out₀ → (solid_shell solid < 100) × (at + 64 ≤ length out)
     writing_end r = (omega (arith, v.shell, v.low, few), omega (arith, v.room, v.long, v.low, few))
 
-    pub writing_next : n < shells → (out' : List ℕ) (r : ShellText) (solid' : SolidCheck) → length out' ≡ length out
+    pub writing_next : n < shells → (out' : List ℕ) (r : ShellText) (solid' : Result Unit SolidError) → length out' ≡ length out
         → OfTables t (λ p. Shelled (content p) n out at out' r) → r.at ≤ at + 70300
         → solid' ≡ and_then solid (in_solid n r.check) → Writing t shells out₀ out' solid' r.at (n + 1)
     writing_next l out' r solid' long h low is = record {
@@ -227,31 +226,31 @@ reason_low NotClosedShell = omega arith
 reason_low NotManifold = omega arith
 
 -- ---- a file
-text_refused : (fs : List Refusal) (c : Content) (f : Refusal) → first fs ≡ Check-as-Refused f → refusal_line f ≡ text_for fs c
+text_refused : (fs : List Refusal) (c : Content) (f : Refusal) → first fs ≡ Err f → refusal_line f ≡ text_for fs c
 text_refused [] c f h = cc
 text_refused (g ∷ fs) c f h = let e : f ≡ g = cc in ap refusal_line e
 
-pub file_refused : (s : List ℕ) (f : Refusal) → first (file_faults s) ≡ Check-as-Refused f → refusal_line f ≡ report_of s
+pub file_refused : (s : List ℕ) (f : Refusal) → first (file_faults s) ≡ Err f → refusal_line f ≡ report_of s
 unfolding report_of
 file_refused s f h = text_refused (file_faults s) (file_content s) f h
 
-refused_some : (fs : List Refusal) (f : Refusal) → first fs ≡ Check-as-Refused f → fs ≡ [] → true ≡ false
+refused_some : (fs : List Refusal) (f : Refusal) → first fs ≡ Err f → fs ≡ [] → true ≡ false
 refused_some [] f h e = cc
 refused_some (g ∷ fs) f h e = cc
 
 -- a refused file promises nothing
-pub refused_kept : (s : List ℕ) (f : Refusal) → first (file_faults s) ≡ Check-as-Refused f → ReportPromised s
+pub refused_kept : (s : List ℕ) (f : Refusal) → first (file_faults s) ≡ Err f → ReportPromised s
 refused_kept s f h ok = absurd (true≢false (refused_some (file_faults s) f h ok))
 
 pub sound_openings : (p : Pattern) → Sound p → (n : ℕ) → OpeningsPromised (content p) n
 sound_openings p s n = promised (content p) (content_fine p s) (uses_small p s) n
 
 -- a file without fault was read into a store of zeros
-module _ (s : List ℕ) (q : Pattern) (done : q ≡ loaded blank s) (right : first (file_faults s) ≡ Check-as-Accepted) where
+module _ (s : List ℕ) (q : Pattern) (done : q ≡ loaded blank s) (right : first (file_faults s) ≡ Ok tt) where
   none : file_faults s ≡ []
   none = accepted_none (file_faults s) right
 
-  table : first (table_faults s) ≡ Check-as-Accepted
+  table : first (table_faults s) ≡ Ok tt
   table = rw (none_left (table_faults s) (content_faults (file_content s)) none)
 
   pub file_pattern : q ≡ pattern_of s

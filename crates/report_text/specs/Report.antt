@@ -1,5 +1,6 @@
 -- What `report` prints, for every file (FORMAT 3.1).
-use Rattle.std.specs.Prelude.{ℕ, List, [], ◌∷◌, ◌++◌, map, ◌≡◌, eqb, length}
+use Rattle.solid.specs.declared.SolidError.{SolidError}
+use Rattle.std.specs.Prelude.{ℕ, List, [], ◌∷◌, ◌++◌, map, ◌≡◌, eqb, length, Result}
 use Rattle.lists.specs.Lists.{flat, numbers}
 use Rattle.errors.specs.declared.Refusal.{Refusal}
 use Rattle.lines.specs.Lines.{Report, shell_lines, solid_line}
@@ -14,7 +15,6 @@ use Rattle.shell.specs.OpeningsHold.{OpeningsPromised}
 use Rattle.shell.specs.Shells.{shell_uses}
 use Rattle.shell.specs.Singular.{singular_points}
 use Rattle.solid.specs.Solid.{solid_of, solid_reply, solid_shell}
-use Rattle.solid.specs.declared.SolidCheck.{SolidCheck}
 
 abbrev pub shell_report : Content → ℕ → Report
 shell_report c n = record {
@@ -27,7 +27,7 @@ shell_report c n = record {
 }
 
 -- the line of a solid's answer
-abbrev pub solid_text : SolidCheck → List ℕ
+abbrev pub solid_text : Result Unit SolidError → List ℕ
 solid_text a = solid_line (eqb (solid_reply a).outcome 0) (solid_reply a).number (solid_shell a)
 
 -- for each shell its lines; the last line is the solid's

@@ -3,7 +3,6 @@
 
 ghost use Rattle.std.specs.Prelude.{◌≡◌, ℕ, ◌+◌, ◌<◌, ◌≤◌, get_or, length};
 ghost use Rattle.std.proofs.lemmas.List.Edits.{sets};
-ghost use Rattle.columns.specs.Columns.{Made};
 ghost use Rattle.columns.specs.Sound.{Faultless, OfTables};
 ghost use Rattle.pattern.specs.Contents.{content};
 ghost use Rattle.shell.specs.OpeningsHold.{OpeningsPromised};
@@ -12,12 +11,11 @@ ghost use Rattle.store.specs.Store.{count_table};
 ghost use Rattle.report_text.specs.Report.{report_of, ReportPromised, report_text, solid_text};
 ghost use Rattle.report_text.specs.Texts.{Shelled};
 
-use columns::put_columns;
-use errors::Check;
+use columns::Columns;
 use lines::{put_shell, put_solid};
 use output::put_refusal;
 use reports::{put_groups, put_openings};
-use solid::{ShellCheck, SolidCheck, check_shell, reason_number};
+use solid::{ShellError, SolidError, and_shell, check_shell};
 use store::{SPANS, TABLES, Tables, counts_in};
 use store_read::read;
 
@@ -25,43 +23,24 @@ use store_read::read;
 #[derive(Clone, Copy)]
 pub struct ShellText {
     pub at: usize,
-    pub check: ShellCheck,
+    pub check: Result<(), ShellError>,
 }
 
 // Writes the lines of shell n from `at` on.
-fn shell_text<'a>(
-    t: &'a Tables,
-    turned: &'a [u16],
-    starts: &'a [usize],
-    firsts: &'a [usize],
-    places: &'a [usize],
-    n: usize,
-    out: &mut [u8],
-    at: usize,
-) -> ShellText
-    requires { Made t.now turned.now starts.now firsts.now places.now × (n < get_or (count_table t.now) 5 0) × (at + 70300 ≤ length out.old) }
-    ensures of_tables { OfTables t.now (λ p. Shelled (content p) n out.old at out.new result) }
+fn shell_text(columns: &Columns, n: usize, out: &mut [u8], at: usize) -> ShellText
+    requires { (n < get_or (count_table columns.now.t.now) 5 0) × (at + 70300 ≤ length out.old) }
+    ensures of_tables { OfTables columns.now.t.now (λ p. Shelled (content p) n out.old at out.new result) }
     ensures at_bound { result.at ≤ at + 70300 }
 {
-    let first = places[n];
-    let end = places[n + 1];
+    let first = columns.places[n];
+    let end = columns.places[n + 1];
     let mut walked = [0u16; 2048];
     let mut lens = [0u16; 2048];
     let mut pairs = [0u16; 512];
     let mut sizes = [0u16; 512];
     let mut corners = [0u16; 2048];
-    let o = put_openings(t, turned, starts, firsts, places, n, &mut walked, &mut lens);
-    let g = put_groups(
-        t,
-        turned,
-        starts,
-        firsts,
-        places,
-        n,
-        &mut pairs,
-        &mut sizes,
-        &mut corners,
-    );
+    let o = put_openings(columns, n, &mut walked, &mut lens);
+    let g = put_groups(columns, n, &mut pairs, &mut sizes, &mut corners);
     let condition = o.condition;
     let used = o.used;
     let openings = o.openings;
@@ -89,43 +68,30 @@ fn shell_text<'a>(
 }
 
 // Writes the line of a solid's answer from `at` on.
-fn solid_text(out: &mut [u8], at: usize, a: SolidCheck) -> usize
+fn solid_text(out: &mut [u8], at: usize, a: Result<(), SolidError>) -> usize
     requires { (solid_shell a < 100) × (at + 64 ≤ length out.old) }
     ensures { (out.new ≡ sets out.old at (solid_text a)) × (result ≡ at + length (solid_text a)) }
 {
     match a {
-        SolidCheck::Accepted => put_solid(out, at, true, 0, 0),
-        SolidCheck::Refused(e) => {
-            let reason = e.reason;
-            put_solid(out, at, false, reason_number(reason), e.shell)
-        }
+        Ok(()) => put_solid(out, at, true, 0, 0),
+        Err(e) => put_solid(out, at, false, e.reason.number(), e.shell),
     }
 }
 
 // Writes the text of a pattern with these columns.
-fn columns_text<'a>(
-    t: &'a Tables,
-    turned: &'a [u16],
-    starts: &'a [usize],
-    firsts: &'a [usize],
-    places: &'a [usize],
-    out: &mut [u8],
-) -> usize
-    requires { Made t.now turned.now starts.now firsts.now places.now × (1126400 ≤ length out.old) }
-    ensures of_tables { OfTables t.now (λ p. (out.new ≡ sets out.old 0 (report_text (content p))) × (result ≡ length (report_text (content p)))) }
-    ensures of_tables_2 { OfTables t.now (λ p. (k : ℕ) → OpeningsPromised (content p) k) }
+fn columns_text(columns: &Columns, out: &mut [u8]) -> usize
+    requires { 1126400 ≤ length out.old }
+    ensures of_tables { OfTables columns.now.t.now (λ p. (out.new ≡ sets out.old 0 (report_text (content p))) × (result ≡ length (report_text (content p)))) }
+    ensures of_tables_2 { OfTables columns.now.t.now (λ p. (k : ℕ) → OpeningsPromised (content p) k) }
 {
-    let counts = counts_in(t);
+    let counts = counts_in(columns.t);
     let shells = counts[5];
-    let mut solid = SolidCheck::Accepted;
+    let mut solid = Ok(());
     let mut at: usize = 0;
-    let mut n: usize = 0;
-    while n < shells {
-        let s = shell_text(t, turned, starts, firsts, places, n, out, at);
+    for n in 0..shells {
+        let s = shell_text(columns, n, out, at);
         at = s.at;
-        let check = s.check;
-        solid = solid.and_shell(n, check);
-        n += 1;
+        solid = and_shell(solid, n, s.check);
     }
     solid_text(out, at, solid)
 }
@@ -136,12 +102,8 @@ fn pattern_text(t: &Tables, out: &mut [u8]) -> usize
     ensures of_tables { OfTables t.now (λ p. (out.new ≡ sets out.old 0 (report_text (content p))) × (result ≡ length (report_text (content p)))) }
     ensures of_tables_2 { OfTables t.now (λ p. (k : ℕ) → OpeningsPromised (content p) k) }
 {
-    let mut turned = [0u16; 4096];
-    let mut starts = [0usize; 257];
-    let mut firsts = [0usize; 257];
-    let mut places = [0usize; 257];
-    put_columns(t, &mut turned, &mut starts, &mut firsts, &mut places);
-    columns_text(t, &turned, &starts, &firsts, &places, out)
+    let columns = Columns::new(t);
+    columns_text(&columns, out)
 }
 
 // Writes all that `report` prints for a file, from the first place on, and returns its length. The
@@ -152,9 +114,8 @@ pub fn report(bytes: &[u8], out: &mut [u8; 1126400]) -> usize
 {
     let mut t = [0u16; TABLES];
     let mut spans = [0.0; SPANS];
-    let answer = read(bytes, &mut t, &mut spans);
-    match answer {
-        Check::Refused(f) => put_refusal(f, out),
-        Check::Accepted => pattern_text(&t, out),
+    match read(bytes, &mut t, &mut spans) {
+        Err(f) => put_refusal(f, out),
+        Ok(()) => pattern_text(&t, out),
     }
 }

@@ -1,8 +1,8 @@
 -- A Closed shell has no openings: every used edge has two uses, so none of them is free.
+use Rattle.std.specs.Prelude.{None}
 use Prim.Native.Nat.{◌%◌, suc, zero, ℕ}
 use mathlib.Core.Bool.{Bool, false, true}
 use mathlib.Core.List.{List, [], ◌∷◌}
-use mathlib.Core.Option.{none}
 use mathlib.Core.Path.{◌≡◌, refl, sym}
 use native.Mathlib.Omega.{arith}
 use lib.Dec.{eqb, leb, ltb}
@@ -42,16 +42,16 @@ closed_free us h =
 
 module _ (front back : ℕ → ℕ) where
   -- where nothing is kept
-  first_bare : (us : List ℕ) (kept : Kept) → ((p : ℕ) → get_or kept p none ≡ none) → first_start front back us kept ≡ none
+  first_bare : (us : List ℕ) (kept : Kept) → ((p : ℕ) → get_or kept p None ≡ None) → first_start front back us kept ≡ None
   unfolding first_start
   first_bare [] kept h = refl
   first_bare (u ∷ us) kept h = rw (h (front u)) (first_bare us kept h)
 
-  walk_bare : (d : ℕ) (us : List ℕ) (kept : Kept) (n : ℕ) → ((p : ℕ) → get_or kept p none ≡ none) → walk front back d us kept n ≡ record { openings = []; kept = kept; lookups = n }
+  walk_bare : (d : ℕ) (us : List ℕ) (kept : Kept) (n : ℕ) → ((p : ℕ) → get_or kept p None ≡ None) → walk front back d us kept n ≡ record { openings = []; kept = kept; lookups = n }
   unfolding walk
   walk_bare zero us kept n h = refl
   walk_bare (suc d) us kept n h = rw (first_bare us kept h)
 
-  pub closed_walk : (points : ℕ) (us : List ℕ) → condition us ≡ 3 → walk_of front back points us ≡ record { openings = []; kept = replicate points none; lookups = 0 }
+  pub closed_walk : (points : ℕ) (us : List ℕ) → condition us ≡ 3 → walk_of front back points us ≡ record { openings = []; kept = replicate points None; lookups = 0 }
   unfolding keep
-  closed_walk points us h = rw (closed_free us h) (walk_bare points us (replicate points none) 0 (get_empty points))
+  closed_walk points us h = rw (closed_free us h) (walk_bare points us (replicate points None) 0 (get_empty points))

@@ -1,62 +1,34 @@
--- The columns in the code's hands are those of a sound pattern: what the functions ask of them, and what they find.
-use Prim.Native.Nat.{◌+◌, ◌-◌, ◌<◌, ◌≤◌, suc, ℕ}
+-- The columns are those of a sound pattern: what the functions ask of them, and what they find.
+use Prim.Native.Nat.{◌+◌, ◌-◌, ◌<◌, ◌≤◌, ℕ}
 use mathlib.Core.List.{List, map}
+use mathlib.Core.Logic.{∥∥₁_elim}
 use mathlib.Core.Path.{◌∙◌, ◌≡◌, ap, sym}
+use native.Mathlib.Bridge.{le_prop}
+use native.Mathlib.Nat.{ℕ_set}
 use native.Mathlib.Numerals.{add-one}
 use native.Mathlib.Omega.{arith}
-use lib.ListN.{drop, get_or, length, length-append, length-drop, length-map, length-take, replicate, take}
+use lib.Ieee.{Float}
+use lib.ListN.{drop, get_or, length, length-drop, length-map, length-take, take}
 use Rattle.columns.proofs.Shells.{listings_are, listings_inside}
-use Rattle.columns.specs.Columns.{Columns, Made, columns_in, first_listing, lent}
-use Rattle.columns.specs.Sound.{OfTables, Sound}
+use Rattle.columns.specs.Columns.{Columns, Made, columns_in, lent}
+use Rattle.columns.specs.Sound.{Faultless, OfTables, Sound}
 use Rattle.edge.specs.Edges.{back_number, front_number}
 use Rattle.listing.specs.Parts.{between}
-use Rattle.lists.proofs.Laws.{length_tabulate, map_take}
-use Rattle.lists.specs.Lists.{tabulate}
+use Rattle.lists.proofs.Laws.{map_take}
 use Rattle.pairs.specs.Pairs.{Pairs, Showing, pairs_of}
 use Rattle.pattern.proofs.Counts.{points_counted}
 use Rattle.pattern.specs.Contents.{Pattern, content}
 use Rattle.shell.specs.Shells.{listings_of}
 use Rattle.store.specs.Store.{count_table, held, listing_table, use_table, wire_table}
-use Rattle.reports.proofs.Groups.{figured, groups_found, showing}
+use Rattle.reports.proofs.Groups.{Shown, figured, groups_found, shown, showing_of}
 use Rattle.reports.specs.Figures.{Counted, Figured, Grouped}
 use Rattle.reports.specs.InHand.{listings_in}
 use Rattle.reports.specs.declared.GroupCounts.{GroupCounts}
 use Rattle.store.specs.Columns.{back_table, front_table}
 
--- the columns in the hands of a function that has each table by itself
-abbrev pub in_hand : List ℕ → List ℕ → List ℕ → List ℕ → List ℕ → List ℕ → List ℕ → List ℕ → List ℕ → List ℕ → Columns
-in_hand counts uses turned starts wires firsts fronts backs places listings = record {
-  points = get_or counts 0 0;
-  edges = get_or counts 1 0;
-  uses = uses;
-  turned = turned;
-  starts = starts;
-  wires = wires;
-  firsts = firsts;
-  fronts = fronts;
-  backs = backs;
-  places = places;
-  listings = listings;
-}
-
-module _ (t turned starts firsts places : List ℕ) {counts uses wires fronts backs listings : List ℕ}
-    (a : counts ≡ count_table t) (b : uses ≡ use_table t) (c : wires ≡ wire_table t) (d : fronts ≡ front_table t) (e : backs ≡ back_table t) (f : listings ≡ listing_table t) where
-  pub in_hand_lent : in_hand counts uses turned starts wires firsts fronts backs places listings ≡ lent t turned starts firsts places
-  in_hand_lent = rw (a, b, c, d, e, f)
-
-pub in_hand_lem : {t counts uses wires fronts backs listings turned starts firsts places : List ℕ} → Made t turned starts firsts places
-    → counts ≡ count_table t → uses ≡ use_table t → wires ≡ wire_table t → fronts ≡ front_table t → backs ≡ back_table t → listings ≡ listing_table t
-    → OfTables t (λ p. Sound p × (in_hand counts uses turned starts wires firsts fronts backs places listings ≡ columns_in p))
-in_hand_lem {t} m a b c d e f spans ok = ((m.all spans ok).0, in_hand_lent t _ _ _ _ a b c d e f ∙ (m.all spans ok).1)
-
 module _ (k : Columns) (n : ℕ) (p : Pattern) (s : Sound p) (e : k ≡ columns_in p) (here : n < get_or p.counts 5 0) where
   pub in_places : (get_or k.places n 0 ≤ get_or k.places (n + 1) 0) × (get_or k.places (n + 1) 0 ≤ length k.listings)
   in_places = rw (e, add-one) (let i = listings_inside p s n here in (i.0, omega (arith, i.1, s.full.listings)))
-
-  pub places_inside : n + 1 < length k.places
-  places_inside =
-      let ps = tabulate (suc (get_or p.counts 5 0)) (first_listing p) in
-      rw e (omega (arith, here, length-append ps (replicate (257 - length ps) 0), length_tabulate (suc (get_or p.counts 5 0)) (first_listing p)))
 
   pub fronts_are : take k.edges k.fronts ≡ map front_number (content p).edges
   fronts_are = rw e (sym (map_take front_number (get_or p.counts 1 0) p.edges))
@@ -74,8 +46,8 @@ module _ (k : Columns) (n : ℕ) (p : Pattern) (s : Sound p) (e : k ≡ columns_
         omega (arith, length-map p.edges back_number, s.limits.edges, s.full.edges),
       )
 
-  pub k_showing : Showing (listings_in k n) k.uses k.turned k.starts k.wires k.firsts
-  k_showing = rw (e, add-one, listings_are p s n here) (showing p s n here)
+  pub k_shown : Shown (listings_in k n) k.uses k.turned k.starts k.wires k.firsts (get_or p.counts 4 0)
+  k_shown = rw (e, add-one, listings_are p s n here) (shown p s n here)
 
   module _ (g : Pairs) (f : g ≡ pairs_of (listings_in k n) k.uses k.turned k.starts k.wires k.firsts) where
     pairs_of_lem : g ≡ pairs_of (between p.listings (get_or (columns_in p).places n 0) (get_or (columns_in p).places (n + 1) 0)) p.uses (columns_in p).turned (columns_in p).starts p.wires (columns_in p).firsts
@@ -92,27 +64,51 @@ module _ (k : Columns) (n : ℕ) (p : Pattern) (s : Sound p) (e : k ≡ columns_
         → Grouped (content p) n out₀ sizes₀ found₀ out sizes found r
     k_groups h = groups_found p s n here g (rw (add-one, listings_are p s n here) at pairs_of_lem) (rw (fronts_are, backs_are, points_are) at h)
 
--- ---- where the listings of a shell stand
-module _ {t turned starts firsts places : List ℕ} (m : Made t turned starts firsts places) {n : ℕ} (here : n < get_or (count_table t) 5 0) where
-  abbrev own : Sound (held t m.faultless.spans) × (lent t turned starts firsts places ≡ columns_in (held t m.faultless.spans))
-  own = m.all m.faultless.spans m.faultless.ok
+-- ---- the same from the tables
+module _ {t turned starts firsts places : List ℕ} (m : Made t turned starts firsts places) where
+  abbrev K : Columns
+  K = lent t turned starts firsts places
 
-  pub shell_inside : (n < 16) × (n + 1 < length places)
-  shell_inside = (omega (arith, here, own.0.limits.shells), places_inside (lent t turned starts firsts places) n _ own.0 own.1 here)
+  -- a fact that has one proof at most, from a pattern without fault that has these tables
+  pub by_pattern : {A : Type 0} → IsProp A → ((spans : List Float) → Sound (held t spans) → K ≡ columns_in (held t spans) → A) → A
+  by_pattern one f = ∥∥₁_elim m.faultless one (λ (w : Faultless t). let k = m.all w.spans w.ok in f w.spans k.0 k.1)
 
-  pub shell_listed : (get_or places n 0 ≤ get_or places (n + 1) 0) × (get_or places (n + 1) 0 ≤ length (listing_table t))
-  shell_listed = in_places (lent t turned starts firsts places) n _ own.0 own.1 here
+  module _ {n : ℕ} (here : n < get_or (count_table t) 5 0) where
+    -- where the listings of a shell stand
+    pub shell_inside : n < 16
+    shell_inside = by_pattern (hlevel le_prop) (λ spans s e. omega (arith, here, s.limits.shells))
 
-  pub listings_few : length (listing_table t) ≡ 512
-  listings_few = own.0.full.listings
+    pub shell_listed : (get_or places n 0 ≤ get_or places (n + 1) 0) × (get_or places (n + 1) 0 ≤ length (listing_table t))
+    shell_listed = by_pattern (hlevel le_prop) (λ spans s e. in_places K n _ s e here)
 
-  -- how many they are
-  pub listings_count : OfTables t (λ p. get_or places (n + 1) 0 - get_or places n 0 ≡ length (listings_of (content p) n))
-  listings_count spans ok =
-      let p = held t spans in
-      let s = (m.all spans ok).0 in
-      let e = (m.all spans ok).1 in
-      let k = lent t turned starts firsts places in
-      let i = in_places k n p s e here in
-      let same : listings_in k n ≡ listings_of (content p) n = ap (λ (c : Columns). listings_in c n) e ∙ rw add-one (listings_are p s n here) in
-      omega (arith, i.0, i.1, ap length same, length-take (get_or places (n + 1) 0 - get_or places n 0) (drop (get_or places n 0) k.listings), length-drop (get_or places n 0) k.listings)
+    pub listings_few : length (listing_table t) ≡ 512
+    listings_few = by_pattern (hlevel ℕ_set) (λ spans s e. s.full.listings)
+
+    pub edges_fit : (get_or (count_table t) 1 0 ≤ length (front_table t)) × (get_or (count_table t) 1 0 ≤ length (back_table t))
+    edges_fit = by_pattern (hlevel le_prop) (λ spans s e. edges_inside K n _ s e here)
+
+    -- how many they are
+    pub listings_count : OfTables t (λ p. get_or places (n + 1) 0 - get_or places n 0 ≡ length (listings_of (content p) n))
+    listings_count spans ok =
+        let p = held t spans in
+        let s = (m.all spans ok).0 in
+        let e = (m.all spans ok).1 in
+        let i = in_places K n p s e here in
+        let same : listings_in K n ≡ listings_of (content p) n = ap (λ (c : Columns). listings_in c n) e ∙ rw add-one (listings_are p s n here) in
+        omega (arith, i.0, i.1, ap length same, length-take (get_or places (n + 1) 0 - get_or places n 0) (drop (get_or places n 0) (listing_table t)), length-drop (get_or places n 0) (listing_table t))
+
+    -- its pairs and their groups
+    pub lent_showing : Showing (listings_in K n) (use_table t) turned starts (wire_table t) firsts
+    lent_showing =
+        let w : Shown (listings_in K n) (use_table t) turned starts (wire_table t) firsts (get_or (count_table t) 4 0) = by_pattern (hlevel le_prop) (λ spans s e. k_shown K n _ s e here) in
+        showing_of w
+
+    module _ (g : Pairs) (f : g ≡ pairs_of (listings_in K n) (use_table t) turned starts (wire_table t) firsts) where
+      pub lent_figured : (out sizes found : List ℕ) → 512 ≤ length out → 512 ≤ length sizes → 2048 ≤ length found
+          → Figured g (take (get_or (count_table t) 1 0) (front_table t)) (take (get_or (count_table t) 1 0) (back_table t)) (get_or (count_table t) 0 0) out sizes found
+      lent_figured out sizes found x y z = by_pattern (hlevel (le_prop, ℕ_set)) (λ spans s e. k_figured K n _ s e here g f out sizes found x y z)
+
+      pub lent_groups : {out₀ sizes₀ found₀ out sizes found : List ℕ} {r : GroupCounts}
+          → Counted g (take (get_or (count_table t) 1 0) (front_table t)) (take (get_or (count_table t) 1 0) (back_table t)) (get_or (count_table t) 0 0) out₀ sizes₀ found₀ out sizes found r
+          → OfTables t (λ p. Grouped (content p) n out₀ sizes₀ found₀ out sizes found r)
+      lent_groups h spans ok = let k = m.all spans ok in k_groups K n _ k.0 k.1 here g f h

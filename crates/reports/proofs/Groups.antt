@@ -44,6 +44,18 @@ use Rattle.groups.specs.Groups.{links}
 use Rattle.singular.proofs.Theorem.{singular_alike}
 use Rattle.singular.specs.Ends.{Cornered}
 
+-- listings of so many faces that have their uses and their wires in columns
+abbrev pub Shown : List ℕ → List ℕ → List ℕ → List ℕ → List ℕ → List ℕ → ℕ → Type 0
+Shown listings uses turned starts wires firsts faces =
+    (length listings ≤ 512) × (faces ≤ 256)
+    × ((k : ℕ) → k < length listings → face_number (get_or listings k 0) < faces)
+    × ((k : ℕ) → k < length listings → get_or listings k 0 < 65536)
+    × Rows uses turned starts faces 4096
+    × Rows wires wires firsts faces 1024
+
+pub showing_of : {listings uses turned starts wires firsts : List ℕ} {faces : ℕ} → Shown listings uses turned starts wires firsts faces → Showing listings uses turned starts wires firsts
+showing_of {faces = faces} w = record { few = w.0; faces = faces; low = w.1; named = w.2; small = w.3; shown = w.4; wired = w.5 }
+
 pub sum_lengths : {A : Type 0} (xss : List (List A)) → sum (map length xss) ≡ length (flat xss)
 unfolding sum flat
 sum_lengths [] = refl
@@ -124,18 +136,20 @@ module _ (p : Pattern) (s : Sound p) where
         let b : k < end - first = omega (arith, l, length-take (end - first) (drop first p.listings)) in
         rw (← e, get_or-take (end - first) (drop first p.listings) k 0 b, get_or-drop first p.listings k 0) (s.listings (first + k))
 
-    pub showing : Showing (listings_of (content p) n) p.uses (columns_in p).turned (columns_in p).starts p.wires (columns_in p).firsts
-    showing = record {
-      few = listings_few;
-      faces = get_or p.counts 4 0;
-      low = s.limits.faces;
-      named = λ k h.
+    pub shown : Shown (listings_of (content p) n) p.uses (columns_in p).turned (columns_in p).starts p.wires (columns_in p).firsts (get_or p.counts 4 0)
+    shown = (
+      listings_few,
+      s.limits.faces,
+      λ k h.
           let m = all_place (λ (l : ℕ). face_number l < length (content p).faces) 0 (listings_of (content p) n) (shell_named p s n) k h in
-          omega (arith, m, faces_counted p s.limits s.full);
-      small = listing_small;
-      shown = uses_rows;
-      wired = wires_rows;
-    }
+          omega (arith, m, faces_counted p s.limits s.full),
+      listing_small,
+      uses_rows,
+      wires_rows,
+    )
+
+    showing : Showing (listings_of (content p) n) p.uses (columns_in p).turned (columns_in p).starts p.wires (columns_in p).firsts
+    showing = showing_of shown
 
     abbrev P : List ℕ
     P = shell_pairs (content p) n

@@ -1,7 +1,10 @@
 -- The tally, the condition and the walk of a shell of a sound pattern, from its columns.
 use Prim.Native.Nat.{◌%◌, ◌*◌, ◌-◌, ◌<◌, ◌≤◌, ℕ}
+use mathlib.Core.Bool.{Bool-set}
 use mathlib.Core.List.{List, [], map}
 use mathlib.Core.Path.{◌∙◌, ◌≡◌, ap, refl, sym}
+use native.Mathlib.Bridge.{le_prop}
+use native.Mathlib.Nat.{ℕ_set}
 use native.Mathlib.Numerals.{add-one}
 use native.Mathlib.Omega.{arith}
 use lib.ListN.{get_or, length, length-append, length-map, length-replicate, replicate, take}
@@ -23,7 +26,7 @@ use Rattle.lists.specs.Lists.{flat, tabulate}
 use Rattle.openings.specs.declared.Walked.{Walked}
 use Rattle.pattern.proofs.Counts.{edges_counted, points_counted}
 use Rattle.pattern.specs.Contents.{Pattern, content}
-use Rattle.reports.proofs.Columned.{backs_are, fronts_are, points_are}
+use Rattle.reports.proofs.Columned.{backs_are, by_pattern, fronts_are, points_are}
 use Rattle.reports.proofs.Ready.{all_tally, all_walk, shell_placed, use_front_lem, uses_are}
 use Rattle.reports.proofs.Closed.{closed_walk}
 use Rattle.reports.specs.Figures.{Opened}
@@ -33,7 +36,8 @@ use Rattle.shell.proofs.Theorem.{promised}
 use Rattle.shell.specs.Conditions.{condition}
 use Rattle.shell.specs.Openings.{Walk, shell_walk, walk_of}
 use Rattle.shell.specs.Shells.{shell_uses}
-use Rattle.store.specs.Store.{count_table, held, use_table}
+use Rattle.store.specs.Columns.{back_table, front_table}
+use Rattle.store.specs.Store.{count_table, use_table}
 
 -- a condition is its number
 condition_is : (w : Condition) (i : ℕ) → w.0 ≡ i → w ≡ record { 0 = i }
@@ -127,15 +131,38 @@ module _ (k : Columns) (n : ℕ) (p : Pattern) (s : Sound p) (e : k ≡ columns_
 
 -- ---- the same from the tables
 module _ {t turned starts firsts places : List ℕ} (m : Made t turned starts firsts places) {n : ℕ} (here : n < get_or (count_table t) 5 0) where
-  abbrev own : Sound (held t m.faultless.spans) × (lent t turned starts firsts places ≡ columns_in (held t m.faultless.spans))
-  own = m.all m.faultless.spans m.faultless.ok
+  abbrev K : Columns
+  K = lent t turned starts firsts places
 
-  pub tally_asked : AllTally (use_table t) turned starts (listings_in (lent t turned starts firsts places) n)
-  tally_asked = k_tally (lent t turned starts firsts places) n _ own.0 own.1 here
+  abbrev fronts : List ℕ
+  fronts = take (get_or (count_table t) 1 0) (front_table t)
+
+  abbrev backs : List ℕ
+  backs = take (get_or (count_table t) 1 0) (back_table t)
+
+  pub tally_asked : AllTally (use_table t) turned starts (listings_in K n)
+  tally_asked = by_pattern m (hlevel le_prop) (λ spans s e. k_tally K n _ s e here)
 
   pub few_edges : get_or (count_table t) 1 0 ≤ 1024
-  few_edges = edges_few (lent t turned starts firsts places) n _ own.0 own.1 here
+  few_edges = by_pattern m (hlevel le_prop) (λ spans s e. edges_few K n _ s e here)
 
-  pub condition_found : (r : Tally) → r ≡ inserted_all no_uses (uses_in (lent t turned starts firsts places) n)
-      → OfTables t (λ p. condition_in r (get_or (count_table t) 1 0) ≡ condition (shell_uses (content p) n))
-  condition_found r made spans ok = let k = m.all spans ok in k_condition (lent t turned starts firsts places) n _ k.0 k.1 here r made
+  pub walk_asked : AllWalk (use_table t) turned starts fronts backs (listings_in K n)
+  walk_asked = by_pattern m (hlevel (le_prop, ℕ_set)) (λ spans s e. k_walk K n _ s e here)
+
+  module _ (r : Tally) (made : r ≡ inserted_all no_uses (uses_in K n)) where
+    pub condition_found : OfTables t (λ p. condition_in r (get_or (count_table t) 1 0) ≡ condition (shell_uses (content p) n))
+    condition_found spans ok = let k = m.all spans ok in k_condition K n _ k.0 k.1 here r made
+
+    pub lent_extractable : (odd out lens : List ℕ) → odd ≡ odds_in r (get_or (count_table t) 1 0) → 2048 ≤ length out → 2048 ≤ length lens
+        → Extractable (uses_in K n) odd fronts backs (get_or (count_table t) 0 0) out lens
+    lent_extractable odd out lens o x y = by_pattern m (hlevel (le_prop, ℕ_set, Bool-set)) (λ spans s e. k_extractable K n _ s e here r made odd out lens o x y)
+
+    module _ (w : Condition) (is : w.0 ≡ condition_in r (get_or (count_table t) 1 0)) where
+      pub lent_openings : {out₀ lens₀ out lens : List ℕ} {o : Walked}
+          → Written (walk_of (front_of fronts backs) (back_of fronts backs) (get_or (count_table t) 0 0) (uses_in K n)) out₀ lens₀ out lens o
+          → OfTables t (λ p. Opened (content p) n out₀ lens₀ out lens (record { condition = w; openings = o.openings; used = o.at; lookups = o.lookups }))
+      lent_openings h spans ok = let k = m.all spans ok in k_openings K n _ k.0 k.1 here r made w is h
+
+      pub lent_closed : w.0 ≡ 3 → (out₀ lens₀ : List ℕ)
+          → OfTables t (λ p. Opened (content p) n out₀ lens₀ out₀ lens₀ (record { condition = w; openings = 0; used = 0; lookups = 0 }))
+      lent_closed closed out₀ lens₀ spans ok = let k = m.all spans ok in k_openings K n _ k.0 k.1 here r made w is (k_closed K n _ k.0 k.1 here r made w is closed out₀ lens₀)

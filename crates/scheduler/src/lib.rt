@@ -2,46 +2,27 @@
 // At a slot one job may wait, and the last one that was served there is held with its answer.
 #![tactic(auto)]
 
-ghost use Rattle.std.specs.Prelude.{◌&&◌, ◌≡◌};
-ghost use Rattle.scheduler.specs.Scheduler.{after_submit, due_answer, held_other, new_scheduler, next_job, queue_answer, same_job, same_place, slot_after, slot_answer, submit_answer, submit_number, waits_other};
+ghost use Rattle.std.specs.Prelude.{◌≡◌};
+ghost use Rattle.scheduler.specs.Scheduler.{after_submit, due_answer, held_other, new_scheduler, next_job, queue_answer, slot_after, slot_answer, submit_answer, submit_number, waits_other};
 
 use answers::Answer;
 
 // The slots of a scheduler.
 pub const SLOTS: usize = 8;
 
-// Where a point was put on a curve: a parameter, given by the bits of its f64, or nowhere.
-#[derive(Clone, Copy)]
-pub enum Place {
-    At(u64),
-    Nowhere,
-}
-
-// A job, its numbers as they were given: a cut of an edge of a shell at a point; the removal of a point of a shell.
-#[derive(Clone, Copy)]
+// A job, its numbers as they were given: a cut of an edge of a shell at a point, which was put on the curve at a
+// parameter, given by the bits of its f64, or nowhere; the removal of a point of a shell.
+#[derive(Clone, Copy, PartialEq, Eq)]
 pub enum Job {
-    Cut(usize, usize, usize, Place),
+    Cut(usize, usize, usize, Option<u64>),
     Remove(usize, usize),
 }
 
-// The job that waits at a slot, with its key.
-#[derive(Clone, Copy)]
-pub enum Waiting {
-    Nothing,
-    Keyed(u32, Job),
-}
-
-// The job that was served last at a slot, with its key and its answer.
-#[derive(Clone, Copy)]
-pub enum Held {
-    Nothing,
-    Answered(u32, Job, Answer),
-}
-
+// A slot: the job that waits there, with its key; the one that was served last, with its key and its answer.
 #[derive(Clone, Copy)]
 pub struct Slot {
-    pub waiting: Waiting,
-    pub held: Held,
+    pub waiting: Option<(u32, Job)>,
+    pub held: Option<(u32, Job, Answer)>,
 }
 
 // The slots, and the one that was served last.
@@ -61,159 +42,91 @@ pub enum SubmitError {
     Occupied,
 }
 
-// The answer to a submission: the job waits; it was served before, with this answer; it is refused.
-#[derive(Clone, Copy)]
-pub enum SubmitAnswer {
-    Waits,
-    Held(Answer),
-    Refused(SubmitError),
-}
-
+// After a submission, and its answer: none where the job waits, the held one where it was served before; or the refusal.
 #[derive(Clone, Copy)]
 pub struct Submitted {
     pub scheduler: Scheduler,
-    pub answer: SubmitAnswer,
+    pub answer: Result<Option<Answer>, SubmitError>,
 }
 
-// Whose turn it is: the slot, with the key and the job that wait there.
-#[derive(Clone, Copy)]
-pub enum Next {
-    Nobody,
-    Slot(usize, u32, Job),
-}
-
-// Document 02's number of a refused submission.
-pub fn submit_number(e: SubmitError) -> usize
-    ensures { result ≡ submit_number e }
-{
-    match e {
-        SubmitError::Unnamed => 3,
-        SubmitError::KeyInUse => 33,
-        SubmitError::Occupied => 34,
-    }
-}
-
-fn both(a: bool, b: bool) -> bool
-    ensures { result ≡ (a && b) }
-{
-    if a {
-        return b;
-    }
-    false
-}
-
-fn same_place(a: Place, b: Place) -> bool
-    ensures { result ≡ same_place a b }
-{
-    match a {
-        Place::At(x) => match b {
-            Place::At(y) => x == y,
-            Place::Nowhere => false,
-        },
-        Place::Nowhere => match b {
-            Place::At(_) => false,
-            Place::Nowhere => true,
-        },
-    }
-}
-
-// Whether two jobs were given alike.
-fn same_job(a: Job, b: Job) -> bool
-    ensures { result ≡ same_job a b }
-{
-    match a {
-        Job::Cut(n, e, v, at) => match b {
-            Job::Cut(m, f, w, to) => {
-                both(n == m, both(e == f, both(v == w, same_place(at, to))))
-            }
-            Job::Remove(_, _) => false,
-        },
-        Job::Remove(n, v) => match b {
-            Job::Cut(_, _, _, _) => false,
-            Job::Remove(m, w) => both(n == m, v == w),
-        },
+impl SubmitError {
+    // Document 02's number.
+    pub fn number(self) -> usize
+        ensures { result ≡ submit_number self }
+    {
+        match self {
+            SubmitError::Unnamed => 3,
+            SubmitError::KeyInUse => 33,
+            SubmitError::Occupied => 34,
+        }
     }
 }
 
 // Whether the key waits with a different job.
-fn waits_other(w: Waiting, key: u32, job: Job) -> bool
+fn waits_other(w: Option<(u32, Job)>, key: u32, job: Job) -> bool
     ensures { result ≡ waits_other w key job }
 {
     match w {
-        Waiting::Nothing => false,
-        Waiting::Keyed(k, j) => both(k == key, !same_job(j, job)),
+        None => false,
+        Some((k, j)) => k == key && j != job,
     }
 }
 
 // Whether the key is held with a different job.
-fn held_other(h: Held, key: u32, job: Job) -> bool
+fn held_other(h: Option<(u32, Job, Answer)>, key: u32, job: Job) -> bool
     ensures { result ≡ held_other h key job }
 {
     match h {
-        Held::Nothing => false,
-        Held::Answered(k, j, _) => both(k == key, !same_job(j, job)),
+        None => false,
+        Some((k, j, _)) => k == key && j != job,
     }
 }
 
 // The answer where no held one is due.
-fn queue_answer(w: Waiting, key: u32, job: Job) -> SubmitAnswer
+fn queue_answer(w: Option<(u32, Job)>, key: u32, job: Job) -> Result<Option<Answer>, SubmitError>
     ensures { result ≡ queue_answer w key job }
 {
     match w {
-        Waiting::Nothing => SubmitAnswer::Waits,
-        Waiting::Keyed(k, j) => {
-            if both(k == key, same_job(j, job)) {
-                return SubmitAnswer::Waits;
-            }
-            SubmitAnswer::Refused(SubmitError::Occupied)
-        }
+        Some((k, j)) if k != key || j != job => Err(SubmitError::Occupied),
+        _ => Ok(None),
     }
 }
 
 // The held answer, or where it is not due the one that is given.
-fn due_answer(h: Held, key: u32, job: Job, other: SubmitAnswer) -> SubmitAnswer
+fn due_answer(
+    h: Option<(u32, Job, Answer)>,
+    key: u32,
+    job: Job,
+    other: Result<Option<Answer>, SubmitError>,
+) -> Result<Option<Answer>, SubmitError>
     ensures { result ≡ due_answer h key job other }
 {
     match h {
-        Held::Nothing => other,
-        Held::Answered(k, j, a) => {
-            if both(k == key, same_job(j, job)) {
-                return SubmitAnswer::Held(a);
-            }
-            other
-        }
+        Some((k, j, a)) if k == key && j == job => Ok(Some(a)),
+        _ => other,
     }
 }
 
 // The answer to a submission at a slot.
-fn slot_answer(slot: Slot, key: u32, job: Job) -> SubmitAnswer
+fn slot_answer(slot: Slot, key: u32, job: Job) -> Result<Option<Answer>, SubmitError>
     ensures { result ≡ slot_answer slot key job }
 {
-    let held = slot.held;
-    let waiting = slot.waiting;
-    if held_other(held, key, job) {
-        return SubmitAnswer::Refused(SubmitError::KeyInUse);
+    if held_other(slot.held, key, job) || waits_other(slot.waiting, key, job) {
+        return Err(SubmitError::KeyInUse);
     }
-    if waits_other(waiting, key, job) {
-        return SubmitAnswer::Refused(SubmitError::KeyInUse);
-    }
-    due_answer(held, key, job, queue_answer(waiting, key, job))
+    due_answer(slot.held, key, job, queue_answer(slot.waiting, key, job))
 }
 
 // The slot after a submission with this answer.
-fn slot_after(answer: SubmitAnswer, slot: Slot, key: u32, job: Job) -> Slot
+fn slot_after(answer: Result<Option<Answer>, SubmitError>, slot: Slot, key: u32, job: Job) -> Slot
     ensures { result ≡ slot_after answer slot key job }
 {
     match answer {
-        SubmitAnswer::Waits => {
-            let held = slot.held;
-            Slot {
-                waiting: Waiting::Keyed(key, job),
-                held: held,
-            }
-        }
-        SubmitAnswer::Held(_) => slot,
-        SubmitAnswer::Refused(_) => slot,
+        Ok(None) => Slot {
+            waiting: Some((key, job)),
+            ..slot
+        },
+        Ok(Some(_)) | Err(_) => slot,
     }
 }
 
@@ -223,8 +136,8 @@ impl Scheduler {
         ensures { result ≡ new_scheduler }
     {
         let slot = Slot {
-            waiting: Waiting::Nothing,
-            held: Held::Nothing,
+            waiting: None,
+            held: None,
         };
         Scheduler {
             slots: [slot; SLOTS],
@@ -239,7 +152,7 @@ impl Scheduler {
         if d >= SLOTS {
             return Submitted {
                 scheduler: self,
-                answer: SubmitAnswer::Refused(SubmitError::Unnamed),
+                answer: Err(SubmitError::Unnamed),
             };
         }
         let slot = self.slots[d];
@@ -255,24 +168,17 @@ impl Scheduler {
         }
     }
 
-    // The next slot after the one that was served last, going round, at which a job waits.
-    pub fn next(self) -> Next
+    // The next slot after the one that was served last, going round, at which a job waits, with the job and its key.
+    pub fn next(self) -> Option<(usize, u32, Job)>
         ensures { result ≡ next_job self }
     {
         let mut d = self.last;
-        let mut n: usize = SLOTS;
-        while n > 0 {
-            n -= 1;
+        for _ in 0..SLOTS {
             d = (d % SLOTS + 1) % SLOTS;
-            let slot = self.slots[d];
-            let waiting = slot.waiting;
-            match waiting {
-                Waiting::Nothing => {}
-                Waiting::Keyed(k, j) => {
-                    return Next::Slot(d, k, j);
-                }
+            if let Some((k, j)) = self.slots[d].waiting {
+                return Some((d, k, j));
             }
         }
-        Next::Nobody
+        None
     }
 }

@@ -10,9 +10,9 @@ ghost use Rattle.scheduler_calls.specs.SchedulerCalls.{after_turn_call, place_of
 
 use answers::Answer;
 use pattern::LONGEST;
-use scheduler::{Job, Place, Scheduler, SubmitAnswer, submit_number};
+use scheduler::{Job, Scheduler};
 use scheduler_state::{Numbers, put_scheduler, scheduler_in};
-use scheduler_turn::{TurnAnswer, serve};
+use scheduler_turn::serve;
 
 // An answer of the scheduler. `outcome` is 0 done, 2 refused, with the refusal's number. `state` is 1 where an
 // answer is held or a slot was served: `answer` is then the edit's, and `slot` the slot that was served.
@@ -59,13 +59,13 @@ fn with_answer(slot: usize, answer: Answer) -> SchedulerAnswer
 }
 
 // Where the bits of a parameter put a point: those of one NaN nowhere.
-fn place_of(bits: u64) -> Place
+fn place_of(bits: u64) -> Option<u64>
     ensures { result ≡ place_of bits }
 {
     if bits == 0x7ff8000000000000 {
-        return Place::Nowhere;
+        return None;
     }
-    Place::At(bits)
+    Some(bits)
 }
 
 // Puts a new scheduler into the list. Any content of the list is taken, here and below.
@@ -79,15 +79,13 @@ fn submit(numbers: &mut Numbers, slot: usize, key: u32, job: Job) -> SchedulerAn
     ensures { (result ≡ submit_values (submit_answer (scheduler_in numbers.old) slot key job)) × (scheduler_in numbers.new ≡ after_submit (scheduler_in numbers.old) slot key job) × SubmitKept (submit_answer (scheduler_in numbers.old) slot key job) numbers.old numbers.new }
 {
     let done = scheduler_in(numbers).submit(slot, key, job);
-    let a = done.answer;
-    match a {
-        SubmitAnswer::Waits => {
-            let c = done.scheduler;
-            put_scheduler(c, numbers);
+    match done.answer {
+        Ok(None) => {
+            put_scheduler(done.scheduler, numbers);
             without_answer(0, 0)
         }
-        SubmitAnswer::Held(x) => with_answer(0, x),
-        SubmitAnswer::Refused(e) => without_answer(2, submit_number(e)),
+        Ok(Some(x)) => with_answer(0, x),
+        Err(e) => without_answer(2, e.number()),
     }
 }
 
@@ -130,12 +128,10 @@ fn serve_next(numbers: &mut Numbers, file: &[u8], out: &mut [u8]) -> SchedulerAn
     ensures out_after { out.new ≡ turn_out (scheduler_in numbers.old) file.now out.old }
 {
     let done = serve(scheduler_in(numbers), file, out);
-    let a = done.answer;
-    match a {
-        TurnAnswer::Nobody => without_answer(0, 0),
-        TurnAnswer::Served(d, _, x) => {
-            let c = done.scheduler;
-            put_scheduler(c, numbers);
+    match done.answer {
+        None => without_answer(0, 0),
+        Some((d, _, x)) => {
+            put_scheduler(done.scheduler, numbers);
             with_answer(d, x)
         }
     }

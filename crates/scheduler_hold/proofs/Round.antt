@@ -1,24 +1,20 @@
 -- A scheduler: which slot is next, and what an event leaves at each slot.
 use Prim.Native.Nat.{ℕ, zero, suc, ◌+◌, ◌-◌, ◌%◌, ◌<◌, ◌≤◌}
-use mathlib.Core.Bool.{Bool, false, true}
+use mathlib.Core.Bool.{false, true}
 use mathlib.Core.List.{List}
 use mathlib.Core.Logic.{⊎_elim}
-use mathlib.Core.Path.{◌∙◌, ◌≡◌, ap, refl, sym}
+use mathlib.Core.Path.{◌∙◌, ◌≡◌, ap, refl, subst, sym}
 use native.Mathlib.Omega.{arith}
 use lib.Dec.{eqb, ltb}
 use lib.ListN.{get_or-eq_default, get_or, length, length-set, set}
 use lib.Seq.{get_or-set_other, get_or-set_same}
-use borrow.Author.Tests.{eqb-false, eqb-true, lt-ltb, ltb-false, ltb-true}
+use borrow.Author.Tests.{eqb-false, eqb-true, ltb-false, ltb-true}
+use Rattle.std.specs.Prelude.{Option, None, Some}
 use Rattle.lists.proofs.Laws.{cases}
-use Rattle.lists.specs.Lists.{pick}
-use Rattle.scheduler.specs.Scheduler.{after_submit, empty_slot, first_waiting, next_job, slot_after, slot_answer, slot_at, waiting_there}
+use Rattle.scheduler.specs.Scheduler.{after_submit, empty_slot, first_waiting, slot_after, slot_answer, slot_at, waiting_there}
 use Rattle.scheduler.specs.declared.Job.{Job}
-use Rattle.scheduler.specs.declared.Next.{Next}
-use Rattle.scheduler.specs.declared.Next.TheVariants.{Nobody, Slot as Next-as-Slot}
 use Rattle.scheduler.specs.declared.Scheduler.{Scheduler}
 use Rattle.scheduler.specs.declared.Slot.{Slot}
-use Rattle.scheduler.specs.declared.Waiting.{Waiting}
-use Rattle.scheduler.specs.declared.Waiting.TheVariants.{Keyed, Nothing}
 use Rattle.scheduler_turn.specs.Turn.{after_turn_of, job_answer, served_slot}
 
 -- ---- a slot of the list
@@ -29,11 +25,11 @@ set_here slots d x h = get_or-set_same slots d x empty_slot h
 set_elsewhere : (slots : List Slot) (d e : ℕ) (x : Slot) → eqb d e ≡ false → get_or (set slots d x) e empty_slot ≡ get_or slots e empty_slot
 set_elsewhere slots d e x h = get_or-set_other slots d e x empty_slot (λ p. eqb-false d e h (sym p))
 
-nothing_not : {k : ℕ} {j : Job} → Nothing ≡ Keyed k j → ⊥
+nothing_not : {k : ℕ} {j : Job} → ◌≡◌ {A = Option (ℕ × Job)} None (Some (k, j)) → ⊥
 nothing_not p = let z : ◌≡◌ {A = ℕ} 0 1 = cc in omega arith
 
 -- a slot at which a job waits is there
-pub waits_below : (slots : List Slot) (d : ℕ) {k : ℕ} {j : Job} → length slots ≡ 8 → (get_or slots d empty_slot).waiting ≡ Keyed k j → d < 8
+pub waits_below : (slots : List Slot) (d : ℕ) {k : ℕ} {j : Job} → length slots ≡ 8 → (get_or slots d empty_slot).waiting ≡ Some (k, j) → d < 8
 waits_below slots d l w =
     ⊎_elim
     (λ (h : ltb d 8 ≡ true). ltb-true d 8 h)
@@ -71,21 +67,25 @@ module _ (c : Scheduler) (d k : ℕ) (j : Job) where
 
 -- ---- whose turn it is
 
-there_waits : (w : Waiting) (slots : List Slot) (e : ℕ) (rest : Next) {d k : ℕ} {j : Job} → (get_or slots e empty_slot).waiting ≡ w
-    → (rest ≡ Next-as-Slot d k j → (get_or slots d empty_slot).waiting ≡ Keyed k j) → waiting_there w e rest ≡ Next-as-Slot d k j → (get_or slots d empty_slot).waiting ≡ Keyed k j
-there_waits Nothing slots e rest is later q = later q
-there_waits (Keyed l i) slots e rest {d} {k} {j} is later q =
-    let z : e ≡ d = cc in
-    let f : Keyed l i ≡ Keyed k j = cc in
-    rw (← z) (is ∙ f)
+module _ (slots : List Slot) where
+  abbrev Waits : Option (ℕ × ℕ × Job) → Type 0
+  Waits None = Unit
+  Waits (Some (d, k, j)) = (get_or slots d empty_slot).waiting ≡ Some (k, j)
 
--- the job is the one that waits there
-pub next_waits : (slots : List Slot) (n e : ℕ) {d k : ℕ} {j : Job} → first_waiting slots n e ≡ Next-as-Slot d k j → (get_or slots d empty_slot).waiting ≡ Keyed k j
-unfolding first_waiting
-next_waits slots zero e q = let z : ◌≡◌ {A = ℕ} 0 1 = cc in absurd (omega arith)
-next_waits slots (suc n) e q =
-    let f = (e + 1) % 8 in
-    there_waits (get_or slots f empty_slot).waiting slots f (first_waiting slots n f) refl (next_waits slots n f) q
+  there_waits : (w : Option (ℕ × Job)) (e : ℕ) (rest : Option (ℕ × ℕ × Job)) → (get_or slots e empty_slot).waiting ≡ w → Waits rest → Waits (waiting_there w e rest)
+  there_waits None e rest is later = later
+  there_waits (Some (l, i)) e rest is later = is
+
+  all_wait : (n e : ℕ) → Waits (first_waiting slots n e)
+  unfolding first_waiting
+  all_wait zero e = tt
+  all_wait (suc n) e =
+      let f = (e + 1) % 8 in
+      there_waits (get_or slots f empty_slot).waiting f (first_waiting slots n f) refl (all_wait n f)
+
+  -- the job is the one that waits there
+  pub next_waits : (n e : ℕ) {d k : ℕ} {j : Job} → first_waiting slots n e ≡ Some (d, k, j) → (get_or slots d empty_slot).waiting ≡ Some (k, j)
+  next_waits n e q = subst Waits q (all_wait n e)
 
 -- slot q places further than the next is the first at which a job waits
 pub record First (slots : List Slot) (n l p : ℕ) : Type 0 where
@@ -93,22 +93,22 @@ pub record First (slots : List Slot) (n l p : ℕ) : Type 0 where
   pub key : ℕ
   pub job : Job
   pub near : q ≤ p
-  pub is : first_waiting slots n l ≡ Next-as-Slot ((l + 1 + q) % 8) key job
+  pub is : first_waiting slots n l ≡ Some ((l + 1 + q) % 8, key, job)
 
-first_there : (slots : List Slot) (n l p : ℕ) (w : Waiting) → (get_or slots ((l + 1) % 8) empty_slot).waiting ≡ w
-    → (w ≡ Nothing → First slots n ((l + 1) % 8) (p - 1) × (0 < p)) → First slots (suc n) l p
+first_there : (slots : List Slot) (n l p : ℕ) (w : Option (ℕ × Job)) → (get_or slots ((l + 1) % 8) empty_slot).waiting ≡ w
+    → (w ≡ None → First slots n ((l + 1) % 8) (p - 1) × (0 < p)) → First slots (suc n) l p
 unfolding first_waiting
-first_there slots n l p (Keyed k j) is later =
+first_there slots n l p (Some (k, j)) is later =
     let z : (l + 1 + 0) % 8 ≡ (l + 1) % 8 = omega arith in
     record { q = 0; key = k; job = j; near = omega arith; is = rw (is, z) }
-first_there slots n l p Nothing is later =
+first_there slots n l p None is later =
     let f = (later refl).0 in
     let some = (later refl).1 in
     let z : (l + 1 + (f.q + 1)) % 8 ≡ ((l + 1) % 8 + 1 + f.q) % 8 = omega arith in
     record { q = f.q + 1; key = f.key; job = f.job; near = omega (arith, f.near); is = rw (is, z) f.is }
 
 -- where a job waits p places further, of n that are looked at
-pub first_within : (slots : List Slot) (n l p d : ℕ) {k : ℕ} {j : Job} → (get_or slots d empty_slot).waiting ≡ Keyed k j → (l + 1 + p) % 8 ≡ d → p < n → First slots n l p
+pub first_within : (slots : List Slot) (n l p d : ℕ) {k : ℕ} {j : Job} → (get_or slots d empty_slot).waiting ≡ Some (k, j) → (l + 1 + p) % 8 ≡ d → p < n → First slots n l p
 first_within slots zero l p d w at h = absurd (omega arith)
 first_within slots (suc n) l p d w at h =
     let e = (l + 1) % 8 in
@@ -139,11 +139,11 @@ module _ (l p q d : ℕ) (at : (l + 1 + p) % 8 ≡ d) (near : q ≤ p) (other : 
 -- ---- a turn that serves slot e
 
 module _ (c : Scheduler) (s : List ℕ) (e k : ℕ) (j : Job) where
-  pub turn_length : length (after_turn_of (Next-as-Slot e k j) c s).slots ≡ length c.slots
+  pub turn_length : length (after_turn_of (Some (e, k, j)) c s).slots ≡ length c.slots
   turn_length = length-set c.slots e (served_slot k j (job_answer j s))
 
-  pub served_here : e < length c.slots → slot_at (after_turn_of (Next-as-Slot e k j) c s) e ≡ served_slot k j (job_answer j s)
+  pub served_here : e < length c.slots → slot_at (after_turn_of (Some (e, k, j)) c s) e ≡ served_slot k j (job_answer j s)
   served_here h = set_here c.slots e (served_slot k j (job_answer j s)) h
 
-  pub served_elsewhere : (d : ℕ) → eqb e d ≡ false → slot_at (after_turn_of (Next-as-Slot e k j) c s) d ≡ slot_at c d
+  pub served_elsewhere : (d : ℕ) → eqb e d ≡ false → slot_at (after_turn_of (Some (e, k, j)) c s) d ≡ slot_at c d
   served_elsewhere d other = set_elsewhere c.slots e d (served_slot k j (job_answer j s)) other

@@ -8,22 +8,16 @@ use native.Mathlib.Omega.{arith}
 use lib.Dec.{eqb, ltb}
 use lib.ListN.{get_or-eq_default, get_or, get_or-replicate, length, length-replicate, replicate}
 use borrow.Author.Tests.{eqb-false, eqb-true, lt-ltb, ltb-false, ltb-true}
+use Rattle.std.specs.Prelude.{Option, None, Some}
 use Rattle.answers.specs.declared.Answer.{Answer}
 use Rattle.lists.proofs.Laws.{cases}
 use Rattle.lists.specs.Lists.{pick}
 use Rattle.scheduler.proofs.Laws.{next_below}
-use Rattle.scheduler.specs.Scheduler.{after_submit, empty_slot, new_scheduler, next_job, slot_after, slot_answer, slot_at, submit_answer}
-use Rattle.scheduler.specs.declared.Held.{Held}
-use Rattle.scheduler.specs.declared.Held.TheVariants.{Answered}
+use Rattle.scheduler.specs.Scheduler.{empty_slot, new_scheduler, next_job, slot_answer, slot_at, submit_answer, SubmitAnswer}
 use Rattle.scheduler.specs.declared.Job.{Job}
-use Rattle.scheduler.specs.declared.Next.{Next}
-use Rattle.scheduler.specs.declared.Next.TheVariants.{Nobody, Slot as Next-as-Slot}
 use Rattle.scheduler.specs.declared.Scheduler.{Scheduler}
 use Rattle.scheduler.specs.declared.Slot.{Slot}
-use Rattle.scheduler.specs.declared.SubmitAnswer.{SubmitAnswer}
-use Rattle.scheduler.specs.declared.Waiting.{Waiting}
-use Rattle.scheduler.specs.declared.Waiting.TheVariants.{Keyed, Nothing}
-use Rattle.scheduler_turn.specs.Turn.{after_turn, after_turn_of, job_answer, served_slot}
+use Rattle.scheduler_turn.specs.Turn.{after_turn_of, job_answer}
 use Rattle.scheduler_hold.proofs.Round.{first_within, nearer, next_waits, places_after, served_elsewhere, served_here, submit_keeps, submit_last, submit_length, turn_length, waits_below}
 use Rattle.scheduler_hold.proofs.Slots.{apart_stays, held_stays, other_key, still_held, still_waits, waiting_stays}
 use Rattle.scheduler_hold.specs.Events.{after, Event, file_after_job, keys_differ, KeysApart, Once, reached, run, served_by, Service, services, Since, Submit, Turn, turns, World, Write}
@@ -33,7 +27,7 @@ use Rattle.scheduler_hold.specs.Events.{after, Event, file_after_job, keys_diffe
 pub file_stays : (w : World) (d k : ℕ) (j : Job) → (after w (Submit d k j)).file ≡ w.file
 file_stays w d k j = refl
 
-pub idle_turn : (w : World) → next_job w.scheduler ≡ Nobody → after w Turn ≡ w
+pub idle_turn : (w : World) → next_job w.scheduler ≡ None → after w Turn ≡ w
 idle_turn w e = rw e
 
 -- ---- the keys of a slot differ
@@ -42,9 +36,9 @@ abbrev Sound : Scheduler → Type 0
 Sound c = (length c.slots ≡ 8) × KeysApart c
 
 -- the length is 8, and a turn keeps the keys apart: the slot that it serves has nobody waiting
-sound_turn : (n : Next) (c : Scheduler) (s : List ℕ) → next_job c ≡ n → Sound c → Sound (after_turn_of n c s)
-sound_turn Nobody c s is (l, apart) = (l, apart)
-sound_turn (Next-as-Slot e k j) c s is (l, apart) = (
+sound_turn : (n : Option (ℕ × ℕ × Job)) (c : Scheduler) (s : List ℕ) → next_job c ≡ n → Sound c → Sound (after_turn_of n c s)
+sound_turn None c s is (l, apart) = (l, apart)
+sound_turn (Some (e, k, j)) c s is (l, apart) = (
   turn_length c s e k j ∙ l,
   λ d.
       ⊎_elim
@@ -108,20 +102,20 @@ module _ (d k : ℕ) (j : Job) (there : d < 8) where
   -- answer a is held
   module _ (a : Answer) where
     abbrev Holds : Scheduler → Type 0
-    Holds c = Sound c × ((slot_at c d).held ≡ Answered k j a)
+    Holds c = Sound c × ((slot_at c d).held ≡ Some (k, j, a))
 
-    since_turn : (n : Next) (w : World) (es : List Event) → next_job w.scheduler ≡ n → Holds w.scheduler
+    since_turn : (n : Option (ℕ × ℕ × Job)) (w : World) (es : List Event) → next_job w.scheduler ≡ n → Holds w.scheduler
         → ((v : World) → Holds v.scheduler → Since k a (services d v es) (resent v es))
         → let v : World = record { scheduler = after_turn_of n w.scheduler w.file; file = file_after_job n w.file } in Since k a (served_by d n w.file ++ services d v es) (resent v es)
-    since_turn Nobody w es is (sound, holds) later = later w (sound, holds)
-    since_turn (Next-as-Slot e l i) w es is (sound, holds) later =
+    since_turn None w es is (sound, holds) later = later w (sound, holds)
+    since_turn (Some (e, l, i)) w es is (sound, holds) later =
         let c = w.scheduler in
         since_or (eqb e d) a _ _ _
         (λ h.
         let z : e ≡ d = eqb-true e d h in
-        let waits : (slot_at c d).waiting ≡ Keyed l i = rw (← z) (next_waits c.slots 8 c.last is) in
+        let waits : (slot_at c d).waiting ≡ Some (l, i) = rw (← z) (next_waits c.slots 8 c.last is) in
         other_key _ _ waits holds (sound.1 d))
-        (λ h. later _ (sound_turn (Next-as-Slot e l i) c w.file is sound, rw (served_elsewhere c w.file e l i d h) holds))
+        (λ h. later _ (sound_turn (Some (e, l, i)) c w.file is sound, rw (served_elsewhere c w.file e l i d h) holds))
 
     since : (es : List Event) (w : World) → Holds w.scheduler → Since k a (services d w es) (resent w es)
     unfolding run services
@@ -129,29 +123,30 @@ module _ (d k : ℕ) (j : Job) (there : d < 8) where
     since (Submit e l i ∷ es) w (sound, holds) =
         since es (after w (Submit e l i)) (
           sound_after w (Submit e l i) sound,
-          submit_keeps w.scheduler e l i (λ (x : Slot). x.held ≡ Answered k j a) (λ x p. held_stays (slot_answer x l i) x l i ∙ p) sound.0 d holds,
+          submit_keeps w.scheduler e l i (λ (x : Slot). x.held ≡ Some (k, j, a)) (λ x p. held_stays (slot_answer x l i) x l i ∙ p) sound.0 d holds,
         )
     since (Turn ∷ es) w h = since_turn (next_job w.scheduler) w es refl h (λ v g. since es v g)
     since (Write s ∷ es) w h = since es (after w (Write s)) h
 
   abbrev Awaits : Scheduler → Type 0
-  Awaits c = Sound c × ((slot_at c d).waiting ≡ Keyed k j)
+  Awaits c = Sound c × ((slot_at c d).waiting ≡ Some (k, j))
 
-  once_turn : (n : Next) (w : World) (es : List Event) → next_job w.scheduler ≡ n → Awaits w.scheduler
+  once_turn : (n : Option (ℕ × ℕ × Job)) (w : World) (es : List Event) → next_job w.scheduler ≡ n → Awaits w.scheduler
       → ((v : World) → Awaits v.scheduler → Once k j (services d v es) (resent v es))
       → let v : World = record { scheduler = after_turn_of n w.scheduler w.file; file = file_after_job n w.file } in Once k j (served_by d n w.file ++ services d v es) (resent v es)
-  once_turn Nobody w es is h later = later w h
-  once_turn (Next-as-Slot e l i) w es is (sound, waits) later =
+  once_turn None w es is h later = later w h
+  once_turn (Some (e, l, i)) w es is (sound, waits) later =
       let c = w.scheduler in
-      let sound' = sound_turn (Next-as-Slot e l i) c w.file is sound in
+      let sound' = sound_turn (Some (e, l, i)) c w.file is sound in
       once_or (eqb e d) _ _ _
       (λ h.
       let z : e ≡ d = eqb-true e d h in
-      let here : (slot_at c d).waiting ≡ Keyed l i = rw (← z) (next_waits c.slots 8 c.last is) in
-      let same : Keyed l i ≡ Keyed k j = sym here ∙ waits in
-      let f : l ≡ k = cc in
-      let g : i ≡ j = cc in
-      let held : (slot_at (after_turn_of (Next-as-Slot e l i) c w.file) d).held ≡ Answered k j (job_answer i w.file) = rw (← z, served_here c w.file e l i (omega (arith, sound.0)), f, g) refl in
+      let here : (slot_at c d).waiting ≡ Some (l, i) = rw (← z) (next_waits c.slots 8 c.last is) in
+      let same : Some (l, i) ≡ Some (k, j) = sym here ∙ waits in
+      let pair : ◌≡◌ {A = ℕ × Job} (l, i) (k, j) = cc in
+      let f : l ≡ k = ap (λ (x : ℕ × Job). x.0) pair in
+      let g : i ≡ j = ap (λ (x : ℕ × Job). x.1) pair in
+      let held : (slot_at (after_turn_of (Some (e, l, i)) c w.file) d).held ≡ Some (k, j, job_answer i w.file) = rw (← z, served_here c w.file e l i (omega (arith, sound.0)), f, g) refl in
       (f, g, since (job_answer i w.file) es _ (sound', held)))
       (λ h. later _ (sound', rw (served_elsewhere c w.file e l i d h) waits))
 
@@ -161,14 +156,14 @@ module _ (d k : ℕ) (j : Job) (there : d < 8) where
   once (Submit e l i ∷ es) w (sound, waits) =
       once es (after w (Submit e l i)) (
         sound_after w (Submit e l i) sound,
-        submit_keeps w.scheduler e l i (λ (x : Slot). x.waiting ≡ Keyed k j) (λ x p. ap (λ (y : Slot). y.waiting) (waiting_stays x k l j i p) ∙ p) sound.0 d waits,
+        submit_keeps w.scheduler e l i (λ (x : Slot). x.waiting ≡ Some (k, j)) (λ x p. ap (λ (y : Slot). y.waiting) (waiting_stays x k l j i p) ∙ p) sound.0 d waits,
       )
   once (Turn ∷ es) w h = once_turn (next_job w.scheduler) w es refl h (λ v g. once es v g)
   once (Write s ∷ es) w h = once es (after w (Write s)) h
 
 -- job j waits at slot d under key k, in a world that came from a new scheduler by events: over any further events it is the first that is served there, and
 -- sent again it is told that it waits before that, and gets its answer after it, until a job under another key is served there
-pub done_once : (s : List ℕ) (before es : List Event) (d k : ℕ) (j : Job) → (slot_at (reached s before).scheduler d).waiting ≡ Keyed k j
+pub done_once : (s : List ℕ) (before es : List Event) (d k : ℕ) (j : Job) → (slot_at (reached s before).scheduler d).waiting ≡ Some (k, j)
     → Once k j (services d (reached s before) es) (submit_answer (run (reached s before) es).scheduler d k j)
 done_once s before es d k j waits =
     let sound = sound_reached s before in
@@ -180,7 +175,7 @@ module _ (d k : ℕ) (j : Job) where
   -- it waits p places further than the next slot
   pub record Near (c : Scheduler) (p : ℕ) : Type 0 where
     pub sound : Sound c
-    pub waits : (slot_at c d).waiting ≡ Keyed k j
+    pub waits : (slot_at c d).waiting ≡ Some (k, j)
     pub place : (c.last + 1 + p) % 8 ≡ d
     pub few : p < 8
 
@@ -190,7 +185,7 @@ module _ (d k : ℕ) (j : Job) where
 
   soon_turn : (w : World) (es : List Event) (p : ℕ) → Near w.scheduler p → p < suc (turns es)
       → ((v : World) (q : ℕ) → Near v.scheduler q → q < turns es → 1 ≤ length (services d v es))
-      → (n : Next) → next_job w.scheduler ≡ n
+      → (n : Option (ℕ × ℕ × Job)) → next_job w.scheduler ≡ n
       → let v : World = record { scheduler = after_turn_of n w.scheduler w.file; file = file_after_job n w.file } in 1 ≤ length (served_by d n w.file ++ services d v es)
   soon_turn w es p near enough later n is =
       let c = w.scheduler in
@@ -201,7 +196,7 @@ module _ (d k : ℕ) (j : Job) where
       let other : e ≡ d → ⊥ = eqb-false e d h in
       let short = nearer c.last p f.q d near.place f.near other in
       later _ (p - f.q - 1) (record {
-        sound = sound_turn (Next-as-Slot e f.key f.job) c w.file f.is near.sound;
+        sound = sound_turn (Some (e, f.key, f.job)) c w.file f.is near.sound;
         waits = rw (served_elsewhere c w.file e f.key f.job d h) near.waits;
         place = places_after c.last p f.q d near.place f.near other;
         few = omega (arith, near.few);
@@ -213,7 +208,7 @@ module _ (d k : ℕ) (j : Job) where
   soon (Submit e l i ∷ es) w p near enough =
       soon es (after w (Submit e l i)) p (record {
         sound = sound_after w (Submit e l i) near.sound;
-        waits = submit_keeps w.scheduler e l i (λ (x : Slot). x.waiting ≡ Keyed k j) (λ x q. ap (λ (y : Slot). y.waiting) (waiting_stays x k l j i q) ∙ q) near.sound.0 d near.waits;
+        waits = submit_keeps w.scheduler e l i (λ (x : Slot). x.waiting ≡ Some (k, j)) (λ x q. ap (λ (y : Slot). y.waiting) (waiting_stays x k l j i q) ∙ q) near.sound.0 d near.waits;
         place = rw (submit_last w.scheduler e l i) near.place;
         few = near.few;
       }) enough
@@ -221,7 +216,7 @@ module _ (d k : ℕ) (j : Job) where
   soon (Write s ∷ es) w p near enough = soon es (after w (Write s)) p near enough
 
 -- a job waits at slot d: any further events with eight turns among them serve it
-pub within_eight : (s : List ℕ) (before es : List Event) (d k : ℕ) (j : Job) → (slot_at (reached s before).scheduler d).waiting ≡ Keyed k j → 8 ≤ turns es
+pub within_eight : (s : List ℕ) (before es : List Event) (d k : ℕ) (j : Job) → (slot_at (reached s before).scheduler d).waiting ≡ Some (k, j) → 8 ≤ turns es
     → 1 ≤ length (services d (reached s before) es)
 within_eight s before es d k j waits enough =
     let c = (reached s before).scheduler in

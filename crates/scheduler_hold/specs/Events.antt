@@ -1,18 +1,10 @@
 -- What the theorems on the scheduler speak of: submissions and turns in any sequence, on a file that others may write too (FORMAT 9.4).
-use Rattle.std.specs.Prelude.{ℕ, suc, Bool, false, not, true, List, [], ◌∷◌, ◌++◌, ◌≡◌, eqb, take}
+use Rattle.std.specs.Prelude.{ℕ, suc, Bool, false, not, true, List, [], ◌∷◌, ◌++◌, ◌≡◌, Option, None, Some, Ok, eqb, take}
 use Rattle.answers.specs.declared.Answer.{Answer}
 use Rattle.lists.specs.Lists.{pick}
-use Rattle.scheduler.specs.Scheduler.{after_submit, new_scheduler, next_job, slot_at, submit_answer}
-use Rattle.scheduler.specs.declared.Held.{Held}
-use Rattle.scheduler.specs.declared.Held.TheVariants.{Answered, Nothing as Held-as-Nothing}
+use Rattle.scheduler.specs.Scheduler.{after_submit, new_scheduler, next_job, slot_at, SubmitAnswer}
 use Rattle.scheduler.specs.declared.Job.{Job}
-use Rattle.scheduler.specs.declared.Next.{Next}
-use Rattle.scheduler.specs.declared.Next.TheVariants.{Nobody, Slot as Next-as-Slot}
 use Rattle.scheduler.specs.declared.Scheduler.{Scheduler}
-use Rattle.scheduler.specs.declared.SubmitAnswer.{SubmitAnswer}
-use Rattle.scheduler.specs.declared.SubmitAnswer.TheVariants.{Held as Submit-as-Held, Waits}
-use Rattle.scheduler.specs.declared.Waiting.{Waiting}
-use Rattle.scheduler.specs.declared.Waiting.TheVariants.{Keyed, Nothing}
 use Rattle.scheduler_turn.specs.Turn.{after_turn, job_answer, job_out, room}
 
 -- ---- events
@@ -28,9 +20,9 @@ pub record World : Type 0 where
   pub file : List ℕ
 
 -- file s after the next job: the edited one, where the job is done
-abbrev pub file_after_job : Next → List ℕ → List ℕ
-file_after_job Nobody s = s
-file_after_job (Next-as-Slot d k j) s = pick (eqb (job_answer j s).outcome 0) (take (job_answer j s).third (job_out j s room)) s
+abbrev pub file_after_job : Option (ℕ × ℕ × Job) → List ℕ → List ℕ
+file_after_job None s = s
+file_after_job (Some (d, k, j)) s = pick (eqb (job_answer j s).outcome 0) (take (job_answer j s).third (job_out j s room)) s
 
 abbrev pub after : World → Event → World
 after w (Submit d k j) = record { scheduler = after_submit w.scheduler d k j; file = w.file }
@@ -59,9 +51,9 @@ pub record Service : Type 0 where
   pub job : Job
   pub answer : Answer
 
-abbrev pub served_by : ℕ → Next → List ℕ → List Service
-served_by d Nobody s = []
-served_by d (Next-as-Slot e k j) s = pick (eqb e d) (record { key = k; job = j; answer = job_answer j s } ∷ []) []
+abbrev pub served_by : ℕ → Option (ℕ × ℕ × Job) → List ℕ → List Service
+served_by d None s = []
+served_by d (Some (e, k, j)) s = pick (eqb e d) (record { key = k; job = j; answer = job_answer j s } ∷ []) []
 
 abbrev pub served_at : ℕ → World → Event → List Service
 served_at d w (Submit e k j) = []
@@ -76,20 +68,20 @@ services d w (e ∷ es) = served_at d w e ++ services d (after w e) es
 
 -- it was served with answer a: that is what it gets, until a job under another key is served
 abbrev pub Since : ℕ → Answer → List Service → SubmitAnswer → Type 0
-Since k a [] r = r ≡ Submit-as-Held a
+Since k a [] r = r ≡ Ok (Some a)
 Since k a (y ∷ ys) r = eqb y.key k ≡ false
 
 -- it waits until it is served, as the first
 abbrev pub Once : ℕ → Job → List Service → SubmitAnswer → Type 0
-Once k j [] r = r ≡ Waits
+Once k j [] r = r ≡ Ok None
 Once k j (x ∷ ys) r = (x.key ≡ k) × (x.job ≡ j) × Since k x.answer ys r
 
 -- ---- the held key and the waiting key of a slot
 
-abbrev pub keys_differ : Waiting → Held → Bool
-keys_differ Nothing h = true
-keys_differ (Keyed k j) Held-as-Nothing = true
-keys_differ (Keyed k j) (Answered l i a) = not (eqb l k)
+abbrev pub keys_differ : Option (ℕ × Job) → Option (ℕ × Job × Answer) → Bool
+keys_differ None h = true
+keys_differ (Some (k, j)) None = true
+keys_differ (Some (k, j)) (Some (l, i, a)) = not (eqb l k)
 
 abbrev pub KeysApart : Scheduler → Type 0
 KeysApart c = (d : ℕ) → keys_differ (slot_at c d).waiting (slot_at c d).held ≡ true

@@ -1,33 +1,21 @@
 -- A slot is read from the numbers that were written for it, and so are all of them.
 use Prim.Native.Nat.{◌*◌, ◌+◌, ◌-◌, ◌<◌, ◌≤◌, suc, ℕ}
-use mathlib.Core.List.{List, [], ◌++◌, ◌∷◌, append_assoc}
-use mathlib.Core.Path.{◌∙◌, ◌≡◌, ap, sym}
-use native.Mathlib.Numerals.{add-one}
+use mathlib.Core.List.{List, [], ◌++◌, ◌∷◌}
+use mathlib.Core.Path.{◌∙◌, ◌≡◌, sym}
 use native.Mathlib.Omega.{arith}
-use lib.ListN.{drop, drop_of_length-le, get_or, length, length-drop, length-set, set, take}
-use lib.Seq.{drop_at, drop-cons, drop-drop, drop-set-lt, get_or-drop, get_or-set_same, get_or-take, length-take-le, sets, sets-eq, take-suc, take-suc-set}
+use lib.ListN.{drop, drop_of_length-le, get_or, length, length-set, set, take}
+use lib.Seq.{drop-cons, drop-drop, drop-set-lt, get_or-set_same, get_or-take}
 use Rattle.answers.specs.declared.Answer.{Answer}
 use Rattle.lists.proofs.Laws.{tabulate_get_d}
 use Rattle.lists.specs.Lists.{tabulate}
+use Rattle.std.specs.Prelude.{Option}
 use Rattle.scheduler.specs.Scheduler.{empty_slot}
-use Rattle.scheduler.specs.declared.Held.{Held}
 use Rattle.scheduler.specs.declared.Job.{Job}
-use Rattle.scheduler.specs.declared.Job.TheVariants.{Cut}
-use Rattle.scheduler.specs.declared.Place.{Place}
 use Rattle.scheduler.specs.declared.Scheduler.{Scheduler}
 use Rattle.scheduler.specs.declared.Slot.{Slot}
-use Rattle.scheduler.specs.declared.Waiting.{Waiting}
-use Rattle.scheduler.specs.declared.Waiting.TheVariants.{Keyed}
 use Rattle.scheduler_state.specs.State.{SixPut, SlotPut, answer_in, held_of, scheduler_in, slot_in, slots_in, waiting_in}
 
 -- ---- reading
-
--- one turn of a loop that copies numbers from a place on
-pub copied : (ns xs : List ℕ) (at k : ℕ) → at + k < length ns → k < length xs → take k xs ≡ take k (drop at ns)
-    → take (k + 1) (set xs k (get_or ns (at + k) 0)) ≡ take (k + 1) (drop at ns)
-copied ns xs at k h m e =
-    let more : k < length (drop at ns) = omega (arith, length-drop at ns) in
-    rw (add-one, take-suc-set xs k (get_or ns (at + k) 0) m, take-suc (drop at ns) k 0 more, get_or-drop at ns k 0, e)
 
 first_six : (ns : List ℕ) (k : ℕ) → k < 6 → get_or (take 6 ns) k 0 ≡ get_or ns k 0
 first_six ns k h = get_or-take 6 ns k 0 h
@@ -40,7 +28,7 @@ answer_six ns = rw (first_six ns 0 (omega arith), first_six ns 1 (omega arith), 
 
 module _ (ns : List ℕ) (at : ℕ) where
   pub slot_read : {x y z : List ℕ} → x ≡ take 6 (drop at ns) → y ≡ take 6 (drop (at + 6) ns) → z ≡ take 6 (drop (at + 12) ns)
-      → {w j : Waiting} {a : Answer} {h : Held} → w ≡ waiting_in x → j ≡ waiting_in y → a ≡ answer_in z → h ≡ held_of j a
+      → {w j : Option (ℕ × Job)} {a : Answer} {h : Option (ℕ × Job × Answer)} → w ≡ waiting_in x → j ≡ waiting_in y → a ≡ answer_in z → h ≡ held_of j a
       → ◌≡◌ {A = Slot} (record { waiting = w; held = h }) (slot_in (drop at ns))
   unfolding slot_in
   slot_read p q r e f g h =
@@ -51,18 +39,6 @@ module _ (ns : List ℕ) (at : ℕ) where
   slots_at n = rw (drop-drop 18 at ns)
 
 -- ---- writing
-
-pub keyed : {w : Waiting} {k m : ℕ} {job made : Job} → w ≡ Keyed k job → m ≡ k → made ≡ job → Keyed m made ≡ w
-keyed p q r = rw (p, q, r)
-
-pub cut : {job : Job} {n e v : ℕ} {at place : Place} → job ≡ Cut n e v at → at ≡ place → Cut n e v place ≡ job
-cut p q = rw (p, q)
-
--- what stands from a place on after a list was stored there
-pub stored : (l xs : List ℕ) (at n : ℕ) → length xs ≡ n → at + n ≤ length l → drop at (sets l at xs) ≡ xs ++ drop (at + n) l
-stored l xs at n e h =
-    let rest = drop (at + length xs) l in
-    rw (← e) (ap (drop at) (sets-eq xs l at (omega arith) ∙ append_assoc (take at l) xs rest) ∙ drop_at (take at l) (xs ++ rest) at (length-take-le at l (omega arith)))
 
 -- a list of six, from its elements
 six : (xs : List ℕ) → length xs ≡ 6 → xs ≡ get_or xs 0 0 ∷ get_or xs 1 0 ∷ get_or xs 2 0 ∷ get_or xs 3 0 ∷ get_or xs 4 0 ∷ get_or xs 5 0 ∷ []
@@ -78,7 +54,7 @@ module _ (w j a rest : List ℕ) (long-w : length w ≡ 6) (long-j : length j �
   past_slot = rw (six w long-w, six j long-j, six a long-a)
 
 -- the three parts of a slot, the last first
-pub slot_put : (slot : Slot) (at : ℕ) {n₀ n₁ n₂ n₃ w j a : List ℕ} {job : Waiting} {answer : Answer}
+pub slot_put : (slot : Slot) (at : ℕ) {n₀ n₁ n₂ n₃ w j a : List ℕ} {job : Option (ℕ × Job)} {answer : Answer}
     → SixPut a (at + 12) n₀ n₁ → SixPut j (at + 6) n₁ n₂ → SixPut w at n₂ n₃
     → waiting_in w ≡ slot.waiting → waiting_in j ≡ job → answer_in a ≡ answer → held_of job answer ≡ slot.held → SlotPut slot at n₀ n₃
 slot_put slot at {n₀} {n₁} {n₂} {n₃} {w} {j} {a} x y z p q r s =

@@ -1,32 +1,28 @@
 -- A scheduler in a lent list of numbers; its layout is nobody's concern. Cited by inner contracts.
-use Rattle.std.specs.Prelude.{◌%◌, ◌+◌, suc, zero, ℕ, List, [], ◌++◌, ◌∷◌, ◌≡◌, eqb, drop, get_or, length}
+use Rattle.std.specs.Prelude.{◌%◌, ◌+◌, suc, zero, ℕ, List, [], ◌++◌, ◌∷◌, ◌≡◌, Option, None, Some, eqb, drop, get_or, length}
 use Rattle.answers.specs.declared.Answer.{Answer}
 use Rattle.lists.specs.Lists.{pick}
-use Rattle.scheduler.specs.declared.Held.{Held}
-use Rattle.scheduler.specs.declared.Held.TheVariants.{Answered, Nothing as Held-as-Nothing}
+use Rattle.scheduler.specs.declared.Job.{Job}
 use Rattle.scheduler.specs.declared.Job.TheVariants.{Cut, Remove}
-use Rattle.scheduler.specs.declared.Place.TheVariants.{At, Nowhere}
 use Rattle.scheduler.specs.declared.Scheduler.{Scheduler}
 use Rattle.scheduler.specs.declared.Slot.{Slot}
-use Rattle.scheduler.specs.declared.Waiting.{Waiting}
-use Rattle.scheduler.specs.declared.Waiting.TheVariants.{Keyed, Nothing}
 
 -- a job with its key: kind 1 is a cut at these bits, 2 a cut nowhere, 3 a removal, any other none
-abbrev pub waiting_of : (kind key shell edge point bits : ℕ) → Waiting
+abbrev pub waiting_of : (kind key shell edge point bits : ℕ) → Option (ℕ × Job)
 waiting_of kind key shell edge point bits =
-    pick (eqb kind 1) (Keyed (key % 4294967296) (Cut shell edge point (At bits)))
-    (pick (eqb kind 2) (Keyed (key % 4294967296) (Cut shell edge point Nowhere))
-    (pick (eqb kind 3) (Keyed (key % 4294967296) (Remove shell point)) Nothing))
+    pick (eqb kind 1) (Some (key % 4294967296, Cut shell edge point (Some bits)))
+    (pick (eqb kind 2) (Some (key % 4294967296, Cut shell edge point None))
+    (pick (eqb kind 3) (Some (key % 4294967296, Remove shell point)) None))
 
-abbrev pub waiting_in : List ℕ → Waiting
+abbrev pub waiting_in : List ℕ → Option (ℕ × Job)
 waiting_in ns = waiting_of (get_or ns 0 0) (get_or ns 1 0) (get_or ns 2 0) (get_or ns 3 0) (get_or ns 4 0) (get_or ns 5 0)
 
 abbrev pub answer_in : List ℕ → Answer
 answer_in ns = record { outcome = get_or ns 0 0; number = get_or ns 1 0; first = get_or ns 2 0; second = get_or ns 3 0; third = get_or ns 4 0; fourth = get_or ns 5 0 }
 
-abbrev pub held_of : Waiting → Answer → Held
-held_of Nothing a = Held-as-Nothing
-held_of (Keyed k j) a = Answered k j a
+abbrev pub held_of : Option (ℕ × Job) → Answer → Option (ℕ × Job × Answer)
+held_of None a = None
+held_of (Some (k, j)) a = Some (k, j, a)
 
 -- the job that waits, the job that is held, its answer
 unfoldable pub slot_in : List ℕ → Slot

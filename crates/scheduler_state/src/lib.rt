@@ -5,7 +5,7 @@ ghost use Rattle.std.specs.Prelude.{◌≡◌, ◌%◌, ◌+◌, ◌≤◌, drop
 ghost use Rattle.scheduler_state.specs.State.{SixPut, SlotPut, answer_in, held_of, scheduler_in, slot_in, slots_in, waiting_in};
 
 use answers::Answer;
-use scheduler::{Held, Job, Place, SLOTS, Scheduler, Slot, Waiting};
+use scheduler::{Job, SLOTS, Scheduler, Slot};
 
 // The numbers of a scheduler.
 pub const NUMBERS: usize = 145;
@@ -19,16 +19,12 @@ fn six_in(numbers: Numbers, at: usize) -> [u64; 6]
     requires { at + 6 ≤ 145 }
     ensures { result ≡ take 6 (drop at numbers) }
 {
-    let mut six: [u64; 6] = [0; 6];
-    let mut k: usize = 0;
-    while k < 6 {
-        six[k] = numbers[at + k];
-        k += 1;
-    }
+    let mut six = [0; 6];
+    six.copy_from_slice(&numbers[at..at + 6]);
     six
 }
 
-fn waiting_in(six: [u64; 6]) -> Waiting
+fn waiting_in(six: [u64; 6]) -> Option<(u32, Job)>
     ensures { result ≡ waiting_in six }
 {
     let key = (six[1] % 4294967296) as u32;
@@ -36,10 +32,10 @@ fn waiting_in(six: [u64; 6]) -> Waiting
     let e = six[3] as usize;
     let v = six[4] as usize;
     match six[0] {
-        1 => Waiting::Keyed(key, Job::Cut(n, e, v, Place::At(six[5]))),
-        2 => Waiting::Keyed(key, Job::Cut(n, e, v, Place::Nowhere)),
-        3 => Waiting::Keyed(key, Job::Remove(n, v)),
-        _ => Waiting::Nothing,
+        1 => Some((key, Job::Cut(n, e, v, Some(six[5])))),
+        2 => Some((key, Job::Cut(n, e, v, None))),
+        3 => Some((key, Job::Remove(n, v))),
+        _ => None,
     }
 }
 
@@ -56,13 +52,11 @@ fn answer_in(six: [u64; 6]) -> Answer
     }
 }
 
-fn held_of(w: Waiting, a: Answer) -> Held
+fn held_of(w: Option<(u32, Job)>, a: Answer) -> Option<(u32, Job, Answer)>
     ensures { result ≡ held_of w a }
 {
-    match w {
-        Waiting::Nothing => Held::Nothing,
-        Waiting::Keyed(k, j) => Held::Answered(k, j, a),
-    }
+    let (k, j) = w?;
+    Some((k, j, a))
 }
 
 fn slot_in(numbers: Numbers, at: usize) -> Slot
@@ -84,13 +78,11 @@ pub fn scheduler_in(numbers: &Numbers) -> Scheduler
 {
     let all = *numbers;
     let mut slots = [slot_in(all, 1); SLOTS];
-    let mut k: usize = SLOTS;
-    while k > 0 {
-        k -= 1;
+    for k in (0..SLOTS).rev() {
         slots[k] = slot_in(all, 1 + 18 * k);
     }
     Scheduler {
-        slots: slots,
+        slots,
         last: all[0] as usize,
     }
 }
@@ -103,21 +95,16 @@ fn wide(x: u32) -> u64
     x as u64
 }
 
-fn waiting_numbers(w: Waiting) -> [u64; 6]
+fn waiting_numbers(w: Option<(u32, Job)>) -> [u64; 6]
     ensures { waiting_in result ≡ w }
 {
     match w {
-        Waiting::Nothing => [0; 6],
-        Waiting::Keyed(k, job) => {
-            let key = wide(k);
-            match job {
-                Job::Cut(n, e, v, at) => match at {
-                    Place::At(bits) => [1, key, n as u64, e as u64, v as u64, bits],
-                    Place::Nowhere => [2, key, n as u64, e as u64, v as u64, 0],
-                },
-                Job::Remove(n, v) => [3, key, n as u64, 0, v as u64, 0],
-            }
+        None => [0; 6],
+        Some((k, Job::Cut(n, e, v, Some(bits)))) => {
+            [1, wide(k), n as u64, e as u64, v as u64, bits]
         }
+        Some((k, Job::Cut(n, e, v, None))) => [2, wide(k), n as u64, e as u64, v as u64, 0],
+        Some((k, Job::Remove(n, v))) => [3, wide(k), n as u64, 0, v as u64, 0],
     }
 }
 
@@ -135,19 +122,13 @@ fn answer_numbers(a: Answer) -> [u64; 6]
 }
 
 // What is held at a slot, as the job with its key and the answer.
-#[derive(Clone, Copy)]
-struct Parts {
-    job: Waiting,
-    answer: Answer,
-}
-
-fn parts_of(h: Held) -> Parts
-    ensures { held_of result.job result.answer ≡ h }
+fn parts_of(h: Option<(u32, Job, Answer)>) -> (Option<(u32, Job)>, Answer)
+    ensures { held_of result.0 result.1 ≡ h }
 {
     match h {
-        Held::Nothing => Parts {
-            job: Waiting::Nothing,
-            answer: Answer {
+        None => (
+            None,
+            Answer {
                 outcome: 0,
                 number: 0,
                 first: 0,
@@ -155,11 +136,8 @@ fn parts_of(h: Held) -> Parts
                 third: 0,
                 fourth: 0,
             },
-        },
-        Held::Answered(k, j, a) => Parts {
-            job: Waiting::Keyed(k, j),
-            answer: a,
-        },
+        ),
+        Some((k, j, a)) => (Some((k, j)), a),
     }
 }
 
@@ -167,11 +145,7 @@ fn put_six(six: [u64; 6], mut numbers: Numbers, at: usize) -> Numbers
     requires { at + 6 ≤ 145 }
     ensures { SixPut six at numbers result }
 {
-    let mut k: usize = 0;
-    while k < 6 {
-        numbers[at + k] = six[k];
-        k += 1;
-    }
+    numbers[at..at + 6].copy_from_slice(&six);
     numbers
 }
 
@@ -179,22 +153,16 @@ fn put_slot(slot: Slot, numbers: Numbers, at: usize) -> Numbers
     requires { at + 18 ≤ 145 }
     ensures { SlotPut slot at numbers result }
 {
-    let waiting = slot.waiting;
-    let held = slot.held;
-    let parts = parts_of(held);
-    let job = parts.job;
-    let answer = parts.answer;
+    let (job, answer) = parts_of(slot.held);
     let third = put_six(answer_numbers(answer), numbers, at + 12);
     let second = put_six(waiting_numbers(job), third, at + 6);
-    put_six(waiting_numbers(waiting), second, at)
+    put_six(waiting_numbers(slot.waiting), second, at)
 }
 
 fn put_slots(slots: [Slot; SLOTS], mut numbers: Numbers) -> Numbers
     ensures { slots_in 8 (drop 1 result) ≡ slots }
 {
-    let mut k: usize = SLOTS;
-    while k > 0 {
-        k -= 1;
+    for k in (0..SLOTS).rev() {
         let next = put_slot(slots[k], numbers, 1 + 18 * k);
         numbers = next;
     }

@@ -1,31 +1,28 @@
--- A job's answer asks for the length of the lent slice alone; what each arm of a turn answers.
+-- A job's answer asks for the length of the lent slice alone.
 use Prim.Native.Nat.{ℕ}
 use mathlib.Core.List.{List, [], ◌∷◌}
 use mathlib.Core.Path.{◌∙◌, ◌≡◌, ap, refl, sym}
-use lib.ListN.{length, length-replicate, set}
+use lib.ListN.{length, length-replicate}
+use Rattle.std.specs.Prelude.{Option, Result}
 use Rattle.answers.specs.Read.{when_read}
 use Rattle.answers.specs.Values.{cut_values, join_values}
 use Rattle.answers.specs.declared.Answer.{Answer}
 use Rattle.curve.specs.Curves.{parameter_of}
+use Rattle.errors.specs.declared.CallError.{CallError}
 use Rattle.errors.specs.declared.Refusal.{Refusal}
 use Rattle.file_cut.specs.FileCut.{file_cut, file_cut_bytes}
 use Rattle.file_remove.specs.FileRemove.{file_remove, file_remove_bytes}
 use Rattle.pattern.specs.Checks.{pattern_faults}
 use Rattle.pattern.specs.Contents.{Pattern, content}
 use Rattle.pattern_file.specs.File.{file_bytes}
-use Rattle.scheduler.specs.Scheduler.{next_job}
 use Rattle.scheduler.specs.declared.Job.{Job}
 use Rattle.scheduler.specs.declared.Job.TheVariants.{Cut, Remove}
-use Rattle.scheduler.specs.declared.Next.TheVariants.{Nobody, Slot as Next-as-Slot}
-use Rattle.scheduler.specs.declared.Place.{Place}
-use Rattle.scheduler.specs.declared.Scheduler.{Scheduler}
 use Rattle.shell_edits.specs.Answers.{after_cut, after_remove, cut_answer, remove_answer}
 use Rattle.store_read.specs.Loading.{check_of, pattern_of}
 use Rattle.store_write.specs.Writing.{write_answer, written}
-use Rattle.store_write.specs.declared.Written.{Written}
+use Rattle.store_write.specs.declared.NoSpace.{NoSpace}
 use Rattle.words.specs.Words.{short}
-use Rattle.scheduler_turn.specs.Turn.{after_turn, bits_of, job_answer, job_out, room, served_slot, turn_answer, turn_out}
-use Rattle.scheduler_turn.specs.declared.TurnAnswer.TheVariants.{Nobody as Turn-as-Nobody, Served}
+use Rattle.scheduler_turn.specs.Turn.{bits_of, job_answer, job_out, room}
 
 by_length : (fs : List Refusal) (file out out' : List ℕ) → length out ≡ length out' → write_answer fs file out ≡ write_answer fs file out'
 by_length [] file out out' h = rw h
@@ -41,15 +38,15 @@ module _ (s out : List ℕ) (room_there : length out ≡ 41048) where
   cut_room n e v bits =
       let p = pattern_of s in
       let at = parameter_of bits in
-      ap (λ (w : Written). when_read (check_of s) (cut_values (cut_answer p n e v at) w)) (written_as out room_there (after_cut p n e v at))
+      ap (λ (w : Result ℕ (CallError NoSpace)). when_read (check_of s) (cut_values (cut_answer p n e v at) w)) (written_as out room_there (after_cut p n e v at))
 
   removal_room : (n v : ℕ) → file_remove s n v out ≡ file_remove s n v room
   removal_room n v =
       let p = pattern_of s in
-      ap (λ (w : Written). when_read (check_of s) (join_values (remove_answer p n v) w)) (written_as out room_there (after_remove p n v))
+      ap (λ (w : Result ℕ (CallError NoSpace)). when_read (check_of s) (join_values (remove_answer p n v) w)) (written_as out room_there (after_remove p n v))
 
   module _ (j : Job) {r : Answer} {out' : List ℕ} where
-    pub job_cut : {n e v e' v' bits : ℕ} {at : Place} → j ≡ Cut n e v at → e' ≡ short e → v' ≡ short v → bits ≡ bits_of at
+    pub job_cut : {n e v e' v' bits : ℕ} {at : Option ℕ} → j ≡ Cut n e v at → e' ≡ short e → v' ≡ short v → bits ≡ bits_of at
         → (r ≡ file_cut s n e' v' bits out) × (out' ≡ file_cut_bytes s n e' v' bits out) → (r ≡ job_answer j s) × (out' ≡ job_out j s out)
     job_cut {n} {e} {v} {e'} {v'} {bits} {at} is se sv sb (p, q) = (
       p ∙ ap (λ (x : ℕ). file_cut s n x v' bits out) se ∙ ap (λ (x : ℕ). file_cut s n (short e) x bits out) sv
@@ -63,15 +60,3 @@ module _ (s out : List ℕ) (room_there : length out ≡ 41048) where
       p ∙ ap (λ (x : ℕ). file_remove s n x out) sv ∙ removal_room n (short v) ∙ sym (ap (λ (i : Job). job_answer i s) is),
       q ∙ ap (λ (x : ℕ). file_remove_bytes s n x out) sv ∙ sym (ap (λ (i : Job). job_out i s out) is),
     )
-
--- ---- a turn
-
-module _ (c : Scheduler) (s out : List ℕ) where
-  pub nobody_waits : next_job c ≡ Nobody → (Turn-as-Nobody ≡ turn_answer c s) × (c ≡ after_turn c s) × (out ≡ turn_out c s out)
-  nobody_waits e = rw e (refl, refl, refl)
-
-  pub one_served : {d k : ℕ} {j : Job} {a : Answer} {out' : List ℕ} → next_job c ≡ Next-as-Slot d k j → a ≡ job_answer j s → out' ≡ job_out j s out
-      → (Served d j a ≡ turn_answer c s)
-      × (◌≡◌ {A = Scheduler} (record { slots = set c.slots d (served_slot k j a); last = d }) (after_turn c s))
-      × (out' ≡ turn_out c s out)
-  one_served e f g = rw (e, f, g) (refl, refl, refl)

@@ -8,30 +8,21 @@ use answers::Answer;
 use file_cut::file_cut;
 use file_remove::file_remove;
 use pattern::LONGEST;
-use scheduler::{Held, Job, Next, Place, Scheduler, Slot, Waiting};
+use scheduler::{Job, Scheduler, Slot};
 use words::saturated;
 
-// The answer to a turn: the slot that was served, its job, and the answer of its edit.
-#[derive(Clone, Copy)]
-pub enum TurnAnswer {
-    Nobody,
-    Served(usize, Job, Answer),
-}
-
+// After a turn, and its answer: the slot that was served, its job, and the answer of its edit; none where nobody waits.
 #[derive(Clone, Copy)]
 pub struct Turned {
     pub scheduler: Scheduler,
-    pub answer: TurnAnswer,
+    pub answer: Option<(usize, Job, Answer)>,
 }
 
 // The bits that a cut takes; those of a NaN are nowhere.
-fn bits_of(at: Place) -> u64
+fn bits_of(at: Option<u64>) -> u64
     ensures { result ≡ bits_of at }
 {
-    match at {
-        Place::At(bits) => bits,
-        Place::Nowhere => 0x7ff8000000000000,
-    }
+    at.unwrap_or(0x7ff8000000000000)
 }
 
 // Does a job on a file; `out`, which has room for the longest file, takes the edited one.
@@ -57,27 +48,21 @@ pub fn serve(c: Scheduler, file: &[u8], out: &mut [u8]) -> Turned
     requires { length out.old ≡ 41048 }
     ensures { (result.answer ≡ turn_answer c file.now) × (result.scheduler ≡ after_turn c file.now) × (out.new ≡ turn_out c file.now out.old) }
 {
-    let next = c.next();
-    match next {
-        Next::Nobody => Turned {
+    let Some((d, key, job)) = c.next() else {
+        return Turned {
             scheduler: c,
-            answer: TurnAnswer::Nobody,
-        },
-        Next::Slot(d, key, job) => {
-            let answer = do_job(job, file, out);
-            let mut slots = c.slots;
-            slots[d] = Slot {
-                waiting: Waiting::Nothing,
-                held: Held::Answered(key, job, answer),
-            };
-            Turned {
-                scheduler: Scheduler {
-                    slots: slots,
-                    last: d,
-                },
-                answer: TurnAnswer::Served(d, job, answer),
-            }
-        }
+            answer: None,
+        };
+    };
+    let answer = do_job(job, file, out);
+    let mut slots = c.slots;
+    slots[d] = Slot {
+        waiting: None,
+        held: Some((key, job, answer)),
+    };
+    Turned {
+        scheduler: Scheduler { slots, last: d },
+        answer: Some((d, job, answer)),
     }
 }
 

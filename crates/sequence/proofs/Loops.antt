@@ -37,18 +37,16 @@ fresh keys names out lens k = record {
 }
 
 module _ (keys next₀ head₀ : List ℕ) where
-  pub threading_start : Bare keys next₀ head₀ → Threading keys next₀ head₀ next₀ head₀ (length keys - 0)
+  pub threading_start : Bare keys next₀ head₀ → Threading keys next₀ head₀ next₀ head₀ (length keys)
   unfolding places
-  threading_start b =
-      let all : length keys - 0 ≡ length keys = omega arith in
-      rw all record {
-        bare = b;
-        low = omega arith;
-        next_long = refl;
-        head_long = refl;
-        heads = λ x h. rw (drop-length keys) (b.none x h);
-        nexts = λ k h l. absurd (omega arith);
-      }
+  threading_start b = record {
+    bare = b;
+    low = omega arith;
+    next_long = refl;
+    head_long = refl;
+    heads = λ x h. rw (drop-length keys) (b.none x h);
+    nexts = λ k h l. absurd (omega arith);
+  }
 
   module _ (next head : List ℕ) where
     -- member i before those from suc i on
@@ -75,19 +73,17 @@ module _ (keys next₀ head₀ : List ℕ) where
         }
 
     -- after i turns
-    module _ (i : ℕ) (s : Threading keys next₀ head₀ next head (length keys - i)) where
+    module _ (i : ℕ) (s : Threading keys next₀ head₀ next head i) where
       pub threading_key : (k j : ℕ) → k ≡ get_or keys j 0 → j < length keys → k < length head
       threading_key k j e h = omega (arith, e, s.bare.low j h, s.head_long)
 
-      pub threading_next : i < length keys → (j k : ℕ) → j ≡ length keys - 1 - i → k ≡ get_or keys j 0
-          → Threading keys next₀ head₀ (set next j (get_or head k 0)) (set head k j) (length keys - (i + 1))
-      threading_next h j k o e =
-          let from : length keys - i ≡ suc j = omega arith in
-          let to : length keys - (i + 1) ≡ j = omega arith in
-          rw (e, to) (thread_one j (omega arith) (rw from at s))
+      pub threading_next : 0 < i → (k : ℕ) → k ≡ get_or keys (i - 1) 0 → Threading keys next₀ head₀ (set next (i - 1) (get_or head k 0)) (set head k (i - 1)) (i - 1)
+      threading_next h k e =
+          let from : i ≡ suc (i - 1) = omega arith in
+          rw e (thread_one (i - 1) (omega (arith, s.low)) (rw from at s))
 
-      module _ (h : length keys ≤ i) where
-        all : length keys - i ≡ 0
+      module _ (h : i ≤ 0) where
+        all : i ≡ 0
         all = omega arith
 
         pub threading_heads : Heads keys head

@@ -17,14 +17,10 @@ fn thread(keys: &[u16], next: &mut [u16], head: &mut [u16])
     ensures heads { Heads keys.now head.new }
     ensures nexts { Nexts keys.now next.new }
 {
-    let n = keys.len();
-    let mut i: usize = 0;
-    while i < n {
-        let j = n - 1 - i;
+    for j in (0..keys.len()).rev() {
         let k = index(keys[j]);
         next[j] = head[k];
         head[k] = j as u16;
-        i += 1;
     }
 }
 
@@ -43,6 +39,7 @@ fn put_group(
 {
     let mut to = at;
     let mut j = i;
+    // No `for`: it follows the thread from member to member, to its end.
     while j < keys.len() {
         out[to] = names[j];
         to += 1;
@@ -67,15 +64,13 @@ fn put_groups(
 {
     let mut at: usize = 0;
     let mut count: usize = 0;
-    let mut i: usize = 0;
-    while i < keys.len() {
-        if index(head[index(keys[i])]) == i {
+    for (i, &key) in keys.iter().enumerate() {
+        if index(head[index(key)]) == i {
             let end = put_group(keys, names, next, i, out, at);
             lens[count] = (end - at) as u16;
             at = end;
             count += 1;
         }
-        i += 1;
     }
     count
 }

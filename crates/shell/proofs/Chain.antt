@@ -1,8 +1,9 @@
 -- A chain of lookups ends where it began, and what it found and left is what was kept.
+use Rattle.lists.proofs.Options.{none-ne-some}
+use Rattle.std.specs.Prelude.{Option, None, Some}
 use Prim.Native.Nat.{◌+◌, ◌<◌, suc, zero, ℕ}
 use mathlib.Core.Bool.{Bool, false, true}
 use mathlib.Core.List.{List, [], ◌∷◌}
-use mathlib.Core.Option.{Option, none-ne-some, none, some}
 use mathlib.Core.Path.{◌∙◌, ◌≡◌, ap, refl, sym}
 use native.Mathlib.Omega.{arith}
 use lib.Dec.{eqb}
@@ -27,10 +28,10 @@ module _ (fronts backs : List ℕ) where
 
   -- each kept use stands at its front; as many are kept at a point as begin there
   pub record Good (kept : Kept) : Type 0 where
-    pub placed : (p u : ℕ) → get_or kept p none ≡ some u → front_of fronts backs u ≡ p
-    pub fit : (p : ℕ) → count (from p) (held kept) ≡ there (get_or kept p none)
+    pub placed : (p u : ℕ) → get_or kept p None ≡ Some u → front_of fronts backs u ≡ p
+    pub fit : (p : ℕ) → count (from p) (held kept) ≡ there (get_or kept p None)
 
-  good_out : (kept : Kept) (p u : ℕ) → get_or kept p none ≡ some u → Good kept → Good (set kept p none)
+  good_out : (kept : Kept) (p u : ℕ) → get_or kept p None ≡ Some u → Good kept → Good (set kept p None)
   good_out kept p u e g = record {
     placed = λ r v h. go r v (eqb p r) (sym (get_out kept p r) ∙ h);
     fit = λ r.
@@ -38,7 +39,7 @@ module _ (fronts backs : List ℕ) where
         omega (arith, held_out (from r) kept p u e, there_out kept p r u e, same, g.fit r);
   }
     where
-      go : (r v : ℕ) (b : Bool) → pick b none (get_or kept r none) ≡ some v → front_of fronts backs v ≡ r
+      go : (r v : ℕ) (b : Bool) → pick b None (get_or kept r None) ≡ Some v → front_of fronts backs v ≡ r
       go r v true h = absurd (none-ne-some v h)
       go r v false h = g.placed r v h
 
@@ -54,7 +55,7 @@ module _ (fronts backs : List ℕ) where
     pub level : Level fronts backs (held r.kept)
 
   -- where none is kept it is back where it began
-  ends : (kept : Kept) (n a b : ℕ) → Good kept → get_or kept b none ≡ none → Coming a b kept → Chained a b kept n (record { opening = []; kept = kept; lookups = n + 1 })
+  ends : (kept : Kept) (n a b : ℕ) → Good kept → get_or kept b None ≡ None → Coming a b kept → Chained a b kept n (record { opening = []; kept = kept; lookups = n + 1 })
   unfolding runs count
   ends kept n a b g e h =
       let none_here : count (from b) (held kept) ≡ 0 = g.fit b ∙ ap there e in
@@ -73,13 +74,13 @@ module _ (fronts backs : List ℕ) where
       → Chained a b kept n (chain (front_of fronts backs) (back_of fronts backs) d b kept n)
   unfolding chain
   chain_ok zero a b kept n g l h = absurd (omega arith)
-  chain_ok (suc d) a b kept n g l h = go (get_or kept b none) refl (λ p g' l' h'. chain_ok d a p (set kept b none) (n + 1) g' l' h')
+  chain_ok (suc d) a b kept n g l h = go (get_or kept b None) refl (λ p g' l' h'. chain_ok d a p (set kept b None) (n + 1) g' l' h')
     where
       next : ℕ → Found
-      next p = chain (front_of fronts backs) (back_of fronts backs) d p (set kept b none) (n + 1)
+      next p = chain (front_of fronts backs) (back_of fronts backs) d p (set kept b None) (n + 1)
 
-      found : (u : ℕ) → get_or kept b none ≡ some u → front_of fronts backs u ≡ b → Chained a (back_of fronts backs u) (set kept b none) (n + 1) (next (back_of fronts backs u))
-          → Chained a b kept n (follow (front_of fronts backs) (back_of fronts backs) (look_up b kept n) (some u) next)
+      found : (u : ℕ) → get_or kept b None ≡ Some u → front_of fronts backs u ≡ b → Chained a (back_of fronts backs u) (set kept b None) (n + 1) (next (back_of fronts backs u))
+          → Chained a b kept n (follow (front_of fronts backs) (back_of fronts backs) (look_up b kept n) (Some u) next)
       found u e at r = record {
         goes = runs_on a b u (next (back_of fronts backs u)).opening at r.goes;
         same = λ q. omega (arith, count_cons q u (next (back_of fronts backs u)).opening, r.same q, held_out q kept b u e);
@@ -87,13 +88,13 @@ module _ (fronts backs : List ℕ) where
         level = r.level;
       }
 
-      go : (o : Option ℕ) → get_or kept b none ≡ o
-          → ((p : ℕ) → Good (set kept b none) → length (held (set kept b none)) < d → Coming a p (set kept b none) → Chained a p (set kept b none) (n + 1) (next p))
+      go : (o : Option ℕ) → get_or kept b None ≡ o
+          → ((p : ℕ) → Good (set kept b None) → length (held (set kept b None)) < d → Coming a p (set kept b None) → Chained a p (set kept b None) (n + 1) (next p))
           → Chained a b kept n (follow (front_of fronts backs) (back_of fronts backs) (look_up b kept n) o next)
-      go none e more =
-          let same : set kept b none ≡ kept = rw e at (set-get_or kept b none) in
+      go None e more =
+          let same : set kept b None ≡ kept = rw e at (set-get_or kept b None) in
           rw same (ends kept n a b g e h)
-      go (some u) e more =
+      go (Some u) e more =
           let at : front_of fronts backs u ≡ b = g.placed b u e in
           let r = more (back_of fronts backs u) (good_out kept b u e g) (omega (arith, l, held_long kept b u e)) (λ p.
           let z : bit (from p u) ≡ bit (eqb b p) = ap (λ (x : ℕ). bit (eqb x p)) at in

@@ -1,9 +1,9 @@
 -- Every walk goes on until none is kept, and looks up once for each use that it finds and once for each opening.
+use Rattle.std.specs.Prelude.{Option, None, Some}
 use Prim.Native.Nat.{◌+◌, ◌<◌, ◌≤◌, suc, zero, ℕ}
 use mathlib.Core.Bool.{Bool, false, true}
 use mathlib.Core.List.{List, [], ◌∷◌}
 use mathlib.Core.Logic.{⊎_elim}
-use mathlib.Core.Option.{Option, none, some}
 use mathlib.Core.Path.{◌∙◌, ◌≡◌, refl, sym}
 use native.Mathlib.Omega.{arith}
 use lib.Dec.{eqb, ltb}
@@ -25,36 +25,36 @@ module _ (front back : ℕ → ℕ) where
       → (let r = chain front back d p kept n in r.lookups ≡ n + length r.opening + 1)
   unfolding chain
   chain_asked zero p kept n l = absurd (omega arith)
-  chain_asked (suc d) p kept n l = go (get_or kept p none) refl (λ q h. chain_asked d q (set kept p none) (n + 1) h)
+  chain_asked (suc d) p kept n l = go (get_or kept p None) refl (λ q h. chain_asked d q (set kept p None) (n + 1) h)
     where
       next : ℕ → Found
-      next q = chain front back d q (set kept p none) (n + 1)
+      next q = chain front back d q (set kept p None) (n + 1)
 
-      go : (o : Option ℕ) → get_or kept p none ≡ o
-          → ((q : ℕ) → length (held (set kept p none)) < d → (next q).lookups ≡ n + 1 + length (next q).opening + 1)
+      go : (o : Option ℕ) → get_or kept p None ≡ o
+          → ((q : ℕ) → length (held (set kept p None)) < d → (next q).lookups ≡ n + 1 + length (next q).opening + 1)
           → (let r = follow front back (look_up p kept n) o next in r.lookups ≡ n + length r.opening + 1)
-      go none e more = omega arith
-      go (some u) e more = omega (arith, more (back u) (omega (arith, held_long kept p u e)))
+      go None e more = omega arith
+      go (Some u) e more = omega (arith, more (back u) (omega (arith, held_long kept p u e)))
 
   pub record Ends (us : List ℕ) (kept : Kept) (n : ℕ) (w : Walk) : Type 0 where
     pub asked : w.lookups ≡ n + length (flat w.openings) + length w.openings
-    pub bare : (p : ℕ) → get_or kept p none ≡ none → get_or w.kept p none ≡ none
-    pub behind : All (λ (u : ℕ). get_or w.kept (front u) none ≡ none) us
+    pub bare : (p : ℕ) → get_or kept p None ≡ None → get_or w.kept p None ≡ None
+    pub behind : All (λ (u : ℕ). get_or w.kept (front u) None ≡ None) us
 
   pub pass_ends : (us : List ℕ) (kept : Kept) (n : ℕ) → Ends us kept n (pass front back us kept n)
   unfolding pass flat
   pass_ends [] kept n = record { asked = omega arith; bare = λ p e. e; behind = tt }
-  pass_ends (u ∷ us) kept n = go (get_or kept (front u) none) refl (λ k m. pass_ends us k m)
+  pass_ends (u ∷ us) kept n = go (get_or kept (front u) None) refl (λ k m. pass_ends us k m)
     where
       rest : Kept → ℕ → Walk
       rest k m = pass front back us k m
 
-      go : (o : Option ℕ) → get_or kept (front u) none ≡ o → ((k : Kept) (m : ℕ) → Ends us k m (rest k m))
+      go : (o : Option ℕ) → get_or kept (front u) None ≡ o → ((k : Kept) (m : ℕ) → Ends us k m (rest k m))
           → Ends (u ∷ us) kept n (begin_at front back o (front u) kept n rest)
-      go none e more =
+      go None e more =
           let w = more kept n in
           record { asked = w.asked; bare = w.bare; behind = (w.bare (front u) e, w.behind) }
-      go (some v) e more =
+      go (Some v) e more =
           let r = chain front back (suc (length kept)) (front u) kept n in
           let t = chain_takes front back (length kept) (front u) kept n in
           let l = less_trans (less_set kept (front u)) t in
@@ -75,29 +75,29 @@ module _ (front back : ℕ → ℕ) where
       (cases (eqb (front u) p))
 
   -- where none begins, none is kept
-  keep_bare : (us : List ℕ) (kept : Kept) (p : ℕ) → get_or kept p none ≡ none → count (λ (u : ℕ). eqb (front u) p) us ≡ 0 → get_or (keep front back us kept) p none ≡ none
+  keep_bare : (us : List ℕ) (kept : Kept) (p : ℕ) → get_or kept p None ≡ None → count (λ (u : ℕ). eqb (front u) p) us ≡ 0 → get_or (keep front back us kept) p None ≡ None
   unfolding keep count
   keep_bare [] kept p e h = e
   keep_bare (u ∷ us) kept p e h =
       ⊎_elim
       (λ (f : eqb (front u) p ≡ true). let one : bit (eqb (front u) p) ≡ 1 = rw f in absurd (omega (arith, h, one)))
       (λ (f : eqb (front u) p ≡ false).
-      keep_bare us (set kept (front u) (some u)) p (get_or-set_other kept (front u) p (some u) none (λ g. eqb-false (front u) p f (sym g)) ∙ e) (omega (arith, h, bit_none (front u) p f)))
+      keep_bare us (set kept (front u) (Some u)) p (get_or-set_other kept (front u) p (Some u) None (λ g. eqb-false (front u) p f (sym g)) ∙ e) (omega (arith, h, bit_none (front u) p f)))
       (cases (eqb (front u) p))
 
   -- the walk over uses us, with some of them kept
   pub walk_ends : (m : ℕ) (us free : List ℕ) → ((q : ℕ → Bool) → count q free ≤ count q us)
-      → (let w = walk front back m us (keep front back free (replicate m none)) 0 in
-      ((p : ℕ) → get_or w.kept p none ≡ none) × (w.lookups ≡ length (flat w.openings) + length w.openings))
+      → (let w = walk front back m us (keep front back free (replicate m None)) 0 in
+      ((p : ℕ) → get_or w.kept p None ≡ None) × (w.lookups ≡ length (flat w.openings) + length w.openings))
   walk_ends m us free part =
-      let kept = keep front back free (replicate m none) in
+      let kept = keep front back free (replicate m None) in
       let s = pass_ends us kept 0 in
       let w = pass front back us kept 0 in
-      let ended : (p : ℕ) → get_or w.kept p none ≡ none = λ p.
+      let ended : (p : ℕ) → get_or w.kept p None ≡ None = λ p.
       let here : ℕ → Bool = λ (u : ℕ). eqb (front u) p in
       ⊎_elim
-      (λ (e : ltb 0 (count here us) ≡ true). begins (λ (r : ℕ). get_or w.kept r none ≡ none) us s.behind p (ltb-true 0 (count here us) e))
+      (λ (e : ltb 0 (count here us) ≡ true). begins (λ (r : ℕ). get_or w.kept r None ≡ None) us s.behind p (ltb-true 0 (count here us) e))
       (λ (e : ltb 0 (count here us) ≡ false).
-      s.bare p (keep_bare free (replicate m none) p (get_empty m p) (omega (arith, part here, ltb-false 0 (count here us) e))))
+      s.bare p (keep_bare free (replicate m None) p (get_empty m p) (omega (arith, part here, ltb-false 0 (count here us) e))))
       (cases (ltb 0 (count here us))) in
       rw (pass_of_kept front back m us free) (ended, omega (arith, s.asked))

@@ -1,7 +1,7 @@
 -- Uses that begin and end alike under two readings of their ends: the walk and the links are the same.
+use Rattle.std.specs.Prelude.{Option, None, Some}
 use Prim.Native.Nat.{suc, zero, ℕ}
 use mathlib.Core.List.{List, [], ◌∷◌, map}
-use mathlib.Core.Option.{Option, none, some}
 use mathlib.Core.Path.{◌∙◌, ◌≡◌, ap, refl}
 use lib.ListN.{get_or, length, replicate, set}
 use Rattle.lists.proofs.Count.{All, all_at, all_only, all_replicate, all_set, all_weaker}
@@ -24,35 +24,35 @@ module _ (front back front' back' : ℕ → ℕ) where
 
   -- what is kept is such a use
   abbrev SameKept : Option ℕ → Type 0
-  SameKept none = Unit {0}
-  SameKept (some u) = Same u
+  SameKept None = Unit {0}
+  SameKept (Some u) = Same u
 
   keep_same : (us : List ℕ) → All Same us → (kept : Kept) → keep front' back' us kept ≡ keep front back us kept
   unfolding keep
   keep_same [] h kept = refl
-  keep_same (u ∷ us) h kept = rw h.0.0 (keep_same us h.1 (set kept (front u) (some u)))
+  keep_same (u ∷ us) h kept = rw h.0.0 (keep_same us h.1 (set kept (front u) (Some u)))
 
   all_kept : (us : List ℕ) → All Same us → (kept : Kept) → All SameKept kept → All SameKept (keep front back us kept)
   unfolding keep
   all_kept [] h kept a = a
-  all_kept (u ∷ us) h kept a = all_kept us h.1 (set kept (front u) (some u)) (all_set SameKept kept (front u) (some u) a h.0)
+  all_kept (u ∷ us) h kept a = all_kept us h.1 (set kept (front u) (Some u)) (all_set SameKept kept (front u) (Some u) a h.0)
 
   chain_same : (d p : ℕ) (kept : Kept) (n : ℕ) → All SameKept kept
       → (chain front' back' d p kept n ≡ chain front back d p kept n) × All SameKept (chain front back d p kept n).kept
   unfolding chain
   chain_same zero p kept n a = (refl, a)
   chain_same (suc d) p kept n a =
-      let rest = all_set SameKept kept p none a tt in
-      go (get_or kept p none) (all_at SameKept none tt kept a p) rest (λ q. chain_same d q (set kept p none) (look_up p kept n).lookups rest)
+      let rest = all_set SameKept kept p None a tt in
+      go (get_or kept p None) (all_at SameKept None tt kept a p) rest (λ q. chain_same d q (set kept p None) (look_up p kept n).lookups rest)
     where
       next : (ℕ → ℕ) → (ℕ → ℕ) → ℕ → Found
-      next f g q = chain f g d q (set kept p none) (look_up p kept n).lookups
+      next f g q = chain f g d q (set kept p None) (look_up p kept n).lookups
 
-      go : (o : Option ℕ) → SameKept o → All SameKept (set kept p none) → ((q : ℕ) → (next front' back' q ≡ next front back q) × All SameKept (next front back q).kept)
+      go : (o : Option ℕ) → SameKept o → All SameKept (set kept p None) → ((q : ℕ) → (next front' back' q ≡ next front back q) × All SameKept (next front back q).kept)
           → (follow front' back' (look_up p kept n) o (next front' back') ≡ follow front back (look_up p kept n) o (next front back))
           × All SameKept (follow front back (look_up p kept n) o (next front back)).kept
-      go none s rest r = (refl, rest)
-      go (some u) s rest r =
+      go None s rest r = (refl, rest)
+      go (Some u) s rest r =
           let put : Found → Found = λ (f : Found). record { opening = u ∷ f.opening; kept = f.kept; lookups = f.lookups } in
           (ap (λ (q : ℕ). put (next front' back' q)) s.1 ∙ ap put (r (back u)).0, (r (back u)).1)
 
@@ -72,8 +72,8 @@ module _ (front back front' back' : ℕ → ℕ) where
 
       go : (o : Option ℕ) → ((f : Found) → All SameKept f.kept → next front' back' f ≡ next front back f)
           → begin front' back' o kept n (next front' back') ≡ begin front back o kept n (next front back)
-      go none r = refl
-      go (some p) r =
+      go None r = refl
+      go (Some p) r =
           let c = chain_same (suc (length kept)) p kept n a in
           let f = chain front back (suc (length kept)) p kept n in
           let put : Found → Walk → Walk = λ (g : Found) (w : Walk). record { openings = g.opening ∷ w.openings; kept = w.kept; lookups = w.lookups } in
@@ -83,9 +83,9 @@ module _ (front back front' back' : ℕ → ℕ) where
   unfolding free_uses
   walk_same points us h =
       let free = all_only Same (is_free us) us h in
-      let empty : Kept = replicate points none in
+      let empty : Kept = replicate points None in
       rw (keep_same (free_uses us) free empty)
-      (walks_same points us h (keep front back (free_uses us) empty) 0 (all_kept (free_uses us) free empty (all_replicate SameKept points none tt)))
+      (walks_same points us h (keep front back (free_uses us) empty) 0 (all_kept (free_uses us) free empty (all_replicate SameKept points None tt)))
 
   -- ---- the links; the first use of a wire without uses is read as use 0
   links_same : Same 0 → (wires : List (List ℕ)) → All (All Same) wires → face_links front' back' wires ≡ face_links front back wires

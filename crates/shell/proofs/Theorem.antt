@@ -1,8 +1,8 @@
 -- The theorem of the openings: the walk of a shell; that of one that is Oriented or Closed, where no point is the front of two free uses.
+use Rattle.std.specs.Prelude.{None}
 use Prim.Native.Nat.{◌+◌, ◌<◌, ◌≤◌, ℕ}
 use mathlib.Core.Bool.{Bool, false, true}
 use mathlib.Core.List.{List, [], map}
-use mathlib.Core.Option.{none}
 use mathlib.Core.Path.{◌∙◌, ◌≡◌, sym}
 use native.Mathlib.Omega.{arith}
 use lib.Dec.{eqb}
@@ -40,9 +40,9 @@ module _ (fronts backs : List ℕ) where
 
   pub opened : (us free : List ℕ) (m : ℕ) → Level fronts backs free → ((p : ℕ) → count (from fronts backs p) free ≤ 1)
       → All (λ (u : ℕ). front_of fronts backs u < m) free → ((q : ℕ → Bool) → count q free ≤ count q us)
-      → Opened free (walk (front_of fronts backs) (back_of fronts backs) m us (keep (front_of fronts backs) (back_of fronts backs) free (replicate m none)) 0)
+      → Opened free (walk (front_of fronts backs) (back_of fronts backs) m us (keep (front_of fronts backs) (back_of fronts backs) free (replicate m None)) 0)
   opened us free m even d i part =
-      let kept = keep (front_of fronts backs) (back_of fronts backs) free (replicate m none) in
+      let kept = keep (front_of fronts backs) (back_of fronts backs) free (replicate m None) in
       let k = kept_all fronts backs free m d i in
       let w = pass_ok fronts backs us kept 0 k.0 (λ p. k.1 (from fronts backs p) ∙ even p ∙ sym (k.1 (to fronts backs p))) in
       let ended = (walk_ends (front_of fronts backs) (back_of fronts backs) m us free part).0 in

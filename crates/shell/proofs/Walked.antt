@@ -1,8 +1,8 @@
 -- The pass over the uses: its openings are closed, and hold every kept use once.
+use Rattle.std.specs.Prelude.{Option, None, Some}
 use Prim.Native.Nat.{◌+◌, ◌<◌, suc, ℕ}
 use mathlib.Core.Bool.{Bool, true}
 use mathlib.Core.List.{List, [], ◌∷◌}
-use mathlib.Core.Option.{Option, none, some}
 use mathlib.Core.Path.{◌≡◌, refl}
 use native.Mathlib.Omega.{arith}
 use lib.Dec.{eqb}
@@ -36,7 +36,7 @@ module _ (fronts backs : List ℕ) where
       rw here at (right_true (eqb p (front_of fronts backs u)) (runs fronts backs (back_of fronts backs u) us p) h)
 
   -- a chain that starts where a use is kept finds some
-  finds : (kept : Kept) (p v n : ℕ) (r : Found) → get_or kept p none ≡ some v → Chained fronts backs p p kept n r → Less (set kept p none) r.kept → 0 < length r.opening
+  finds : (kept : Kept) (p v n : ℕ) (r : Found) → get_or kept p None ≡ Some v → Chained fronts backs p p kept n r → Less (set kept p None) r.kept → 0 < length r.opening
   finds kept p v n r e c t =
       omega (
         arith,
@@ -52,16 +52,16 @@ module _ (fronts backs : List ℕ) where
       → Passed us kept n (pass (front_of fronts backs) (back_of fronts backs) us kept n)
   unfolding pass flat count
   pass_ok [] kept n g h = record { rings = tt; same = λ q. omega arith; good = g }
-  pass_ok (u ∷ us) kept n g h = go (get_or kept (front_of fronts backs u) none) refl (λ k m g' h'. pass_ok us k m g' h')
+  pass_ok (u ∷ us) kept n g h = go (get_or kept (front_of fronts backs u) None) refl (λ k m g' h'. pass_ok us k m g' h')
     where
       rest : Kept → ℕ → Walk
       rest k m = pass (front_of fronts backs) (back_of fronts backs) us k m
 
-      go : (o : Option ℕ) → get_or kept (front_of fronts backs u) none ≡ o
+      go : (o : Option ℕ) → get_or kept (front_of fronts backs u) None ≡ o
           → ((k : Kept) (m : ℕ) → Good fronts backs k → Level fronts backs (held k) → Passed us k m (rest k m))
           → Passed (u ∷ us) kept n (begin_at (front_of fronts backs) (back_of fronts backs) o (front_of fronts backs u) kept n rest)
-      go none e more = let w = more kept n g h in record { rings = w.rings; same = w.same; good = w.good }
-      go (some v) e more =
+      go None e more = let w = more kept n g h in record { rings = w.rings; same = w.same; good = w.good }
+      go (Some v) e more =
           let at = front_of fronts backs u in
           let r = chain (front_of fronts backs) (back_of fronts backs) (suc (length kept)) at kept n in
           let c = chain_ok fronts backs (suc (length kept)) at at kept n g (omega (arith, held_le kept)) (λ q. omega (arith, h q)) in

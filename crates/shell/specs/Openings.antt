@@ -1,6 +1,5 @@
 -- The openings of a shell (extract_boundaries): the walk along its free uses (FORMAT 3.4).
-use Rattle.std.specs.Prelude.{ℕ, zero, suc, ◌+◌, ◌%◌, Bool, List, [], ◌∷◌, map, eqb, get_or, length, replicate, set}
-use Rattle.std.proofs.Math.Option.{Option, none, some}
+use Rattle.std.specs.Prelude.{ℕ, zero, suc, ◌+◌, ◌%◌, Bool, List, [], ◌∷◌, map, eqb, get_or, length, replicate, set, Option, None, Some}
 use Rattle.lists.specs.Lists.{only}
 use Rattle.edge.specs.Edges.{back_number, front_number}
 use Rattle.edge.specs.Uses.{back_of, edge_number, front_of}
@@ -26,7 +25,7 @@ pub record Looked : Type 0 where
   pub lookups : ℕ
 
 abbrev pub look_up : ℕ → Kept → ℕ → Looked
-look_up p kept n = record { answer = get_or kept p none; kept = set kept p none; lookups = n + 1 }
+look_up p kept n = record { answer = get_or kept p None; kept = set kept p None; lookups = n + 1 }
 
 -- what one start finds, in sequence, with the uses still kept and the count
 pub record Found : Type 0 where
@@ -44,12 +43,12 @@ module _ (front back : ℕ → ℕ) where
   -- for each point keep the last free use whose front it is
   unfoldable pub keep : List ℕ → Kept → Kept
   keep [] kept = kept
-  keep (u ∷ us) kept = keep us (set kept (front u) (some u))
+  keep (u ∷ us) kept = keep us (set kept (front u) (Some u))
 
   -- a lookup that found nothing ends an opening; one that found a use goes on at its back
   abbrev pub follow : Looked → Option ℕ → (ℕ → Found) → Found
-  follow l none next = record { opening = []; kept = l.kept; lookups = l.lookups }
-  follow l (some u) next = let r = next (back u) in record { opening = u ∷ r.opening; kept = r.kept; lookups = r.lookups }
+  follow l None next = record { opening = []; kept = l.kept; lookups = l.lookups }
+  follow l (Some u) next = let r = next (back u) in record { opening = u ∷ r.opening; kept = r.kept; lookups = r.lookups }
 
   -- look up at p, then at the back of what is found, and so on, at most d times
   unfoldable pub chain : ℕ → ℕ → Kept → ℕ → Found
@@ -58,17 +57,17 @@ module _ (front back : ℕ → ℕ) where
 
   -- the first point, among the fronts of the uses, that has one kept
   abbrev pub start_at : Option ℕ → ℕ → Option ℕ → Option ℕ
-  start_at none p rest = rest
-  start_at (some u) p rest = some p
+  start_at None p rest = rest
+  start_at (Some u) p rest = Some p
 
   unfoldable pub first_start : List ℕ → Kept → Option ℕ
-  first_start [] kept = none
-  first_start (u ∷ us) kept = start_at (get_or kept (front u) none) (front u) (first_start us kept)
+  first_start [] kept = None
+  first_start (u ∷ us) kept = start_at (get_or kept (front u) None) (front u) (first_start us kept)
 
   -- an opening from each start, until none is kept, at most d; each kept use is looked up once, so `length kept` and one more lookups end every chain
   abbrev pub begin : Option ℕ → Kept → ℕ → (Found → Walk) → Walk
-  begin none kept n rest = record { openings = []; kept = kept; lookups = n }
-  begin (some p) kept n rest =
+  begin None kept n rest = record { openings = []; kept = kept; lookups = n }
+  begin (Some p) kept n rest =
       let r = chain (suc (length kept)) p kept n in
       let w = rest r in
       record { openings = r.opening ∷ w.openings; kept = w.kept; lookups = w.lookups }
@@ -79,7 +78,7 @@ module _ (front back : ℕ → ℕ) where
 
 -- the walk of a shell with these uses, over so many points; the count begins at 0
 abbrev pub walk_of : (ℕ → ℕ) → (ℕ → ℕ) → ℕ → List ℕ → Walk
-walk_of front back points us = walk front back points us (keep front back (free_uses us) (replicate points none)) 0
+walk_of front back points us = walk front back points us (keep front back (free_uses us) (replicate points None)) 0
 
 -- the ends of a use of a pattern
 abbrev pub front_in : Content → ℕ → ℕ

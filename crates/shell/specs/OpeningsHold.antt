@@ -1,6 +1,5 @@
 -- What holds of the openings of shell n of a pattern (FORMAT 3.4).
-use Rattle.std.specs.Prelude.{ℕ, ◌*◌, ◌+◌, ◌≤◌, Bool, true, [], map, ◌≡◌, get_or, length}
-use Rattle.std.proofs.Math.Option.{none}
+use Rattle.std.specs.Prelude.{ℕ, ◌*◌, ◌+◌, ◌≤◌, Bool, true, [], map, ◌≡◌, get_or, length, None}
 use Rattle.lists.specs.Lists.{flat, has, no_dup, pick}
 use Rattle.edge.specs.Edges.{back_number, front_number}
 use Rattle.face.specs.Faces.{face_faults}
@@ -12,7 +11,7 @@ use Rattle.shell.specs.Shells.{shell_uses}
 -- of whatever condition the shell is
 pub record WalkEnds (c : Content) (n : ℕ) : Type 0 where
   -- the walk has gone on until none is kept
-  pub ended : (p : ℕ) → get_or (shell_walk c n).kept p none ≡ none
+  pub ended : (p : ℕ) → get_or (shell_walk c n).kept p None ≡ None
   -- the last count: one lookup for each use in the openings, and one for each opening that finds nothing
   pub asked : (shell_walk c n).lookups ≡ length (flat (shell_walk c n).openings) + length (shell_walk c n).openings
 

@@ -13,9 +13,10 @@ ghost use Rattle.shell.specs.Conditions.{condition};
 ghost use Rattle.shell.specs.Shells.{shell_uses};
 ghost use Rattle.shell_calls.specs.ShellCalls.{condition_answer, openings_answer, openings_out, ShellPromised};
 
-use calls::{FigureAnswer, Presence, ShellFigure, find_shell};
-use columns::put_columns;
+use calls::{ShellFigure, find_shell};
+use columns::Columns;
 use condition::Condition;
+use errors::{CallError, NotThere};
 use reports::{OpeningCounts, condition_in, put_openings};
 use store::{Spans, Tables};
 
@@ -24,12 +25,8 @@ fn condition_at(t: &Tables, n: usize) -> Condition
     requires { Faultless t.now × (n < get_or (count_table t.now) 5 0) }
     ensures { OfTables t.now (λ p. result.0 ≡ condition (shell_uses (content p) n)) }
 {
-    let mut turned = [0u16; 4096];
-    let mut starts = [0usize; 257];
-    let mut firsts = [0usize; 257];
-    let mut places = [0usize; 257];
-    put_columns(t, &mut turned, &mut starts, &mut firsts, &mut places);
-    condition_in(t, &turned, &starts, &firsts, &places, n)
+    let columns = Columns::new(t);
+    condition_in(&columns, n)
 }
 
 // Writes the openings of a shell that is there.
@@ -38,24 +35,20 @@ fn openings_at(t: &Tables, n: usize, out: &mut [u16], lens: &mut [u16]) -> Openi
     requires in_bounds { (2048 ≤ length out.old) × (2048 ≤ length lens.old) }
     ensures { OfTables t.now (λ p. Opened (content p) n out.old lens.old out.new lens.new result) }
 {
-    let mut turned = [0u16; 4096];
-    let mut starts = [0usize; 257];
-    let mut firsts = [0usize; 257];
-    let mut places = [0usize; 257];
-    put_columns(t, &mut turned, &mut starts, &mut firsts, &mut places);
-    put_openings(t, &turned, &starts, &firsts, &places, n, out, lens)
+    let columns = Columns::new(t);
+    put_openings(&columns, n, out, lens)
 }
 
 // The condition of shell n.
-pub fn shell_condition(t: &Tables, spans: &Spans, n: usize) -> FigureAnswer
+pub fn shell_condition(
+    t: &Tables,
+    spans: &Spans,
+    n: usize,
+) -> Result<ShellFigure, CallError<NotThere>>
     ensures { result ≡ condition_answer (held t.now spans.now) n }
 {
-    let found = find_shell(t, spans, n);
-    match found {
-        Presence::Refused(f) => FigureAnswer::Refused(f),
-        Presence::NoShell => FigureAnswer::NoShell,
-        Presence::There => FigureAnswer::Found(ShellFigure::Condition(condition_at(t, n))),
-    }
+    find_shell(t, spans, n)?;
+    Ok(ShellFigure::Condition(condition_at(t, n)))
 }
 
 // The openings of shell n: their uses one after the other, and the length of each.
@@ -65,19 +58,13 @@ pub fn extract_boundaries(
     n: usize,
     out: &mut [u16; 2048],
     lens: &mut [u16; 2048],
-) -> FigureAnswer
+) -> Result<ShellFigure, CallError<NotThere>>
     ensures value { result ≡ openings_answer (held t.now spans.now) n }
     ensures out_after { out.new ≡ sets out.old 0 (flat (openings_out (held t.now spans.now) n)) }
     ensures lens_after { lens.new ≡ sets lens.old 0 (map length (openings_out (held t.now spans.now) n)) }
     ensures shell_promised { ShellPromised (held t.now spans.now) n }
 {
-    let found = find_shell(t, spans, n);
-    match found {
-        Presence::Refused(f) => FigureAnswer::Refused(f),
-        Presence::NoShell => FigureAnswer::NoShell,
-        Presence::There => {
-            let o = openings_at(t, n, out, lens);
-            FigureAnswer::Found(ShellFigure::Openings(o.openings, o.used, o.lookups))
-        }
-    }
+    find_shell(t, spans, n)?;
+    let o = openings_at(t, n, out, lens);
+    Ok(ShellFigure::Openings(o.openings, o.used, o.lookups))
 }

@@ -1,4 +1,6 @@
 -- What holds of every concat.
+use Rattle.errors.specs.declared.CallError.TheVariants.{Refused}
+use Rattle.std.specs.Prelude.{Err, Ok}
 use Prim.Native.Nat.{◌<◌, ◌≤◌, ℕ}
 use mathlib.Core.Bool.{◌&&◌, true}
 use mathlib.Core.List.{List, [], ◌++◌, ◌∷◌, append_assoc, map}
@@ -12,7 +14,6 @@ use Rattle.edge.specs.Edges.{back_number, front_number}
 use Rattle.edge.specs.Uses.{edge_number}
 use Rattle.edge.specs.declared.EdgeID.{EdgeID}
 use Rattle.edit_answers.specs.declared.EditError.TheVariants.{Disconnected, NoSpace, Unnamed}
-use Rattle.edit_answers.specs.declared.JoinAnswer.TheVariants.{Joined, Not}
 use Rattle.errors.proofs.Laws.{none_left, none_right, unless_passes}
 use Rattle.face.specs.Faces.{wire_count}
 use Rattle.lists.proofs.Count.{All, all_weaker}
@@ -102,7 +103,7 @@ module _ (p : Pattern) (full : Full p) (u v : ℕ) where
       (λ h. (concat_few h, concat_accepted c (pattern_passed p ok).content u v h))
 
   -- 17 is answered exactly if nothing else is wrong and the edges are full
-  pub concat_no_space : (concat_answer p u v ≡ Not NoSpace → OnlyFull p (concat_faults c u v)) × (OnlyFull p (concat_faults c u v) → concat_answer p u v ≡ Not NoSpace)
+  pub concat_no_space : (concat_answer p u v ≡ (Err (Refused NoSpace)) → OnlyFull p (concat_faults c u v)) × (OnlyFull p (concat_faults c u v) → concat_answer p u v ≡ (Err (Refused NoSpace)))
   concat_no_space =
       let named = ltb (edge_number u) (length c.edges) && ltb (edge_number v) (length c.edges) in
       let meet = eqb (use_back (edge_of c u) u).0 (use_front (edge_of c v) v).0 in
@@ -110,5 +111,5 @@ module _ (p : Pattern) (full : Full p) (u v : ℕ) where
       (join_no_space p full (unless named Unnamed ++ unless meet Disconnected) (more_not_full (unless named Unnamed) meet Disconnected (unless_not_full named Unnamed refl) refl) u v)
 
   -- the number given is that of the new edge, and the old ones stand as they stood
-  pub concat_numbers : (a : EdgeID) → concat_answer p u v ≡ Joined a → Given p (after_concat p u v) a (joined_edge c u v)
+  pub concat_numbers : (a : EdgeID) → concat_answer p u v ≡ Ok a → Given p (after_concat p u v) a (joined_edge c u v)
   concat_numbers a h = given p full (concat_faults c u v) (joined_edge c u v) c.uses c.wires a (λ ok t. concat_few t) h

@@ -1,4 +1,6 @@
 -- What a cut that is not refused makes: a pattern without fault, with the point in the shell.
+use Rattle.edge.specs.declared.Curve.{Curve}
+use Rattle.std.specs.Prelude.{None, Option, Some}
 use Prim.Native.Nat.{◌+◌, ◌<◌, ◌≤◌, suc, ℕ}
 use mathlib.Core.Bool.{Bool, ◌&&◌, false, not, true, true≢false}
 use mathlib.Core.List.{List, [], ◌++◌, ◌∷◌, map, map-append}
@@ -9,8 +11,6 @@ use lib.ListN.{get_or-map, get_or, length, length-append, length-map, take}
 use borrow.Author.Tests.{eq-eqb, leb-true, lt-ltb, ltb-false, ltb-true, ne_eqb, not-true}
 use Rattle.curve.proofs.Theorem.{are_spans, cut_spans}
 use Rattle.curve.specs.Curves.{cut_curve}
-use Rattle.curve.specs.declared.Halves.TheVariants.{Both, Refused}
-use Rattle.curve.specs.declared.Halves.{Halves}
 use Rattle.curve.specs.declared.Parameter.{Parameter}
 use Rattle.edge.specs.Edges.{back_number, edge, front_number, is_span}
 use Rattle.edge.specs.Uses.{edge_number, front_of}
@@ -232,7 +232,7 @@ module _ (c : Content) (ok : content_faults c ≡ []) where
     pub cut_long : length (cut_wires c n e) ≡ length c.wires
     cut_long = ap length wires_are ∙ each_long (change e (length fs) in_shell) 0 (wires_in c) ∙ wires_long
 
-    abbrev halves : Halves
+    abbrev halves : Option (Curve × Curve)
     halves = cut_curve (edge_at c e).curve at
 
     abbrev new_edges : List Edge
@@ -241,27 +241,27 @@ module _ (c : Content) (ok : content_faults c ≡ []) where
     pub two_more : length (c.edges ++ new_edges) ≡ length c.edges + 2
     two_more = omega (arith, length-append c.edges new_edges, go halves tests.curve)
       where
-        go : (h : Halves) → is_cut h ≡ true → length (half_edges (edge_at c e) p h) ≡ 2
-        go Refused h = absurd (true≢false (sym h))
-        go (Both k l) h = refl
+        go : (h : Option (Curve × Curve)) → is_cut h ≡ true → length (half_edges (edge_at c e) p h) ≡ 2
+        go None h = absurd (true≢false (sym h))
+        go (Some (k, l)) h = refl
 
     fronts_are : map front_number (c.edges ++ new_edges) ≡ cut_fronts fs bs e p
     fronts_are = go halves tests.curve
       where
-        go : (h : Halves) → is_cut h ≡ true → map front_number (c.edges ++ half_edges (edge_at c e) p h) ≡ cut_fronts fs bs e p
-        go Refused h = absurd (true≢false (sym h))
-        go (Both k l) h =
+        go : (h : Option (Curve × Curve)) → is_cut h ≡ true → map front_number (c.edges ++ half_edges (edge_at c e) p h) ≡ cut_fronts fs bs e p
+        go None h = absurd (true≢false (sym h))
+        go (Some (k, l)) h =
             let z : get_or fs e 0 ≡ front_number (edge_at c e) = get_or-map front_number c.edges e zero_edge in
-            rw z (map-append front_number c.edges (half_edges (edge_at c e) p (Both k l)))
+            rw z (map-append front_number c.edges (half_edges (edge_at c e) p (Some (k, l))))
 
     backs_are : map back_number (c.edges ++ new_edges) ≡ cut_backs fs bs e p
     backs_are = go halves tests.curve
       where
-        go : (h : Halves) → is_cut h ≡ true → map back_number (c.edges ++ half_edges (edge_at c e) p h) ≡ cut_backs fs bs e p
-        go Refused h = absurd (true≢false (sym h))
-        go (Both k l) h =
+        go : (h : Option (Curve × Curve)) → is_cut h ≡ true → map back_number (c.edges ++ half_edges (edge_at c e) p h) ≡ cut_backs fs bs e p
+        go None h = absurd (true≢false (sym h))
+        go (Some (k, l)) h =
             let z : get_or bs e 0 ≡ back_number (edge_at c e) = get_or-map back_number c.edges e zero_edge in
-            rw z (map-append back_number c.edges (half_edges (edge_at c e) p (Both k l)))
+            rw z (map-append back_number c.edges (half_edges (edge_at c e) p (Some (k, l))))
 
     ends_named : (front_number (edge_at c e) < length c.points) × (back_number (edge_at c e) < length c.points)
     ends_named =
@@ -275,9 +275,9 @@ module _ (c : Content) (ok : content_faults c ≡ []) where
     new_edges_fine : each (edge_faults (length c.points)) (length c.edges) new_edges ≡ []
     new_edges_fine = go halves tests.curve (cut_spans (edge_at c e).curve at (edge_span c ok e edge_inside))
       where
-        go : (h : Halves) → is_cut h ≡ true → are_spans h ≡ true → each (edge_faults (length c.points)) (length c.edges) (half_edges (edge_at c e) p h) ≡ []
-        go Refused h s = absurd (true≢false (sym h))
-        go (Both k l) h s =
+        go : (h : Option (Curve × Curve)) → is_cut h ≡ true → are_spans h ≡ true → each (edge_faults (length c.points)) (length c.edges) (half_edges (edge_at c e) p h) ≡ []
+        go None h s = absurd (true≢false (sym h))
+        go (Some (k, l)) h s =
             let m = length c.points in
             let d = edge_at c e in
             let f : eqb (front_number d) p ≡ false = rw (get_or-map front_number c.edges e zero_edge) at not_front in

@@ -1,4 +1,6 @@
 -- The theorems of the cut, of every pattern without fault.
+use Rattle.errors.specs.declared.CallError.TheVariants.{Refused, Unread}
+use Rattle.std.specs.Prelude.{Err, Ok}
 use Prim.Native.Nat.{◌+◌, ◌<◌, ℕ}
 use mathlib.Core.Bool.{false, not}
 use mathlib.Core.List.{List, [], ◌∷◌, map}
@@ -8,8 +10,7 @@ use lib.Dec.{eqb}
 use lib.ListN.{get_or-append, length, length-map}
 use Rattle.curve.specs.Curves.{cut_curve}
 use Rattle.curve.specs.declared.Parameter.{Parameter}
-use Rattle.edit_answers.specs.Answers.{cut_reply, judged}
-use Rattle.edit_answers.specs.declared.CutAnswer.TheVariants.{Cut, Not, Refused}
+use Rattle.edit_answers.specs.Answers.{answer_of, cut_reply}
 use Rattle.edit_answers.specs.declared.EditError.{EditError}
 use Rattle.lists.proofs.Marks.{AllBelow}
 use Rattle.lists.specs.Lists.{flat, has}
@@ -61,15 +62,15 @@ module _ (p : Pattern) (n e v : ℕ) (at : Parameter) (ok : pattern_faults p ≡
   pub cut_answered : (cut_reply (cut_answer p n e v at)).number ≡ first_number (cut_faults (content p) n e v at)
   cut_answered = rw ok (go (cut_faults (content p) n e v at))
     where
-      go : (es : List EditError) → (cut_reply (judged [] es Refused Not (Cut (next_edge p 0) (next_edge p 1)))).number ≡ first_number es
+      go : (es : List EditError) → (cut_reply (answer_of [] es (next_edge p 0, next_edge p 1))).number ≡ first_number es
       go [] = refl
       go (x ∷ es) = refl
 
   -- the numbers given are the next two
-  pub cut_numbers : cut_faults (content p) n e v at ≡ [] → cut_answer p n e v at ≡ Cut (record { 0 = length (content p).edges }) (record { 0 = length (content p).edges + 1 })
+  pub cut_numbers : cut_faults (content p) n e v at ≡ [] → cut_answer p n e v at ≡ (Ok (record { 0 = length (content p).edges }, record { 0 = length (content p).edges + 1 }))
   cut_numbers cut =
       let z : length (content p).edges + 0 ≡ length (content p).edges = omega arith in
-      rw (ok, cut) (λ i. Cut (record { 0 = z i }) (record { 0 = length (content p).edges + 1 }))
+      rw (ok, cut) (λ i. (Ok (record { 0 = z i }, record { 0 = length (content p).edges + 1 })))
 
   module _ (full : Full p) where
     abbrev fine : content_faults (content p) ≡ []

@@ -1,4 +1,6 @@
 -- What a cut makes of a shell, where no wire has the edge there and back: every use of the edge gives way to its halves.
+use Rattle.edge.specs.declared.Curve.{Curve}
+use Rattle.std.specs.Prelude.{None, Option, Some}
 use Prim.Native.Nat.{◌+◌, ◌<◌, ◌≤◌, ℕ}
 use mathlib.Core.Bool.{Bool, ◌&&◌, false, not, true, true≢false}
 use mathlib.Core.List.{List, [], ◌++◌, ◌∷◌, append-nil, map, map-map, reverse}
@@ -9,8 +11,6 @@ use lib.ListN.{get_or-map, get_or, length, length-map}
 use lib.Seq.{get_or-append-add, get_or-append_seam}
 use borrow.Author.Tests.{eqb-false, le-leb, lt-leb, ltb-false, ltb-true, not-true}
 use Rattle.curve.specs.Curves.{cut_curve}
-use Rattle.curve.specs.declared.Halves.{Halves}
-use Rattle.curve.specs.declared.Halves.TheVariants.{Both, Refused}
 use Rattle.curve.specs.declared.Parameter.{Parameter}
 use Rattle.edge.specs.Edges.{back_number, front_number}
 use Rattle.edge.specs.Uses.{edge_number, front_of, turned}
@@ -156,15 +156,15 @@ module _ (c : Content) (ok : content_faults c ≡ []) (n e p : ℕ) (at : Parame
   fronts_long = length-map c.edges front_number
 
   -- ---- the ends of the halves
-  abbrev edges_with : Halves → List Edge
+  abbrev edges_with : Option (Curve × Curve) → List Edge
   edges_with h = c.edges ++ half_edges (edge_at c e) p h
 
-  half_ends : (h : Halves) → is_cut h ≡ true
+  half_ends : (h : Option (Curve × Curve)) → is_cut h ≡ true
       → ((front_number (get_or (edges_with h) a zero_edge) ≡ front_number (edge_at c e)) × (back_number (get_or (edges_with h) a zero_edge) ≡ p))
       × ((front_number (get_or (edges_with h) (a + 1) zero_edge) ≡ p) × (back_number (get_or (edges_with h) (a + 1) zero_edge) ≡ back_number (edge_at c e)))
-  half_ends Refused h = absurd (true≢false (sym h))
-  half_ends (Both k l) h =
-      let es = half_edges (edge_at c e) p (Both k l) in
+  half_ends None h = absurd (true≢false (sym h))
+  half_ends (Some (k, l)) h =
+      let es = half_edges (edge_at c e) p (Some (k, l)) in
       let first = get_or-append_seam c.edges (get_or es 0 zero_edge) (get_or es 1 zero_edge ∷ []) zero_edge in
       let second = get_or-append-add c.edges es 1 zero_edge in
       ((ap front_number first, ap back_number first), (ap front_number second, ap back_number second))

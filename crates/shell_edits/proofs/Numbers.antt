@@ -1,4 +1,6 @@
 -- Edge numbers are never given twice: the theorem of the numbers, over any sequence of edits.
+use Rattle.errors.specs.declared.CallError.TheVariants.{Refused, Unread}
+use Rattle.std.specs.Prelude.{Err, Ok}
 use Prim.Native.Nat.{◌+◌, ◌<◌, suc, zero, ℕ}
 use mathlib.Core.Bool.{false, true}
 use mathlib.Core.List.{List, [], ◌++◌, ◌∷◌, append_assoc, append-nil}
@@ -9,10 +11,8 @@ use borrow.Author.Tests.{ne_eqb}
 use Rattle.curve.specs.Curves.{cut_curve}
 use Rattle.edge.specs.declared.Edge.{Edge}
 use Rattle.edge.specs.declared.EdgeID.{EdgeID}
-use Rattle.edit_answers.specs.Answers.{judged}
-use Rattle.edit_answers.specs.declared.CutAnswer.TheVariants.{Cut, Not, Refused}
+use Rattle.edit_answers.specs.Answers.{answer_of, judged}
 use Rattle.edit_answers.specs.declared.EditError.{EditError}
-use Rattle.edit_answers.specs.declared.JoinAnswer.TheVariants.{Joined, Not as Join-as-Not, Refused as Join-as-Refused}
 use Rattle.errors.specs.declared.Refusal.{Refusal}
 use Rattle.lists.specs.Lists.{has, no_dup}
 use Rattle.pattern.proofs.Counts.{Full}
@@ -82,13 +82,13 @@ module _ (p : Pattern) (full : Full p) (c : Content) (new : List Edge) (more : c
 
 -- what an answer gives
 cut_gives_lem : (fs : List Refusal) (es : List EditError) (a b : EdgeID)
-    → cut_gives (judged fs es Refused Not (Cut a b)) ≡ judged fs es (λ (f : Refusal). []) (λ (e : EditError). []) (a.0 ∷ b.0 ∷ [])
+    → cut_gives (answer_of fs es (a, b)) ≡ judged fs es (λ (f : Refusal). []) (λ (e : EditError). []) (a.0 ∷ b.0 ∷ [])
 cut_gives_lem (f ∷ fs) es a b = refl
 cut_gives_lem [] (e ∷ es) a b = refl
 cut_gives_lem [] [] a b = refl
 
 join_gives_lem : (fs : List Refusal) (es : List EditError) (a : EdgeID)
-    → join_gives (judged fs es Join-as-Refused Join-as-Not (Joined a)) ≡ judged fs es (λ (f : Refusal). []) (λ (e : EditError). []) (a.0 ∷ [])
+    → join_gives (answer_of fs es a) ≡ judged fs es (λ (f : Refusal). []) (λ (e : EditError). []) (a.0 ∷ [])
 join_gives_lem (f ∷ fs) es a = refl
 join_gives_lem [] (e ∷ es) a = refl
 join_gives_lem [] [] a = refl

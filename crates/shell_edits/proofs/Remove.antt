@@ -1,4 +1,5 @@
 -- Laws of removing a point: the place where a use ends there, the wires that change, the new edge and its uses.
+use Rattle.std.specs.Prelude.{Some}
 use Prim.Native.Nat.{◌%◌, ◌+◌, ◌<◌, ◌≤◌, suc, zero, ℕ}
 use mathlib.Core.Bool.{Bool, false, not, true, true≢false}
 use mathlib.Core.List.{List, [], ◌++◌, ◌∷◌, map}
@@ -27,13 +28,12 @@ use Rattle.shell_edits.specs.NewEdges.{is_joined, use_back, use_front}
 use Rattle.shell_edits.proofs.Ends.{back_is, front_is}
 use Rattle.shell_edits.proofs.Wires.{each_long}
 use Rattle.wire.specs.Wires.{end_from}
-use Rattle.wire.specs.declared.Found.TheVariants.{At}
 
 module _ (fs bs : List ℕ) where
   -- where a use ends at p, the place of the first such use
   pub record Place (p i : ℕ) (us : List ℕ) : Type 0 where
     pub at : ℕ
-    pub found : end_from fs bs i p us ≡ At (i + at)
+    pub found : end_from fs bs i p us ≡ (Some (i + at))
     pub inside : at < length us
     pub ends : back_of fs bs (get_or us at 0) ≡ p
 

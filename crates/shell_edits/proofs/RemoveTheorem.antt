@@ -1,4 +1,6 @@
 -- What holds of every removal of a point.
+use Rattle.errors.specs.declared.CallError.TheVariants.{Refused}
+use Rattle.std.specs.Prelude.{Err, Ok}
 use Prim.Native.Nat.{◌+◌, ◌<◌, ◌≤◌, ℕ}
 use mathlib.Core.Bool.{◌&&◌, ◌||◌, false, not}
 use mathlib.Core.List.{List, [], ◌++◌, ◌∷◌, map}
@@ -8,7 +10,6 @@ use lib.Dec.{leb, ltb}
 use lib.ListN.{length, length-append, length-map}
 use Rattle.edge.specs.declared.EdgeID.{EdgeID}
 use Rattle.edit_answers.specs.declared.EditError.TheVariants.{NoSpace, NotOneOrTwoWires, SharedFace, Unmatched, Unnamed}
-use Rattle.edit_answers.specs.declared.JoinAnswer.TheVariants.{Joined, Not}
 use Rattle.lists.proofs.Count.{All}
 use Rattle.lists.specs.Lists.{has, unless}
 use Rattle.pattern.proofs.Counts.{Full}
@@ -75,9 +76,9 @@ module _ (p : Pattern) (full : Full p) (n v : ℕ) where
       (unless_not_full (ltb n (length c.shells) && ltb v (length c.points)) Unnamed refl) refl) refl) refl
 
   -- 17 is answered exactly if nothing else is wrong and the edges are full
-  pub remove_no_space : (remove_answer p n v ≡ Not NoSpace → OnlyFull p (remove_faults c n v)) × (OnlyFull p (remove_faults c n v) → remove_answer p n v ≡ Not NoSpace)
+  pub remove_no_space : (remove_answer p n v ≡ (Err (Refused NoSpace)) → OnlyFull p (remove_faults c n v)) × (OnlyFull p (remove_faults c n v) → remove_answer p n v ≡ (Err (Refused NoSpace)))
   remove_no_space = join_no_space p full (near_faults c n v) near_not_full u w
 
   -- the number given is that of the new edge, and the old ones stand as they stood
-  pub remove_numbers : (a : EdgeID) → remove_answer p n v ≡ Joined a → Given p (after_remove p n v) a (joined_edge c u w)
+  pub remove_numbers : (a : EdgeID) → remove_answer p n v ≡ Ok a → Given p (after_remove p n v) a (joined_edge c u w)
   remove_numbers a h = given p full (remove_faults c n v) (joined_edge c u w) (remove_content c n v).uses (remove_content c n v).wires a remove_few h

@@ -1,4 +1,6 @@
 -- An edit of a pattern in storage, refused or not; the answers of edits that make one edge.
+use Rattle.errors.specs.declared.CallError.TheVariants.{Refused, Unread}
+use Rattle.std.specs.Prelude.{Err, Ok}
 use Prim.Native.Nat.{◌+◌, ◌≤◌, ℕ}
 use mathlib.Core.Bool.{Bool, false, not, true, true≢false}
 use mathlib.Core.List.{List, [], ◌++◌, ◌∷◌, append_assoc, append-nil}
@@ -10,10 +12,9 @@ use borrow.Author.Tests.{le-leb, leb-false, lt-leb}
 use Rattle.curve.specs.Curves.{join_curves}
 use Rattle.edge.specs.declared.Edge.{Edge}
 use Rattle.edge.specs.declared.EdgeID.{EdgeID}
-use Rattle.edit_answers.specs.Answers.{edit_number, judged}
+use Rattle.edit_answers.specs.Answers.{answer_of, edit_number}
 use Rattle.edit_answers.specs.declared.EditError.{EditError}
 use Rattle.edit_answers.specs.declared.EditError.TheVariants.{NoSpace, SameEnds, SpanRefused}
-use Rattle.edit_answers.specs.declared.JoinAnswer.TheVariants.{Joined, Not, Refused}
 use Rattle.errors.specs.Faults.{each}
 use Rattle.errors.specs.declared.Refusal.{Refusal}
 use Rattle.lists.proofs.Count.{All, all_append}
@@ -78,14 +79,14 @@ module _ (p : Pattern) (full : Full p) where
     after_accepted [] h = rw ok (stored_accepted p full c (h refl).0 (h refl).1)
     after_accepted (e ∷ es) h = rw ok ok
 
-joined_only : (fs : List Refusal) (es : List EditError) (a b : EdgeID) → judged fs es Refused Not (Joined a) ≡ Joined b → (fs ≡ []) × (es ≡ []) × (a ≡ b)
+joined_only : (fs : List Refusal) (es : List EditError) (a b : EdgeID) → answer_of fs es a ≡ Ok b → (fs ≡ []) × (es ≡ []) × (a ≡ b)
 joined_only [] [] a b h = (refl, refl, cc)
 joined_only [] (e ∷ es) a b h = (refl, cc, cc)
 joined_only (f ∷ fs) es a b h = (cc, cc, cc)
 
 -- the number that is given
 pub given : (p : Pattern) → Full p → (es : List EditError) (e : Edge) (uses wires : List ℕ) (a : EdgeID)
-    → (pattern_faults p ≡ [] → es ≡ [] → count_faults (counts_of (edited (content p) (e ∷ []) uses wires)) ≡ []) → join_answer p es ≡ Joined a
+    → (pattern_faults p ≡ [] → es ≡ [] → count_faults (counts_of (edited (content p) (e ∷ []) uses wires)) ≡ []) → join_answer p es ≡ Ok a
     → Given p (pattern_after p es (edited (content p) (e ∷ []) uses wires)) a e
 given p full es e uses wires a few h =
     let c = edited (content p) (e ∷ []) uses wires in
@@ -114,7 +115,7 @@ unfolding only
 no_others true = refl
 no_others false = refl
 
-not_only : (fs : List Refusal) (es : List EditError) (a : EdgeID) → judged fs es Refused Not (Joined a) ≡ Not NoSpace → (fs ≡ []) × (take 1 es ≡ NoSpace ∷ [])
+not_only : (fs : List Refusal) (es : List EditError) (a : EdgeID) → answer_of fs es a ≡ Err (Refused NoSpace) → (fs ≡ []) × (take 1 es ≡ NoSpace ∷ [])
 not_only [] [] a h = (refl, cc)
 not_only [] (e ∷ es) a h = let z : e ≡ NoSpace = cc in (refl, ap (λ (d : EditError). d ∷ []) z)
 not_only (f ∷ fs) es a h = (cc, cc)
@@ -141,7 +142,7 @@ module _ (p : Pattern) (full : Full p) (es : List EditError) (h : All NotFull es
   apart = only_append (λ (e : EditError). not (eqb (edit_number e) 17)) es (unless room NoSpace) ∙ rw (others_all es h, no_others room) (append-nil es)
 
   -- 17 is answered only if nothing else is wrong and the edges are full
-  no_space : join_answer p all ≡ Not NoSpace → OnlyFull p all
+  no_space : join_answer p all ≡ (Err (Refused NoSpace)) → OnlyFull p all
   no_space a =
       let t = not_only (pattern_faults p) all (next_edge p 0) a in
       let s = first_full es room h t.1 in
@@ -149,7 +150,7 @@ module _ (p : Pattern) (full : Full p) (es : List EditError) (h : All NotFull es
       (t.0, apart ∙ s.0, many)
 
   -- and then it is
-  full_answered : OnlyFull p all → join_answer p all ≡ Not NoSpace
+  full_answered : OnlyFull p all → join_answer p all ≡ (Err (Refused NoSpace))
   full_answered t =
       let none : es ≡ [] = sym apart ∙ t.1 in
       let many : length (content p).edges ≡ 1024 = t.2 in
@@ -171,7 +172,7 @@ module _ (p : Pattern) (full : Full p) (es : List EditError) (h : All NotFull es
       let same = eqb (use_front (edge_of c u) u).0 (use_back (edge_of c v) v).0 in
       more_not_full (unless (not same) SameEnds) (is_joined (join_curves (edge_of c u).curve (edge_of c v).curve)) SpanRefused (unless_not_full (not same) SameEnds refl) refl
 
-  pub join_no_space : (join_answer p (es ++ join_faults c u v) ≡ Not NoSpace → OnlyFull p (es ++ join_faults c u v)) × (OnlyFull p (es ++ join_faults c u v) → join_answer p (es ++ join_faults c u v) ≡ Not NoSpace)
+  pub join_no_space : (join_answer p (es ++ join_faults c u v) ≡ (Err (Refused NoSpace)) → OnlyFull p (es ++ join_faults c u v)) × (OnlyFull p (es ++ join_faults c u v) → join_answer p (es ++ join_faults c u v) ≡ (Err (Refused NoSpace)))
   join_no_space =
       let both = all_append NotFull es ends h ends_not_full in
       rw (← append_assoc es ends (unless (room_for_edges (length c.edges + 1)) NoSpace)) (no_space p full (es ++ ends) both, full_answered p full (es ++ ends) both)

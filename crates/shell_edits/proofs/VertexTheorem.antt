@@ -1,4 +1,6 @@
 -- What holds of every point that is added: an accepted pattern stays so, and all that is reported of it is what it was.
+use Rattle.errors.specs.declared.CallError.TheVariants.{Refused, Unread}
+use Rattle.std.specs.Prelude.{Err, Ok}
 use Prim.Native.Nat.{◌+◌, ◌<◌, ◌≤◌, suc, ℕ}
 use mathlib.Core.Bool.{◌&&◌, not}
 use mathlib.Core.List.{List, [], ◌++◌, ◌∷◌, map}
@@ -10,10 +12,9 @@ use borrow.Author.Tests.{leb-false, leb-true, lt-leb, lt-ltb, ltb-true}
 use Rattle.edge.specs.Edges.{back_number, front_number, is_span}
 use Rattle.edge.specs.Uses.{edge_number}
 use Rattle.edge.specs.declared.Edge.{Edge}
-use Rattle.edit_answers.specs.Answers.{judged}
+use Rattle.edit_answers.specs.Answers.{answer_of}
 use Rattle.edit_answers.specs.declared.EditError.{EditError}
 use Rattle.edit_answers.specs.declared.EditError.TheVariants.{NoSpace, Unnamed as Edit-as-Unnamed}
-use Rattle.edit_answers.specs.declared.VertexAnswer.TheVariants.{Added, Not, Refused}
 use Rattle.errors.proofs.Laws.{each_none, each_record, none_both, none_left, none_right, unless_passes}
 use Rattle.errors.specs.Faults.{each}
 use Rattle.errors.specs.declared.Refusal.{Refusal}
@@ -130,12 +131,12 @@ module _ (c : Content) (ok : content_faults c ≡ []) (label : ℕ) where
       same : (m : ℕ) → shell_errors d m ≡ shell_errors c m
       same m = let k = vertex_kept m in rw (k.condition_kept, k.connected_kept, k.singular_kept)
 
-not_only : (fs : List Refusal) (es : List EditError) (v : VertexID) → judged fs es Refused Not (Added v) ≡ Not NoSpace → (fs ≡ []) × (take 1 es ≡ NoSpace ∷ [])
+not_only : (fs : List Refusal) (es : List EditError) (v : VertexID) → answer_of fs es v ≡ Err (Refused NoSpace) → (fs ≡ []) × (take 1 es ≡ NoSpace ∷ [])
 not_only [] [] v h = (refl, cc)
 not_only [] (e ∷ es) v h = let z : e ≡ NoSpace = cc in (refl, ap (λ (d : EditError). d ∷ []) z)
 not_only (f ∷ fs) es v h = (cc, cc)
 
-added_only : (fs : List Refusal) (es : List EditError) (v w : VertexID) → judged fs es Refused Not (Added v) ≡ Added w → (fs ≡ []) × (es ≡ []) × (v ≡ w)
+added_only : (fs : List Refusal) (es : List EditError) (v w : VertexID) → answer_of fs es v ≡ Ok w → (fs ≡ []) × (es ≡ []) × (v ≡ w)
 added_only [] [] v w h = (refl, refl, cc)
 added_only [] (e ∷ es) v w h = (refl, cc, cc)
 added_only (f ∷ fs) es v w h = (cc, cc, cc)
@@ -153,7 +154,7 @@ module _ (p : Pattern) (full : Full p) (label : ℕ) where
       after_accepted p full ok (vertex_content c label) (vertex_faults c label) (λ h. (vertex_few h, vertex_accepted c (pattern_passed p ok).content label))
 
   -- 17 is answered exactly if nothing else is wrong and the points are full
-  pub vertex_no_space : (vertex_answer p label ≡ Not NoSpace → PointsFull p label) × (PointsFull p label → vertex_answer p label ≡ Not NoSpace)
+  pub vertex_no_space : (vertex_answer p label ≡ (Err (Refused NoSpace)) → PointsFull p label) × (PointsFull p label → vertex_answer p label ≡ (Err (Refused NoSpace)))
   vertex_no_space = (
     (λ a.
         let right = ltb label 4294967296 in
@@ -167,7 +168,7 @@ module _ (p : Pattern) (full : Full p) (label : ℕ) where
   )
 
   -- the number given is that of the new point, and the old ones stand as they stood
-  pub vertex_number : (v : VertexID) → vertex_answer p label ≡ Added v → GivenPoint p (after_vertex p label) v label
+  pub vertex_number : (v : VertexID) → vertex_answer p label ≡ Ok v → GivenPoint p (after_vertex p label) v label
   vertex_number v h =
       let t = added_only (pattern_faults p) (vertex_faults c label) _ v h in (
         ap (λ (w : VertexID). w.0) (sym t.2),

@@ -1,16 +1,14 @@
 -- The edits of a shell: cut (cut_edge), remove a point (remove_vertex_by_concat_edges), concat, add a point. A pattern is edited as its content (FORMAT 4).
-use Rattle.std.specs.Prelude.{ℕ, suc, ◌+◌, ◌-◌, Bool, not, ◌&&◌, ◌||◌, List, [], ◌∷◌, ◌++◌, map, eqb, leb, ltb, drop, get_or, length, take}
+use Rattle.edge.specs.declared.Curve.{Curve}
+use Rattle.std.specs.Prelude.{ℕ, suc, ◌+◌, ◌-◌, Bool, not, ◌&&◌, ◌||◌, List, [], ◌∷◌, ◌++◌, map, eqb, leb, ltb, drop, get_or, length, take, None, Option, Some}
 use Rattle.lists.specs.Lists.{disjoint, flat, has, numbers, only, pick, rotated, split, unless}
 use Rattle.edge.specs.Edges.{back_number, front_number}
 use Rattle.edge.specs.Uses.{edge_number, turned}
 use Rattle.edge.specs.declared.Edge.{Edge}
 use Rattle.curve.specs.Curves.{cut_curve, join_curves}
-use Rattle.curve.specs.declared.Halves.{Halves}
 use Rattle.curve.specs.declared.Parameter.{Parameter}
 use Rattle.wire.specs.Wires.{end_from, find_from, found_reply}
 use Rattle.wire_swaps.specs.Swaps.{swap_edge, swap_subwire}
-use Rattle.wire.specs.declared.Found.{Found}
-use Rattle.wire.specs.declared.Found.TheVariants.{At, Nothing}
 use Rattle.face.specs.Faces.{wire_count}
 use Rattle.pattern.specs.Contents.{Content, limit, zero_edge}
 use Rattle.shell.specs.Openings.{back_in, front_in}
@@ -82,9 +80,9 @@ abbrev pub halves_of : ℕ → ℕ → List ℕ
 halves_of a u = pick (leb 32768 u) (turned (a + 1) ∷ turned a ∷ []) (a ∷ (a + 1) ∷ [])
 
 -- only the first use of the edge is replaced
-abbrev pub swap_found : ℕ → List ℕ → Found → List ℕ
-swap_found a us Nothing = us
-swap_found a us (At i) = swap_edge us i (halves_of a (get_or us i 0))
+abbrev pub swap_found : ℕ → List ℕ → Option ℕ → List ℕ
+swap_found a us None = us
+swap_found a us (Some i) = swap_edge us i (halves_of a (get_or us i 0))
 
 abbrev pub cut_wire : ℕ → ℕ → List ℕ → List ℕ
 cut_wire e a us = swap_found a us (find_from 0 e us)
@@ -94,7 +92,7 @@ abbrev pub cut_wires : Content → ℕ → ℕ → List (List ℕ)
 cut_wires c n e = each_wire (λ (w : ℕ) (us : List ℕ). pick (has w (wires_of c n)) (cut_wire e (length c.edges) us) us) 0 (wires_in c)
 
 -- 27, 14, 15, 16, 17: a face is shared, the point is in the shell, the edge is, what its curve gives, how many edges and uses there are then
-abbrev pub later_faults : Bool → Bool → Bool → Halves → ℕ → ℕ → List EditError
+abbrev pub later_faults : Bool → Bool → Bool → Option (Curve × Curve) → ℕ → ℕ → List EditError
 later_faults shared met there halves edges uses =
     unless (not shared) SharedFace
     ++ unless (not met) VertexInShell
@@ -168,7 +166,7 @@ abbrev pub ending_wires : Content → ℕ → ℕ → List ℕ
 ending_wires c n p = only (λ (w : ℕ). has p (map (back_in c) (outline c w))) (wires_of c n)
 
 -- the place of the first such use
-abbrev pub place_in : Found → ℕ
+abbrev pub place_in : Option ℕ → ℕ
 place_in f = get_or (found_reply f).values 0 0
 
 abbrev pub end_place : Content → ℕ → List ℕ → ℕ

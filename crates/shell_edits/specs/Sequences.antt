@@ -1,11 +1,10 @@
 -- Edits one after the other, each accepted or refused, and the edge numbers they give (FORMAT 4.1).
-use Rattle.std.specs.Prelude.{ℕ, zero, suc, List, [], ◌∷◌, ◌++◌, ◌≡◌, length}
+use Rattle.edge.specs.declared.EdgeID.{EdgeID}
+use Rattle.edit_answers.specs.declared.EditError.{EditError}
+use Rattle.errors.specs.declared.CallError.{CallError}
+use Rattle.std.specs.Prelude.{ℕ, zero, suc, List, [], ◌∷◌, ◌++◌, ◌≡◌, length, Err, Ok, Result}
 use Rattle.curve.specs.declared.Parameter.{Parameter}
 use Rattle.edge.specs.declared.Edge.{Edge}
-use Rattle.edit_answers.specs.declared.CutAnswer.{CutAnswer}
-use Rattle.edit_answers.specs.declared.CutAnswer.TheVariants.{Cut, Not, Refused}
-use Rattle.edit_answers.specs.declared.JoinAnswer.{JoinAnswer}
-use Rattle.edit_answers.specs.declared.JoinAnswer.TheVariants.{Joined, Not as Join-as-Not, Refused as Join-as-Refused}
 use Rattle.pattern.specs.Contents.{Pattern, content}
 use Rattle.shell_edits.specs.Answers.{after_concat, after_cut, after_remove, after_vertex, concat_answer, cut_answer, remove_answer}
 
@@ -35,15 +34,13 @@ do_edits p [] = p
 do_edits p (x ∷ xs) = do_edits (do_edit p x) xs
 
 -- the edge numbers that an answer gives: none if it refuses
-abbrev pub cut_gives : CutAnswer → List ℕ
-cut_gives (Cut a b) = a.0 ∷ b.0 ∷ []
-cut_gives (Refused f) = []
-cut_gives (Not e) = []
+abbrev pub cut_gives : Result (EdgeID × EdgeID) (CallError EditError) → List ℕ
+cut_gives (Ok (a, b)) = a.0 ∷ b.0 ∷ []
+cut_gives (Err e) = []
 
-abbrev pub join_gives : JoinAnswer → List ℕ
-join_gives (Joined a) = a.0 ∷ []
-join_gives (Join-as-Refused f) = []
-join_gives (Join-as-Not e) = []
+abbrev pub join_gives : Result EdgeID (CallError EditError) → List ℕ
+join_gives (Ok a) = a.0 ∷ []
+join_gives (Err e) = []
 
 abbrev pub gives : Pattern → Edit → List ℕ
 gives p (cut n e v at) = cut_gives (cut_answer p n e v at)

@@ -1,21 +1,22 @@
 -- Laws of the flags: of faces, of the listings that name them, of their wires.
 use Prim.Native.Nat.{◌+◌, ◌-◌, ◌<◌, ◌≤◌, suc, zero, ℕ}
 use mathlib.Core.Bool.{Bool, ◌&&◌, ◌||◌, false, not, or-false, or-true, true}
-use mathlib.Core.List.{List, [], ◌++◌, ◌∷◌, map, map-append}
+use mathlib.Core.List.{List, [], ◌++◌, ◌∷◌, append_assoc, map, map-append}
 use mathlib.Core.Logic.{⊎_elim}
 use mathlib.Core.Path.{◌∙◌, ◌≡◌, ap, refl, sym}
 use native.Mathlib.Nat.{suc-add, zero-add, zero-lt-suc}
 use native.Mathlib.Numerals.{add-one}
 use native.Mathlib.Omega.{arith}
 use lib.Dec.{eqb, ltb}
-use lib.ListN.{drop, drop_of_length-le, get_or, get_or-replicate, length, length-append, length-drop, length-replicate, length-set, replicate, set, take}
-use lib.Seq.{drop-cons, ext_get_or, get_or-drop, get_or-set_other, get_or-set_same, get_or-take, length-sets, length-take-le, sets, sets-eq, take_all, take-suc, take-take}
+use lib.ListN.{drop, drop_of_length-le, get_or, length, length-append, length-drop, length-replicate, length-set, replicate, set, take}
+use lib.Seq.{drop-cons, drop-drop, ext_get_or, get_or-drop, get_or-set_other, get_or-set_same, get_or-take, length-sets, length-take-le, sets, sets-eq, take_all, take-suc, take-take}
+use borrow.Rule.Slice.PartMut.{put_mid}
 use borrow.Author.Tests.{eqb-false, eqb-true, ltb-false, ltb-true, ne_eqb}
 use Rattle.lists.proofs.Flat.{get_d_tabulate, tabulate_ext}
 use Rattle.lists.proofs.Laws.{cases, drop_replicate, flat_append, has_append, length_tabulate, map_tabulate, sum_next, sum_take_drop, tabulate_suc}
 use Rattle.lists.proofs.Marks.{disjoint_append, disjoint_nil, disjoint_one}
 use Rattle.lists.proofs.Parts.{flat_one, flat_split}
-use Rattle.lists.proofs.Sets.{sets_append, sets_next}
+use Rattle.lists.proofs.Sets.{sets_append}
 use Rattle.lists.proofs.Split.{Walk, drop_split, drop_take, get_d_split, split_take, take_split, walk_fits, walk_next, walk_start}
 use Rattle.lists.specs.Lists.{disjoint, flat, has, numbers, padded, split, sum, tabulate}
 use Rattle.shell.specs.Shells.{face_number}
@@ -158,27 +159,10 @@ others_are ns xs n e =
 
 -- ---- flags of wires
 
--- a loop that stores a flag n times from `at` on: what it holds after k turns
-pub record Putting (l : List Bool) (at n : ℕ) (b : Bool) (out : List Bool) (k : ℕ) : Type 0 where
-  pub room : at + n ≤ length l
-  pub low : k ≤ n
-  pub is : out ≡ sets l at (take k (replicate n b))
-
-pub putting_start : (l : List Bool) (at n : ℕ) (b : Bool) → at + n ≤ length l → Putting l at n b l 0
-putting_start l at n b h = record { room = h; low = omega arith; is = refl }
-
-module _ (l : List Bool) (at n : ℕ) (b : Bool) (out : List Bool) (k : ℕ) (s : Putting l at n b out k) where
-  pub putting_long : length out ≡ length l
-  putting_long = ap length s.is ∙ length-sets l at (take k (replicate n b))
-
-  pub putting_next : k < n → Putting l at n b (set out (at + k) b) (k + 1)
-  putting_next h =
-      let turn : set (sets l at (take k (replicate n b))) (at + k) b ≡ sets l at (take (k + 1) (replicate n b)) =
-      rw (get_or-replicate n k b false h) at (sets_next l at (replicate n b) k false (omega (arith, length-replicate n b))) in
-      record { room = s.room; low = omega arith; is = rw s.is turn }
-
-  pub putting_all : n ≤ k → out ≡ sets l at (replicate n b)
-  putting_all h = s.is ∙ rw (take_all k (replicate n b) (omega (arith, length-replicate n b)))
+-- a flag is written n times from `at` on
+pub put_all : (l : List Bool) (at n : ℕ) (b : Bool) (m : ℕ) (out : List Bool) → at + n ≤ length l → m ≡ n → out ≡ replicate n b → put_mid at m l out ≡ sets l at (replicate n b)
+put_all l at n b m out h e o =
+    rw (e, o, drop-drop n at l, sets-eq (replicate n b) l at (omega (arith, length-replicate n b)), length-replicate n b) (sym (append_assoc (take at l) (replicate n b) (drop (at + n) l)))
 
 sets_padded : (m : ℕ) (xs : List Bool) → length xs ≤ m → sets (replicate m false) 0 xs ≡ padded m false xs
 sets_padded m xs h =

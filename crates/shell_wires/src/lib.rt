@@ -27,10 +27,8 @@ fn face_flags(listings: &[u16]) -> [bool; 256]
     ensures { result ≡ tabulate 256 (λ (f : ℕ). has f (map face_number listings.now)) }
 {
     let mut out = [false; 256];
-    let mut k: usize = 0;
-    while k < listings.len() {
-        out[index(listings[k] % 32768)] = true;
-        k += 1;
+    for &l in listings {
+        out[index(l % 32768)] = true;
     }
     out
 }
@@ -41,12 +39,10 @@ fn lists_flagged(listings: &[u16], flags: &[bool]) -> bool
     requires flags_len { length flags.now ≡ 256 }
     ensures { result ≡ lists_flagged flags.now listings.now }
 {
-    let mut k: usize = 0;
-    while k < listings.len() {
-        if flags[index(listings[k] % 32768)] {
+    for &l in listings {
+        if flags[index(l % 32768)] {
             return true;
         }
-        k += 1;
     }
     false
 }
@@ -69,11 +65,7 @@ fn put_flags(out: &mut [bool], at: usize, n: usize, flag: bool)
     requires { at + n ≤ length out.old }
     ensures { out.new ≡ sets out.old at (replicate n flag) }
 {
-    let mut k: usize = 0;
-    while k < n {
-        out[at + k] = flag;
-        k += 1;
-    }
+    out[at..at + n].fill(flag);
 }
 
 // The flag of each of the first n faces, once for each of its wires. The rest is false.
@@ -83,12 +75,10 @@ fn wire_flags(flags: &[bool], counts: &[u16], n: usize) -> [bool; 1024]
 {
     let mut out = [false; 1024];
     let mut at: usize = 0;
-    let mut f: usize = 0;
-    while f < n {
+    for f in 0..n {
         let wires = index(counts[f]);
         put_flags(&mut out, at, wires, flags[f]);
         at += wires;
-        f += 1;
     }
     out
 }

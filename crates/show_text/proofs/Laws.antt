@@ -1,4 +1,5 @@
 -- Lines written one after the other, and the text of a file by the branches of the code.
+use Rattle.std.specs.Prelude.{Err, Ok}
 use Prim.Native.Nat.{◌+◌, ◌<◌, ℕ}
 use mathlib.Core.List.{List, [], ◌++◌, ◌∷◌}
 use mathlib.Core.Path.{◌∙◌, ◌≡◌, ap, refl, sym}
@@ -9,7 +10,6 @@ use lib.ListN.{length, length-replicate, replicate}
 use lib.Seq.{length-sets}
 use Rattle.errors.proofs.Laws.{none_left}
 use Rattle.errors.specs.Faults.{first}
-use Rattle.errors.specs.declared.Check.TheVariants.{Accepted, Refused}
 use Rattle.errors.specs.declared.Refusal.{Refusal}
 use Rattle.lists.proofs.Flat.{tabulate_ext}
 use Rattle.lists.proofs.Laws.{flat_append, tabulate_suc}
@@ -58,7 +58,7 @@ module _ (f : ℕ → List ℕ) where
 
 -- ---- the text of a file, by the branches of the code
 
-pub refused_is : (fs : List Refusal) (c : Content) {f : Refusal} → first fs ≡ Refused f → text_of fs c ≡ refusal_line f
+pub refused_is : (fs : List Refusal) (c : Content) {f : Refusal} → first fs ≡ Err f → text_of fs c ≡ refusal_line f
 refused_is [] c h = cc
 refused_is (g ∷ fs) c h = cc
 
@@ -67,7 +67,7 @@ module _ (s : List ℕ) (q : Pattern) (done : q ≡ loaded blank s) (ok : file_f
   full : Full blank
   full = held_full (replicate 12312 0) (replicate 2048 (of_bits binary64 0)) (length-replicate {A = ℕ} 12312 0)
 
-  table : first (table_faults s) ≡ Accepted
+  table : first (table_faults s) ≡ Ok tt
   table = ap first (none_left (table_faults s) (content_faults (file_content s)) ok)
 
   pub read_right : pattern_faults q ≡ []

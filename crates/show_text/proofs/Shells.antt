@@ -1,10 +1,10 @@
 -- The lines of the shells: the listings of each shell lie one after the other in a column.
 use Prim.Native.Nat.{◌*◌, ◌+◌, ◌-◌, ◌<◌, ◌≤◌, ℕ}
 use mathlib.Core.List.{List}
-use mathlib.Core.Path.{◌∙◌, ◌≡◌, ap, sym}
+use mathlib.Core.Path.{◌∙◌, ◌≡◌, ap, refl, sym}
 use native.Mathlib.Omega.{arith}
 use lib.ListN.{drop, get_or, length, length-drop, take}
-use lib.Seq.{get_or-take, length-take-le}
+use lib.Seq.{length-take-le}
 use Rattle.lists.proofs.Sets.{Put}
 use Rattle.lists.proofs.Split.{Walk, walk_fits, walk_next, walk_part, walk_start}
 use Rattle.lists.specs.Lists.{flat, tabulate}
@@ -23,24 +23,26 @@ pub record Shelling (t : List ℕ) (n : ℕ) (l : List ℕ) (at : ℕ) (out : Li
 pub shelling_start : (t : List ℕ) (n : ℕ) (l : List ℕ) (at : ℕ) → Shelling t n l at l at 0 0
 shelling_start t n l at = record { listing = listing_start (shell_held t n) l at; short = omega arith; walk = walk_start (take n (shell_table t)) }
 
+-- the first n numbers of listings, as the code takes them
+pub shells_long : {t shells : List ℕ} {n : ℕ} → length t ≡ 12312 → Shelled t n → shells ≡ shell_table t → length (take n shells) ≡ n
+shells_long {t} {shells} {n} long fit ss =
+    length-take-le n shells (omega (arith, fit.few, ap length ss, part_long t 7688 16 (omega arith)))
+
 module _ {t : List ℕ} {n : ℕ} (long : length t ≡ 12312) (fit : Shelled t n) {l : List ℕ} {at : ℕ} {out : List ℕ} {end first k : ℕ} (v : Shelling t n l at out end first k) where
   abbrev counts : List ℕ
   counts = take n (shell_table t)
 
   counts_long : length counts ≡ n
-  counts_long = length-take-le n (shell_table t) (omega (arith, fit.few, part_long t 7688 16 (omega arith)))
+  counts_long = shells_long long fit refl
 
   module _ {shells listings : List ℕ} (ss : shells ≡ shell_table t) (ls : listings ≡ listing_table t) (h : k < n) where
-    pub shell_there : (k < length shells) × (k < 16)
-    shell_there = (omega (arith, fit.few, ap length ss, part_long t 7688 16 (omega arith)), omega (arith, fit.few))
-
-    module _ {m : ℕ} (read : m ≡ get_or shells k 0) where
+    module _ {m : ℕ} (read : m ≡ get_or (take n shells) k 0) where
       -- the listings of the shell, as the code takes them
       abbrev listed : List ℕ
       listed = take (first + m - first) (drop first listings)
 
       is : m ≡ get_or counts k 0
-      is = read ∙ ap (λ (r : List ℕ). get_or r k 0) ss ∙ sym (get_or-take n (shell_table t) k 0 h)
+      is = read ∙ ap (λ (r : List ℕ). get_or (take n r) k 0) ss
 
       there : k < length counts
       there = omega (arith, counts_long)
@@ -53,7 +55,7 @@ module _ {t : List ℕ} {n : ℕ} (long : length t ≡ 12312) (fit : Shelled t n
           (omega arith, length-take-le (first + m - first) (drop first listings) (omega (arith, length-drop first listings)) ∙ omega arith, most)
 
       pub shell_room : at + 4224 ≤ length l → end + 40 + 7 * length listed ≤ length out
-      shell_room room = omega (arith, v.short, v.listing.long, shell_there.1, shell_fits)
+      shell_room room = omega (arith, v.short, v.listing.long, fit.few, shell_fits)
 
       pub shell_next : (out' : List ℕ) (end' : ℕ) → Put out end (shell_line k listed) out' end' → end' ≤ end + 40 + 7 * length listed → Shelling t n l at out' end' (first + m) (k + 1)
       shell_next out' end' p q =

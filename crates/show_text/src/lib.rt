@@ -12,7 +12,6 @@ ghost use Rattle.show_text.specs.StoreText.{Faced, Shelled, edge_held, face_held
 ghost use Rattle.store.specs.Store.{edge_in, held};
 
 use draft_parts::is_bare;
-use errors::Check;
 use output::{put_refusal, put_text};
 use show_lines::{put_edge, put_face, put_point, put_shell};
 use store::{
@@ -28,10 +27,8 @@ fn put_points(t: &Tables, n: usize, out: &mut [u8], at: usize) -> usize
     ensures { (out.new ≡ sets out.old at (flat (tabulate n (point_held t.now)))) × (result ≡ at + length (flat (tabulate n (point_held t.now)))) × (result ≤ at + 40 * n) }
 {
     let mut end = at;
-    let mut k: usize = 0;
-    while k < n {
+    for k in 0..n {
         end = put_point(out, end, k, label_in(t, k));
-        k += 1;
     }
     end
 }
@@ -43,8 +40,7 @@ fn put_edges(t: &Tables, spans: &Spans, n: usize, out: &mut [u8], at: usize) -> 
     ensures { (out.new ≡ sets out.old at (flat (tabulate n (edge_held t.now spans.now)))) × (result ≡ at + length (flat (tabulate n (edge_held t.now spans.now)))) × (result ≤ at + 96 * n) }
 {
     let mut end = at;
-    let mut k: usize = 0;
-    while k < n {
+    for k in 0..n {
         let e = edge_in(t, spans, k);
         end = put_edge(
             out,
@@ -55,7 +51,6 @@ fn put_edges(t: &Tables, spans: &Spans, n: usize, out: &mut [u8], at: usize) -> 
             f64::to_bits(e.curve.t0),
             f64::to_bits(e.curve.t1),
         );
-        k += 1;
     }
     end
 }
@@ -71,8 +66,7 @@ fn put_faces(t: &Tables, n: usize, out: &mut [u8], at: usize) -> usize
     let mut end = at;
     let mut wire: usize = 0;
     let mut first: usize = 0;
-    let mut k: usize = 0;
-    while k < n {
+    for k in 0..n {
         let face = face_in(t, k);
         let last = wire + index(face.wires);
         let lens = &wires[wire..last];
@@ -80,7 +74,6 @@ fn put_faces(t: &Tables, n: usize, out: &mut [u8], at: usize) -> usize
         end = put_face(out, end, k, face.surface, &uses[first..first + m], lens);
         wire = last;
         first += m;
-        k += 1;
     }
     end
 }
@@ -95,12 +88,10 @@ fn put_shells(t: &Tables, n: usize, out: &mut [u8], at: usize) -> usize
     let listings = listings_in(t);
     let mut end = at;
     let mut first: usize = 0;
-    let mut k: usize = 0;
-    while k < n {
-        let m = index(shells[k]);
+    for (k, count) in shells[..n].iter().enumerate() {
+        let m = index(*count);
         end = put_shell(out, end, k, &listings[first..first + m]);
         first += m;
-        k += 1;
     }
     end
 }
@@ -127,9 +118,8 @@ pub fn show(file: &[u8], text: &mut [u8; 262144]) -> usize
 {
     let mut t = [0u16; TABLES];
     let mut spans = [0.0; SPANS];
-    let checked = read(file, &mut t, &mut spans);
-    match checked {
-        Check::Refused(f) => put_refusal(f, text),
-        Check::Accepted => put_pattern(&t, &spans, text),
+    match read(file, &mut t, &mut spans) {
+        Err(f) => put_refusal(f, text),
+        Ok(()) => put_pattern(&t, &spans, text),
     }
 }

@@ -54,12 +54,10 @@ fn join_wire(parents: &mut [u16], sizes: &mut [u16], edges: usize, wire: &[u16])
     ensures parents_after { parents.new ≡ (joined_all (trees parents.old sizes.old) (corners wire.now)).parents }
     ensures sizes_after { sizes.new ≡ (joined_all (trees parents.old sizes.old) (corners wire.now)).sizes }
 {
-    let mut i: usize = 0;
-    while i < wire.len() {
-        let last = index(last_end(wire[i]));
+    for (i, &u) in wire.iter().enumerate() {
+        let last = index(last_end(u));
         let first = index(first_end(next_use(wire, i)));
         join(parents, sizes, last, first);
-        i += 1;
     }
 }
 
@@ -70,12 +68,10 @@ fn join_wires(parents: &mut [u16], sizes: &mut [u16], edges: usize, uses: &[u16]
     ensures sizes_after { sizes.new ≡ (joined_all (trees parents.old sizes.old) (flat (map corners (split lens.now uses.now)))).sizes }
 {
     let mut at: usize = 0;
-    let mut k: usize = 0;
-    while k < lens.len() {
-        let n = index(lens[k]);
+    for &n in lens {
+        let n = index(n);
         join_wire(parents, sizes, edges, &uses[at..at + n]);
         at += n;
-        k += 1;
     }
 }
 
@@ -144,10 +140,8 @@ fn several_roots(
 {
     let mut roots = [65535u16; 2048];
     let mut any = false;
-    let mut i: usize = 0;
-    while i < uses.len() {
-        any = note_use(uses[i], fronts, backs, parents, &mut roots, several, any);
-        i += 1;
+    for &u in uses {
+        any = note_use(u, fronts, backs, parents, &mut roots, several, any);
     }
     any
 }
@@ -172,10 +166,8 @@ fn put_points(marks: &[bool; 2048], points: usize, out: &mut [u16]) -> usize
     ensures upper_bound { result ≤ points }
 {
     let mut n: usize = 0;
-    let mut p: usize = 0;
-    while p < points {
+    for p in 0..points {
         n = put_point(out, n, p, marks[p]);
-        p += 1;
     }
     n
 }

@@ -1,5 +1,5 @@
 -- The solid (Solid::try_new): each shell in turn, 10, 11, 12, 13 (FORMAT 3.8).
-use Rattle.std.specs.Prelude.{ℕ, Bool, List, [], ◌∷◌, ◌++◌, map, eqb, ltb, get_or, length}
+use Rattle.std.specs.Prelude.{ℕ, Bool, List, [], ◌∷◌, ◌++◌, Result, Ok, Err, map, eqb, ltb, get_or, length}
 use Rattle.lists.specs.Lists.{flat, numbers, unless}
 use Rattle.errors.specs.Numbers.{Reply, done, refused}
 use Rattle.pattern.specs.Contents.{Content}
@@ -9,8 +9,6 @@ use Rattle.shell.specs.Shells.{listings_of, shell_uses}
 use Rattle.shell.specs.Singular.{singular_points}
 use Rattle.solid.specs.declared.ShellError.{ShellError}
 use Rattle.solid.specs.declared.ShellError.TheVariants.{EmptyShell, NotClosedShell, NotConnected, NotManifold}
-use Rattle.solid.specs.declared.SolidCheck.{SolidCheck}
-use Rattle.solid.specs.declared.SolidCheck.TheVariants.{Accepted, Refused}
 use Rattle.solid.specs.declared.SolidError.{SolidError}
 
 abbrev pub reason_number : ShellError → ℕ
@@ -20,12 +18,12 @@ reason_number NotClosedShell = 12
 reason_number NotManifold = 13
 
 -- number and values: the shell's own reason, with the shell
-abbrev pub solid_reply : SolidCheck → Reply
-solid_reply Accepted = done []
-solid_reply (Refused e) = refused (reason_number e.reason) (e.shell ∷ [])
+abbrev pub solid_reply : Result Unit SolidError → Reply
+solid_reply (Ok x) = done []
+solid_reply (Err e) = refused (reason_number e.reason) (e.shell ∷ [])
 
 -- the shell that a refusal names
-abbrev pub solid_shell : SolidCheck → ℕ
+abbrev pub solid_shell : Result Unit SolidError → ℕ
 solid_shell a = get_or (solid_reply a).values 0 0
 
 -- a shell with so many listings, of this condition, with so many singular points
@@ -44,9 +42,9 @@ unfoldable pub solid_errors : Content → List SolidError
 solid_errors c = flat (map (λ (n : ℕ). in_shell n (shell_errors c n)) (numbers (length c.shells)))
 
 -- no shells: accepted
-abbrev pub first_of_solid : List SolidError → SolidCheck
-first_of_solid [] = Accepted
-first_of_solid (e ∷ es) = Refused e
+abbrev pub first_of_solid : List SolidError → Result Unit SolidError
+first_of_solid [] = Ok tt
+first_of_solid (e ∷ es) = Err e
 
-abbrev pub solid_of : Content → SolidCheck
+abbrev pub solid_of : Content → Result Unit SolidError
 solid_of c = first_of_solid (solid_errors c)

@@ -4,8 +4,10 @@
 ghost use Rattle.std.specs.Prelude.{◌≡◌};
 ghost use Rattle.solid.specs.Solid.{errors_of, reason_number};
 ghost use Rattle.solid.specs.Sequence.{and_then, first_error, in_solid};
+ghost use Rattle.errors.specs.declared.CallError.TheVariants.{Refused};
 
 use condition::Condition;
+use errors::CallError;
 
 // A shell's own reason.
 #[derive(Clone, Copy)]
@@ -16,12 +18,6 @@ pub enum ShellError {
     NotManifold,
 }
 
-#[derive(Clone, Copy)]
-pub enum ShellCheck {
-    Fine,
-    Wrong(ShellError),
-}
-
 // A refusal of a solid: the shell's number, and its reason.
 #[derive(Clone, Copy)]
 pub struct SolidError {
@@ -29,21 +25,25 @@ pub struct SolidError {
     pub reason: ShellError,
 }
 
-#[derive(Clone, Copy)]
-pub enum SolidCheck {
-    Accepted,
-    Refused(SolidError),
+impl ShellError {
+    // Document 01's number.
+    pub fn number(self) -> usize
+        ensures { result ≡ reason_number self }
+    {
+        match self {
+            ShellError::EmptyShell => 10,
+            ShellError::NotConnected => 11,
+            ShellError::NotClosedShell => 12,
+            ShellError::NotManifold => 13,
+        }
+    }
 }
 
-// Document 01's number of a reason.
-pub fn reason_number(e: ShellError) -> usize
-    ensures { result ≡ reason_number e }
-{
-    match e {
-        ShellError::EmptyShell => 10,
-        ShellError::NotConnected => 11,
-        ShellError::NotClosedShell => 12,
-        ShellError::NotManifold => 13,
+impl From<SolidError> for CallError<SolidError> {
+    ghost from_gives = { λ e r. r ≡ Refused e };
+
+    fn from(e: SolidError) -> CallError<SolidError> {
+        CallError::Refused(e)
     }
 }
 
@@ -53,41 +53,35 @@ pub fn check_shell(
     connected: bool,
     condition: Condition,
     singular: usize,
-) -> ShellCheck
+) -> Result<(), ShellError>
     ensures { result ≡ first_error (errors_of listings connected condition.0 singular) }
 {
     if listings == 0 {
-        return ShellCheck::Wrong(ShellError::EmptyShell);
+        return Err(ShellError::EmptyShell);
     }
     if !connected {
-        return ShellCheck::Wrong(ShellError::NotConnected);
+        return Err(ShellError::NotConnected);
     }
-    if !condition.is(Condition::CLOSED) {
-        return ShellCheck::Wrong(ShellError::NotClosedShell);
+    if condition != Condition::CLOSED {
+        return Err(ShellError::NotClosedShell);
     }
     if singular != 0 {
-        return ShellCheck::Wrong(ShellError::NotManifold);
+        return Err(ShellError::NotManifold);
     }
-    ShellCheck::Fine
+    Ok(())
 }
 
-impl SolidCheck {
-    // The answer so far, or what is wrong with shell n.
-    pub fn and_shell(self, n: usize, shell: ShellCheck) -> SolidCheck
-        ensures { result ≡ and_then self (in_solid n shell) }
-    {
-        match self {
-            SolidCheck::Refused(e) => {
-                return SolidCheck::Refused(e);
-            }
-            SolidCheck::Accepted => {}
-        }
-        match shell {
-            ShellCheck::Fine => SolidCheck::Accepted,
-            ShellCheck::Wrong(e) => SolidCheck::Refused(SolidError {
-                shell: n,
-                reason: e,
-            }),
-        }
+// The answer so far, or what is wrong with shell n.
+pub fn and_shell(
+    so_far: Result<(), SolidError>,
+    n: usize,
+    shell: Result<(), ShellError>,
+) -> Result<(), SolidError>
+    ensures { result ≡ and_then so_far (in_solid n shell) }
+{
+    so_far?;
+    match shell {
+        Ok(()) => Ok(()),
+        Err(reason) => Err(SolidError { shell: n, reason }),
     }
 }

@@ -210,11 +210,7 @@ fn store_numbers(t: &mut Tables, at: usize, from: &[u16])
     ensures { (length t.old ≡ 12312) × (t.new ≡ sets t.old at from.now) }
 {
     tables_known(t);
-    let mut k: usize = 0;
-    while k < from.len() {
-        t[at + k] = from[k];
-        k += 1;
-    }
+    t[at..at + from.len()].copy_from_slice(from);
 }
 
 // Stores uses from place k on.

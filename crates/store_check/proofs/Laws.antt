@@ -1,4 +1,5 @@
 -- The checks on the store are those of the pattern that it holds.
+use Rattle.std.specs.Prelude.{Err, Ok}
 use Prim.Native.Nat.{ℕ, ◌+◌, ◌<◌, ◌≤◌}
 use mathlib.Core.List.{List, [], map}
 use mathlib.Core.Path.{◌≡◌, ◌∙◌, ap, sym}
@@ -10,7 +11,6 @@ use Rattle.edge.specs.Edges.{back_number, front_number}
 use Rattle.edge.specs.declared.Edge.{Edge}
 use Rattle.errors.proofs.Laws.{Passed, accepted_none, taken_all, taken_next, taken_stop}
 use Rattle.errors.specs.Faults.{each, first}
-use Rattle.errors.specs.declared.Check.TheVariants.{Accepted, Refused}
 use Rattle.errors.specs.declared.Refusal.{Refusal}
 use Rattle.lists.proofs.Flat.{get_d_tabulate}
 use Rattle.lists.proofs.Laws.{length_tabulate}
@@ -39,13 +39,13 @@ module _ (t : List ℕ) (spans : List Float) (points n k : ℕ) (few : n ≤ 102
     same : x ≡ get_or all k no_edge
     same = is ∙ sym (get_d_tabulate 1024 (edge_in t spans) k no_edge (omega arith))
 
-    pub edges_next : first (edge_faults points k x) ≡ Accepted → Passed (edge_faults points) no_edge (take n all) 0 (k + 1)
+    pub edges_next : first (edge_faults points k x) ≡ Ok tt → Passed (edge_faults points) no_edge (take n all) 0 (k + 1)
     edges_next a = taken_next (edge_faults points) no_edge all n fit k s h (rw same at a)
 
-    pub edges_stop : (r : Refusal) → first (edge_faults points k x) ≡ Refused r → Refused r ≡ first (each (edge_faults points) 0 (take n all))
+    pub edges_stop : (r : Refusal) → first (edge_faults points k x) ≡ Err r → Err r ≡ first (each (edge_faults points) 0 (take n all))
     edges_stop r a = sym (taken_stop (edge_faults points) no_edge all n fit k s h r (rw same at a))
 
-  pub edges_all : n ≤ k → Accepted ≡ first (each (edge_faults points) 0 (take n all))
+  pub edges_all : n ≤ k → Ok tt ≡ first (each (edge_faults points) 0 (take n all))
   edges_all h = ap first (sym (taken_all (edge_faults points) no_edge all n fit k s h))
 
 -- ---- the records
@@ -57,10 +57,10 @@ module _ (t : List ℕ) (spans : List Float) (long : length t ≡ 12312) (ok : c
   pub held_limits : Limited P.counts
   held_limits = limited P.counts (held_seven t spans long) ok
 
-  pub edges_wrong : (r : Refusal) → first (edge_faults_lem P) ≡ Refused r → Refused r ≡ first (content_faults (content P))
+  pub edges_wrong : (r : Refusal) → first (edge_faults_lem P) ≡ Err r → Err r ≡ first (content_faults (content P))
   edges_wrong r h = sym (edge_refused P held_limits (held_full t spans long) r h)
 
-  module _ (right : first (edge_faults_lem P) ≡ Accepted) where
+  module _ (right : first (edge_faults_lem P) ≡ Ok tt) where
     abbrev front : take (get_or P.counts 1 0) (front_table t) ≡ take (get_or P.counts 1 0) (map front_number P.edges)
     front = ap (take (get_or P.counts 1 0)) (held_fronts t spans long)
 

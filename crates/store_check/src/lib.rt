@@ -9,8 +9,8 @@ ghost use Rattle.pattern.specs.Contents.{content};
 ghost use Rattle.pattern.specs.Outlines.{wire_place};
 ghost use Rattle.store.specs.Store.{count_table, edge_in, held};
 
-use errors::Check;
-use pattern::{WirePlace, check_columns, check_counts, check_edge};
+use errors::{CallError, NotThere, Refusal};
+use pattern::{check_columns, check_counts, check_edge};
 use store::{
     Spans, Tables, backs_in, counts_in, edge_in, faces_in, fronts_in, listings_in, shells_in,
     tables_known, uses_in, wires_in,
@@ -18,74 +18,58 @@ use store::{
 use words::{index, sum_of};
 
 // Checks the first n edges.
-fn check_edges(t: &Tables, spans: &Spans, n: usize, points: usize) -> Check
+fn check_edges(t: &Tables, spans: &Spans, n: usize, points: usize) -> Result<(), Refusal>
     requires { n ≤ 1024 }
     ensures { result ≡ firstFault (each (edge_faults points) 0 (take n (tabulate 1024 (edge_in t.now spans.now)))) }
 {
-    let mut k: usize = 0;
-    while k < n {
-        let answer = check_edge(edge_in(t, spans, k), k, points);
-        match answer {
-            Check::Refused(f) => {
-                return Check::Refused(f);
-            }
-            Check::Accepted => {}
-        }
-        k += 1;
+    for k in 0..n {
+        check_edge(edge_in(t, spans, k), k, points)?;
     }
-    Check::Accepted
+    Ok(())
 }
 
 // The reading checks after the counts.
-pub fn check_records(t: &Tables, spans: &Spans) -> Check
+pub fn check_records(t: &Tables, spans: &Spans) -> Result<(), Refusal>
     requires { count_faults (count_table t.now) ≡ [] }
     ensures { result ≡ firstFault (content_faults (content (held t.now spans.now))) }
 {
     tables_known(t);
     let counts = counts_in(t);
-    let edges = check_edges(t, spans, counts[1], counts[0]);
-    match edges {
-        Check::Refused(f) => Check::Refused(f),
-        Check::Accepted => check_columns(
-            counts,
-            fronts_in(t),
-            backs_in(t),
-            uses_in(t),
-            wires_in(t),
-            faces_in(t),
-            shells_in(t),
-            listings_in(t),
-        ),
-    }
+    check_edges(t, spans, counts[1], counts[0])?;
+    check_columns(
+        counts,
+        fronts_in(t),
+        backs_in(t),
+        uses_in(t),
+        wires_in(t),
+        faces_in(t),
+        shells_in(t),
+        listings_in(t),
+    )
 }
 
 // The reading checks, which every call on a pattern in the store makes first.
-pub fn check(t: &Tables, spans: &Spans) -> Check
+pub fn check(t: &Tables, spans: &Spans) -> Result<(), Refusal>
     ensures { result ≡ firstFault (pattern_faults (held t.now spans.now)) }
 {
-    let answer = check_counts(counts_in(t));
-    match answer {
-        Check::Refused(f) => Check::Refused(f),
-        Check::Accepted => check_records(t, spans),
-    }
+    check_counts(counts_in(t))?;
+    check_records(t, spans)
 }
 
 // The place of an outline in the use list: `wire::outline` hands back that part of it.
-pub fn wire_place(t: &Tables, spans: &Spans, w: usize) -> WirePlace
+pub fn wire_place(
+    t: &Tables,
+    spans: &Spans,
+    w: usize,
+) -> Result<(usize, usize), CallError<NotThere>>
     ensures { result ≡ wire_place (held t.now spans.now) w }
 {
     tables_known(t);
-    let answer = check(t, spans);
-    match answer {
-        Check::Refused(f) => {
-            return WirePlace::Refused(f);
-        }
-        Check::Accepted => {}
-    }
+    check(t, spans)?;
     let counts = counts_in(t);
     if w >= counts[3] {
-        return WirePlace::NoWire;
+        return Err(CallError::Refused(NotThere));
     }
     let wires = wires_in(t);
-    WirePlace::At(sum_of(wires, w), index(wires[w]))
+    Ok((sum_of(wires, w), index(wires[w])))
 }

@@ -1,4 +1,5 @@
 -- A file read into a store of zeros.
+use Rattle.std.specs.Prelude.{Err, Ok}
 use Prim.Native.Nat.{ℕ, zero, suc, ◌+◌, ◌*◌, ◌<◌, ◌≤◌}
 use mathlib.Core.List.{List, [], ◌∷◌, ◌++◌}
 use mathlib.Core.Path.{◌≡◌, ◌∙◌, ap, refl, sym}
@@ -9,7 +10,6 @@ use lib.Seq.{sets, sets-eq}
 use Rattle.edge.specs.Edges.{edge}
 use Rattle.errors.proofs.Laws.{accepted_none, refused_first}
 use Rattle.errors.specs.Faults.{first}
-use Rattle.errors.specs.declared.Check.TheVariants.{Accepted, Refused}
 use Rattle.errors.specs.declared.Refusal.{Refusal}
 use Rattle.pattern_table.proofs.Laws.{counts_of_content, table_counts}
 use Rattle.lists.proofs.Flat.{tabulate_ext}
@@ -87,11 +87,11 @@ stored_blank c l = λ i. record {
 }
 
 -- a file whose table is wrong is refused
-pub table_refused : (s : List ℕ) (f : Refusal) → first (table_faults s) ≡ Refused f → check_of s ≡ Refused f
+pub table_refused : (s : List ℕ) (f : Refusal) → first (table_faults s) ≡ Err f → check_of s ≡ Err f
 table_refused s f h = refused_first (table_faults s) (content_faults (file_content s)) f h
 
 -- after a file whose table is right, the store of zeros holds its pattern, whose checks are those of the file
-module _ (s : List ℕ) (q : Pattern) (done : q ≡ loaded blank s) (right : first (table_faults s) ≡ Accepted) where
+module _ (s : List ℕ) (q : Pattern) (done : q ≡ loaded blank s) (right : first (table_faults s) ≡ Ok tt) where
   none : table_faults s ≡ []
   none = accepted_none (table_faults s) right
 

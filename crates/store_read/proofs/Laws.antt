@@ -1,4 +1,5 @@
 -- What the proofs of reading into the store cite.
+use Rattle.std.specs.Prelude.{Err, Ok}
 use Prim.Native.Nat.{ℕ, zero, suc, ◌+◌, ◌<◌, ◌≤◌}
 use Rattle.pattern.proofs.Counts.{Full, Limited}
 use mathlib.Core.List.{List, [], ◌∷◌, ◌++◌}
@@ -13,7 +14,6 @@ use Rattle.edge.specs.declared.Edge.{Edge}
 use Rattle.face.specs.declared.Face.{Face}
 use Rattle.errors.proofs.Laws.{accepted_none}
 use Rattle.errors.specs.Faults.{first}
-use Rattle.errors.specs.declared.Check.TheVariants.{Accepted, Refused}
 use Rattle.errors.specs.declared.Refusal.{Refusal}
 use Rattle.pattern_table.proofs.Laws.{counts_of_content, table_counts}
 use Rattle.pattern.specs.Checks.{content_faults, count_faults, pattern_faults}
@@ -119,7 +119,7 @@ filled_view c p p₀ p₁ p₂ p₃ p₄ p₅ p₆ p₇ cs ls es us ws fs ss gs 
 -- ---- the contents table, then the content
 
 -- the store after a refusal, and after none
-pub loaded_kept : (fs : List Refusal) (f : Refusal) (p : Pattern) (c : Content) → first fs ≡ Refused f → p ≡ loaded_in fs p c
+pub loaded_kept : (fs : List Refusal) (f : Refusal) (p : Pattern) (c : Content) → first fs ≡ Err f → p ≡ loaded_in fs p c
 loaded_kept [] f p c h = cc
 loaded_kept (g ∷ fs) f p c h = refl
 
@@ -127,7 +127,7 @@ pub loaded_all : (fs : List Refusal) (p : Pattern) (c : Content) → fs ≡ [] �
 loaded_all fs p c h = rw h
 
 -- a store after a file whose table is right was read into it
-module _ (s : List ℕ) (p q : Pattern) (full : Full p) (done : q ≡ loaded p s) (right : first (table_faults s) ≡ Accepted) where
+module _ (s : List ℕ) (p q : Pattern) (full : Full p) (done : q ≡ loaded p s) (right : first (table_faults s) ≡ Ok tt) where
   none : table_faults s ≡ []
   none = accepted_none (table_faults s) right
 

@@ -16,9 +16,9 @@ ghost use Rattle.pattern.specs.Contents.{stored_in};
 ghost use Rattle.store.specs.Columns.{with_counts, with_edges, with_faces, with_points};
 
 use edge::{Curve, Edge};
-use errors::Check;
+use errors::Refusal;
 use face::Face;
-use pattern::{BODIES, Counts};
+use pattern::Counts;
 use pattern_file::starts_of;
 use pattern_table::{check_table, counts_of};
 use store::{
@@ -74,10 +74,8 @@ fn read_numbers(s: &[u8], at: usize, n: usize, t: &mut Tables, to: usize)
     ensures { (length t.old ≡ 12312) × (t.new ≡ sets t.old to (tabulate n (λ (k : ℕ). le16 s.now (at + 2 * k)))) }
 {
     tables_known(t);
-    let mut k: usize = 0;
-    while k < n {
+    for k in 0..n {
         t[to + k] = u16_at(s, at + 2 * k);
-        k += 1;
     }
 }
 
@@ -86,10 +84,8 @@ fn read_counts(counts: Counts, t: &mut Tables)
     ensures { (spans : List Float) → held t.new spans ≡ with_counts (held t.old spans) counts }
 {
     tables_known(t);
-    let mut b: usize = 0;
-    while b < BODIES {
-        store_count(t, b, counts[b] as u16);
-        b += 1;
+    for (b, count) in counts.iter().enumerate() {
+        store_count(t, b, *count as u16);
     }
 }
 
@@ -97,10 +93,8 @@ fn read_labels(s: &[u8], at: usize, n: usize, t: &mut Tables)
     requires { (at + 4 * n ≤ length s.now) × (n ≤ 2048) }
     ensures { (spans : List Float) → held t.new spans ≡ with_points (held t.old spans) (sets (held t.old spans).points 0 (tabulate n (λ (k : ℕ). le32 s.now (at + 4 * k)))) }
 {
-    let mut k: usize = 0;
-    while k < n {
+    for k in 0..n {
         store_label(t, k, u32_at(s, at + 4 * k));
-        k += 1;
     }
 }
 
@@ -108,10 +102,8 @@ fn read_edges(s: &[u8], at: usize, n: usize, t: &mut Tables, spans: &mut Spans)
     requires { (at + 20 * n ≤ length s.now) × (n ≤ 1024) }
     ensures { held t.new spans.new ≡ with_edges (held t.old spans.old) (sets (held t.old spans.old).edges 0 (tabulate n (λ (k : ℕ). edge_at s.now (at + 20 * k)))) }
 {
-    let mut k: usize = 0;
-    while k < n {
+    for k in 0..n {
         store_edge(t, spans, k, edge_at(s, at + 20 * k));
-        k += 1;
     }
 }
 
@@ -119,10 +111,8 @@ fn read_faces(s: &[u8], at: usize, n: usize, t: &mut Tables)
     requires { (at + 4 * n ≤ length s.now) × (n ≤ 256) }
     ensures { (spans : List Float) → held t.new spans ≡ with_faces (held t.old spans) (sets (held t.old spans).faces 0 (tabulate n (λ (k : ℕ). face_at s.now (at + 4 * k)))) }
 {
-    let mut k: usize = 0;
-    while k < n {
+    for k in 0..n {
         store_face(t, k, face_at(s, at + 4 * k));
-        k += 1;
     }
 }
 
@@ -145,29 +135,21 @@ fn read_content(s: &[u8], t: &mut Tables, spans: &mut Spans)
 
 // Reads a file into the store, unless its contents table is wrong; then the store is as it was. The
 // checks of what was read are those of the store.
-pub fn load(s: &[u8], t: &mut Tables, spans: &mut Spans) -> Check
+pub fn load(s: &[u8], t: &mut Tables, spans: &mut Spans) -> Result<(), Refusal>
     ensures value { result ≡ firstFault (table_faults s.now) }
     ensures spans_after { held t.new spans.new ≡ loaded (held t.old spans.old) s.now }
 {
-    let table = check_table(s);
-    match table {
-        Check::Refused(f) => Check::Refused(f),
-        Check::Accepted => {
-            read_content(s, t, spans);
-            Check::Accepted
-        }
-    }
+    check_table(s)?;
+    read_content(s, t, spans);
+    Ok(())
 }
 
 // Reads a file into the store, and checks it.
-pub fn read(s: &[u8], t: &mut Tables, spans: &mut Spans) -> Check
+pub fn read(s: &[u8], t: &mut Tables, spans: &mut Spans) -> Result<(), Refusal>
     ensures value { result ≡ firstFault (file_faults s.now) }
     ensures spans_after { held t.new spans.new ≡ loaded (held t.old spans.old) s.now }
 {
     tables_known(t);
-    let table = load(s, t, spans);
-    match table {
-        Check::Refused(f) => Check::Refused(f),
-        Check::Accepted => check_records(t, spans),
-    }
+    load(s, t, spans)?;
+    check_records(t, spans)
 }

@@ -1,4 +1,5 @@
 -- Reading what was written gives the pattern back, and writing what was read gives the file's bytes back.
+use Rattle.std.specs.Prelude.{Ok}
 use Prim.Native.Nat.{◌<◌, ◌≤◌, ℕ}
 use mathlib.Core.List.{List, [], ◌++◌}
 use mathlib.Core.Path.{◌∙◌, ◌≡◌, ap, refl}
@@ -7,7 +8,6 @@ use lib.Seq.{take-append_seam}
 use borrow.Author.Tests.{le-leb}
 use Rattle.errors.proofs.Laws.{none_left}
 use Rattle.errors.specs.Faults.{first}
-use Rattle.errors.specs.declared.Check.TheVariants.{Accepted}
 use Rattle.errors.specs.declared.Refusal.{Refusal}
 use Rattle.pattern.proofs.Counts.{Full}
 use Rattle.pattern.proofs.Passed.{pattern_passed}
@@ -20,11 +20,10 @@ use Rattle.store_read.proofs.Fresh.{blank, fresh_faults}
 use Rattle.store_read.specs.Loading.{check_of, loaded, pattern_of}
 use Rattle.store_write.proofs.Parts.{counts_same}
 use Rattle.store_write.specs.Writing.{write_answer, write_bytes, written, written_bytes}
-use Rattle.store_write.specs.declared.Written.TheVariants.{Length}
 
 -- what reading makes of a file: the answer of the checks, and the pattern
 abbrev Accepts : List ℕ → Pattern → Type 0
-Accepts s q = (check_of s ≡ Accepted) × (pattern_of s ≡ q)
+Accepts s q = (check_of s ≡ Ok tt) × (pattern_of s ≡ q)
 
 -- what reading makes of the bytes that `write` wrote for an accepted pattern: its content, in storage; `Full` and `Fits` hold of every pattern that a store holds
 pub read_back : (p : Pattern) → Full p → length p.counts ≡ 7 → pattern_faults p ≡ [] → Fits (content p) → Accepts (file_bytes (content p)) (stored (content p))
@@ -35,7 +34,7 @@ read_back p full seven ok small =
     (ap first back.0, ap stored back.1)
 
 whole : (fs : List Refusal) (file s out : List ℕ) → fs ≡ [] → file ≡ s → length s ≤ length out
-    → (write_answer fs file out ≡ Length (length s)) × (write_bytes fs file out ≡ s ++ drop (length s) out)
+    → (write_answer fs file out ≡ (Ok (length s))) × (write_bytes fs file out ≡ s ++ drop (length s) out)
 whole fs file s out e f room = rw (e, f, le-leb (length s) (length out) room) (refl, refl)
 
 -- reading what was written: of the bytes that `write` left in a slice that is long enough, the first `length file` are read back
@@ -56,7 +55,7 @@ passes s ok =
 
 -- what `write` makes of the pattern that was read from an accepted file: the file's bytes, then the rest of the slice
 pub written_back : (s out : List ℕ) → ((k : ℕ) → get_or s k 0 < 256) → file_faults s ≡ [] → length s ≤ length out
-    → (written (pattern_of s) out ≡ Length (length s)) × (written_bytes (pattern_of s) out ≡ s ++ drop (length s) out)
+    → (written (pattern_of s) out ≡ (Ok (length s))) × (written_bytes (pattern_of s) out ≡ s ++ drop (length s) out)
 written_back s out bytes ok room =
     let same = content_of_stored (file_content s) in
     let file = written_of_read s bytes ok in

@@ -1,4 +1,6 @@
 -- The contents table entry by entry, and the three answers of `write`.
+use Rattle.errors.specs.declared.CallError.TheVariants.{Refused, Unread}
+use Rattle.std.specs.Prelude.{Err, Ok}
 use Prim.Native.Nat.{◌*◌, ◌+◌, ◌<◌, ◌≤◌, ℕ}
 use mathlib.Core.List.{List, [], ◌++◌, ◌∷◌}
 use mathlib.Core.Path.{◌∙◌, ◌≡◌, refl}
@@ -8,7 +10,6 @@ use lib.ListN.{drop, get_or, length, take}
 use lib.Seq.{sets, take_all}
 use borrow.Author.Tests.{le-leb, lt-leb}
 use Rattle.errors.specs.Faults.{first}
-use Rattle.errors.specs.declared.Check.TheVariants.{Refused}
 use Rattle.errors.specs.declared.Refusal.{Refusal}
 use Rattle.lists.proofs.Flat.{get_d_tabulate}
 use Rattle.lists.proofs.Laws.{length_tabulate, map_tabulate}
@@ -19,8 +20,7 @@ use Rattle.pattern_file.proofs.Places.{count_small, start_small}
 use Rattle.pattern_file.proofs.Records.{entry_bytes}
 use Rattle.pattern_file.specs.File.{start_of, table_bytes}
 use Rattle.words.specs.Words.{bytes32}
-use Rattle.store_write.specs.Writing.{write_answer, write_bytes}
-use Rattle.store_write.specs.declared.Written.TheVariants.{Length, NoSpace, Refused as WriteRefused}
+use Rattle.store_write.specs.Writing.{write_answer, write_bytes, no_space}
 
 -- ---- the contents table
 
@@ -62,15 +62,15 @@ module _ (ns l out : List ℕ) (b : ℕ) (s : Laid entry_bytes 8 l 0 (entries ns
 -- ---- the answers
 
 module _ (file out : List ℕ) where
-  pub write_refused : (fs : List Refusal) (f : Refusal) → first fs ≡ Refused f
-      → (WriteRefused f ≡ write_answer fs file out) × (out ≡ write_bytes fs file out)
+  pub write_refused : (fs : List Refusal) (f : Refusal) → first fs ≡ Err f
+      → ((Err (Unread f)) ≡ write_answer fs file out) × (out ≡ write_bytes fs file out)
   write_refused [] f e = absurd (let z : ◌≡◌ {A = ℕ} 0 1 = cc in omega arith)
   write_refused (g ∷ fs) f e = (cc, refl)
 
   module _ (fs : List Refusal) (ok : fs ≡ []) where
-    pub write_short : (n : ℕ) → length out < length file → n ≡ length file → (NoSpace n ≡ write_answer fs file out) × (out ≡ write_bytes fs file out)
+    pub write_short : (n : ℕ) → length out < length file → n ≡ length file → ((Err (Refused (no_space n))) ≡ write_answer fs file out) × (out ≡ write_bytes fs file out)
     write_short n h e = (rw (ok, lt-leb (length file) (length out) h, e), rw (ok, lt-leb (length file) (length out) h))
 
     pub write_whole : (n : ℕ) (out' : List ℕ) → length file ≤ length out → n ≡ length file → out' ≡ file ++ drop (length file) out
-        → (Length n ≡ write_answer fs file out) × (out' ≡ write_bytes fs file out)
+        → ((Ok n) ≡ write_answer fs file out) × (out' ≡ write_bytes fs file out)
     write_whole n out' h e w = (rw (ok, le-leb (length file) (length out) h, e), rw (ok, le-leb (length file) (length out) h) w)

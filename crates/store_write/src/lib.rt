@@ -13,7 +13,7 @@ ghost use Rattle.store.specs.Store.{count_table, edge_in, face_in, held, label_i
 ghost use Rattle.store_write.specs.Writing.{write_answer, write_bytes, written, written_bytes};
 
 use edge::Edge;
-use errors::{Check, Refusal};
+use errors::CallError;
 use face::Face;
 use pattern::{BODIES, Counts, Starts};
 use pattern_file::starts_of;
@@ -24,13 +24,10 @@ use store::{
 use store_check::check;
 use words::{put_u16, put_u32, put_u64};
 
-// The answer: the length of the file, the refusal of the reading checks, or no space (17) with the
-// length that the file needs.
+// 17: the slice is shorter than the file, which needs this length.
 #[derive(Clone, Copy)]
-pub enum Written {
-    Length(usize),
-    Refused(Refusal),
-    NoSpace(usize),
+pub struct NoSpace {
+    pub needed: usize,
 }
 
 // Writes the first n numbers, of two bytes each, from `at` on.
@@ -38,10 +35,8 @@ fn put_u16s(out: &mut [u8], at: usize, ns: &[u16], n: usize)
     requires { (at + 2 * n ≤ length out.old) × (n ≤ length ns.now) }
     ensures { out.new ≡ sets out.old at (flat (map bytes16 (take n ns.now))) }
 {
-    let mut k: usize = 0;
-    while k < n {
-        put_u16(out, at + 2 * k, ns[k]);
-        k += 1;
+    for (k, x) in ns[..n].iter().enumerate() {
+        put_u16(out, at + 2 * k, *x);
     }
 }
 
@@ -50,10 +45,8 @@ fn put_labels(out: &mut [u8], at: usize, t: &Tables, n: usize)
     requires { (at + 4 * n ≤ length out.old) × (n ≤ 2048) }
     ensures { out.new ≡ sets out.old at (flat (map bytes32 (take n (tabulate 2048 (label_in t.now))))) }
 {
-    let mut k: usize = 0;
-    while k < n {
+    for k in 0..n {
         put_u32(out, at + 4 * k, label_in(t, k));
-        k += 1;
     }
 }
 
@@ -74,10 +67,8 @@ fn put_edges(out: &mut [u8], at: usize, t: &Tables, spans: &Spans, n: usize)
     requires by_index { (k : ℕ) → k < n → is_span (edge_in t.now spans.now k).curve ≡ true }
     ensures { out.new ≡ sets out.old at (flat (map edge_bytes (take n (tabulate 1024 (edge_in t.now spans.now))))) }
 {
-    let mut k: usize = 0;
-    while k < n {
+    for k in 0..n {
         put_edge(out, at + 20 * k, edge_in(t, spans, k));
-        k += 1;
     }
 }
 
@@ -95,10 +86,8 @@ fn put_faces(out: &mut [u8], at: usize, t: &Tables, n: usize)
     requires { (at + 4 * n ≤ length out.old) × (n ≤ 256) }
     ensures { out.new ≡ sets out.old at (flat (map face_bytes (take n (tabulate 256 (face_in t.now))))) }
 {
-    let mut k: usize = 0;
-    while k < n {
+    for k in 0..n {
         put_face(out, at + 4 * k, face_in(t, k));
-        k += 1;
     }
 }
 
@@ -116,10 +105,8 @@ fn put_table(out: &mut [u8], counts: Counts, starts: Starts)
     requires { (56 ≤ length out.old) × (count_faults counts ≡ []) × (starts ≡ tabulate 8 (start_of counts)) }
     ensures { out.new ≡ sets out.old 0 (table_bytes counts) }
 {
-    let mut b: usize = 0;
-    while b < BODIES {
+    for b in 0..BODIES {
         put_entry(out, 8 * b, starts[b], counts[b]);
-        b += 1;
     }
 }
 
@@ -141,26 +128,25 @@ fn write_content(t: &Tables, spans: &Spans, starts: Starts, out: &mut [u8])
 }
 
 // Writes the file of a pattern without fault: 17 if the slice is shorter than the file.
-pub fn put_file(t: &Tables, spans: &Spans, out: &mut [u8]) -> Written
+pub fn put_file(t: &Tables, spans: &Spans, out: &mut [u8]) -> Result<usize, CallError<NoSpace>>
     requires { pattern_faults (held t.now spans.now) ≡ [] }
     ensures { (result ≡ write_answer [] (file_bytes (content (held t.now spans.now))) out.old) × (out.new ≡ write_bytes [] (file_bytes (content (held t.now spans.now))) out.old) }
 {
     tables_known(t);
     let starts = starts_of(counts_in(t));
     if out.len() < starts[BODIES] {
-        return Written::NoSpace(starts[BODIES]);
+        return Err(CallError::Refused(NoSpace {
+            needed: starts[BODIES],
+        }));
     }
     write_content(t, spans, starts, out);
-    Written::Length(starts[BODIES])
+    Ok(starts[BODIES])
 }
 
 // Writes the file of a pattern: the reading checks first, then 17 if the slice is shorter than the file.
-pub fn write(t: &Tables, spans: &Spans, out: &mut [u8]) -> Written
+pub fn write(t: &Tables, spans: &Spans, out: &mut [u8]) -> Result<usize, CallError<NoSpace>>
     ensures { (result ≡ written (held t.now spans.now) out.old) × (out.new ≡ written_bytes (held t.now spans.now) out.old) }
 {
-    let answer = check(t, spans);
-    match answer {
-        Check::Refused(f) => Written::Refused(f),
-        Check::Accepted => put_file(t, spans, out),
-    }
+    check(t, spans)?;
+    put_file(t, spans, out)
 }

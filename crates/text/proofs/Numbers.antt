@@ -1,4 +1,5 @@
 -- Laws of numbers, uses and names in words.
+use Rattle.std.specs.Prelude.{None, Option, Some}
 use Prim.Native.Nat.{◌*◌, ◌+◌, ◌-◌, ◌<◌, ◌^◌, ◌≤◌, min, suc, ℕ}
 use mathlib.Core.Bool.{◌&&◌, and-false, false, true}
 use mathlib.Core.List.{List, [], ◌∷◌}
@@ -13,8 +14,6 @@ use lib.Seq.{drop-cons}
 use borrow.Author.Tests.{le-leb, leb-true, lt-leb, ne_eqb}
 use Rattle.lists.proofs.Laws.{cases, left_true, right_true}
 use Rattle.text.specs.Tokens.{all_digits, is_digit, name, name_after, number, signed, signed_number, value_after}
-use Rattle.text.specs.declared.Token.{Token}
-use Rattle.text.specs.declared.Token.TheVariants.{Not, Value}
 
 pub digit_is : (b : ℕ) → 48 ≤ b → b ≤ 57 → is_digit b ≡ true
 digit_is b h l = rw (le-leb 48 b h, le-leb b 57 l)
@@ -26,19 +25,19 @@ pub digit_high : (b : ℕ) → 57 < b → is_digit b ≡ false
 digit_high b h = rw (lt-leb b 57 h, and-false)
 
 -- one to nine digits
-pub number_empty : (w : List ℕ) → length w ≡ 0 → number w ≡ Not
+pub number_empty : (w : List ℕ) → length w ≡ 0 → number w ≡ None
 unfolding number
 number_empty w h = rw h
 
-pub number_long : (w : List ℕ) → 9 < length w → number w ≡ Not
+pub number_long : (w : List ℕ) → 9 < length w → number w ≡ None
 unfolding number
 number_long w h = rw (le-leb 1 (length w) (omega arith), lt-leb (length w) 9 h)
 
-number_not : (w : List ℕ) → all_digits w ≡ false → number w ≡ Not
+number_not : (w : List ℕ) → all_digits w ≡ false → number w ≡ None
 unfolding number
 number_not w h = rw (h, and-false)
 
-number_is : (w : List ℕ) → 1 ≤ length w → length w ≤ 9 → all_digits w ≡ true → number w ≡ Value (value_after 0 w)
+number_is : (w : List ℕ) → 1 ≤ length w → length w ≤ 9 → all_digits w ≡ true → number w ≡ Some (value_after 0 w)
 unfolding number
 number_is w h l a = rw (le-leb 1 (length w) h, le-leb (length w) 9 l, a)
 
@@ -78,11 +77,11 @@ module _ {w : List ℕ} {n i : ℕ} (s : Digits 0 w n i) where
   pub number_small : i ≤ 9 → n < 1000000000
   number_small h = omega (arith, s.small, pow-le-pow_right {n = 10} (omega arith) h)
 
-  pub number_stop : i < length w → is_digit (get_or w i 0) ≡ false → number w ≡ Not
+  pub number_stop : i < length w → is_digit (get_or w i 0) ≡ false → number w ≡ None
   number_stop h a = number_not w (digits_stop s h a)
 
-  pub number_all : 1 ≤ length w → length w ≤ 9 → length w ≤ i → number w ≡ Value n
-  number_all h l e = let d = digits_all s e in number_is w h l d.0 ∙ ap Value d.1
+  pub number_all : 1 ≤ length w → length w ≤ 9 → length w ≤ i → number w ≡ Some n
+  number_all h l e = let d = digits_all s e in number_is w h l d.0 ∙ ap Some d.1
 
 -- the digits w after those of n: how large a number they can make
 pub value_below : (n : ℕ) (w : List ℕ) → all_digits w ≡ true → value_after n w + 1 ≤ (n + 1) * 10 ^ length w
@@ -97,7 +96,7 @@ value_below n (b ∷ w) h =
     omega (arith, value_below (n * 10 + (b - 48)) w (right_true (is_digit b) (all_digits w) h), mul-le-mul_right (10 ^ length w) m)
 
 -- a number has at most nine digits
-pub number_below : (w : List ℕ) (m : ℕ) → number w ≡ Value m → m < 1000000000
+pub number_below : (w : List ℕ) (m : ℕ) → number w ≡ Some m → m < 1000000000
 unfolding number
 number_below w m =
     let test = leb 1 (length w) && leb (length w) 9 && all_digits w in
@@ -105,8 +104,8 @@ number_below w m =
     (λ (h : test ≡ true).
     let few = leb-true (length w) 9 (right_true (leb 1 (length w)) (leb (length w) 9) (left_true (leb 1 (length w) && leb (length w) 9) (all_digits w) h)) in
     let below = value_below 0 w (right_true (leb 1 (length w) && leb (length w) 9) (all_digits w) h) in
-    rw h (λ (e : Value (value_after 0 w) ≡ Value m). let v : value_after 0 w ≡ m = cc in omega (arith, pow-le-pow_right {n = 10} (omega arith) few)))
-    (λ (h : test ≡ false). rw h (λ (e : Not ≡ Value m). absurd (let z : ◌≡◌ {A = ℕ} 0 1 = cc in omega arith)))
+    rw h (λ (e : (Some (value_after 0 w)) ≡ Some m). let v : value_after 0 w ≡ m = cc in omega (arith, pow-le-pow_right {n = 10} (omega arith) few)))
+    (λ (h : test ≡ false). rw h (λ (e : None ≡ Some m). absurd (let z : ◌≡◌ {A = ℕ} 0 1 = cc in omega arith)))
     (cases test)
 
 -- ---- names
@@ -142,26 +141,26 @@ module _ {w : List ℕ} {n i : ℕ} (s : Named w n i) where
 
 -- ---- uses and listings
 
-pub signed_empty : (w : List ℕ) → length w ≡ 0 → signed w ≡ Not
+pub signed_empty : (w : List ℕ) → length w ≡ 0 → signed w ≡ None
 unfolding signed number
 signed_empty [] h = refl
 signed_empty (b ∷ w) h = absurd (omega arith)
 
 -- r is what the digits before the sign say
-module _ (w : List ℕ) {r : Token} (is : r ≡ number (take (length w - 1 - 0) w)) where
+module _ (w : List ℕ) {r : Option ℕ} (is : r ≡ number (take (length w - 1 - 0) w)) where
   signed_of : signed w ≡ signed_number r (get_or w (length w - 1) 0)
   unfolding signed
   signed_of = let e : length w - 1 - 0 ≡ length w - 1 = omega arith in rw (is, e)
 
-  pub signed_not : r ≡ Not → signed w ≡ Not
+  pub signed_not : r ≡ None → signed w ≡ None
   signed_not h = signed_of ∙ rw h
 
-  module _ {k m : ℕ} (value : r ≡ Value k) (least : m ≡ min k 32767) where
-    pub signed_plus : get_or w (length w - 1) 0 ≡ 43 → signed w ≡ Value m
+  module _ {k m : ℕ} (value : r ≡ Some k) (least : m ≡ min k 32767) where
+    pub signed_plus : get_or w (length w - 1) 0 ≡ 43 → signed w ≡ Some m
     signed_plus h = signed_of ∙ rw (value, h, least)
 
-    pub signed_minus : get_or w (length w - 1) 0 ≡ 45 → signed w ≡ Value (m + 32768)
+    pub signed_minus : get_or w (length w - 1) 0 ≡ 45 → signed w ≡ Some (m + 32768)
     signed_minus h = signed_of ∙ rw (value, h, least)
 
-  pub signed_other : {k : ℕ} → r ≡ Value k → (get_or w (length w - 1) 0 ≡ 43 → ⊥) → (get_or w (length w - 1) 0 ≡ 45 → ⊥) → signed w ≡ Not
+  pub signed_other : {k : ℕ} → r ≡ Some k → (get_or w (length w - 1) 0 ≡ 43 → ⊥) → (get_or w (length w - 1) 0 ≡ 45 → ⊥) → signed w ≡ None
   signed_other value n h = signed_of ∙ rw (value, ne_eqb (get_or w (length w - 1) 0) 43 n, ne_eqb (get_or w (length w - 1) 0) 45 h)

@@ -5,11 +5,15 @@ use mathlib.Core.List.{List, [], ◌∷◌}
 use mathlib.Core.Logic.{⊎_elim}
 use mathlib.Core.Path.{◌∙◌, ◌≡◌, ap, refl, sym}
 use native.Mathlib.Nat.{add-zero}
-use native.Mathlib.Numerals.{add-one}
 use native.Mathlib.Omega.{arith}
-use lib.ListN.{drop, drop_of_length-le, get_or, length, length-drop, take}
-use lib.Seq.{drop-cons, drop-drop, drop-length, get_or-drop, take-length}
-use borrow.Author.Tests.{eq-eqb, ne_eqb, not-true}
+use lib.ListN.{drop_of_length-le, drop, get_or, length, length-drop, take}
+use native.Mathlib.Numerals.{add-one}
+use lib.Seq.{drop-cons, drop-drop, drop-length, get_or-drop, take_all, take-length}
+use lib.Dec.{ltb}
+use borrow.Author.Tests.{eq-eqb, ltb-false, ltb-true, ne_eqb, not-true}
+use Rattle.std.specs.List.{position, position_or_len}
+use Rattle.std.specs.declared.option.Option.{Option}
+use Rattle.std.specs.declared.option.Option.TheVariants.{None, Some}
 use Rattle.lists.proofs.Laws.{cases}
 use Rattle.text.specs.Text.{before, fed, front, is_blank, is_feed, is_ink, parted, trimmed, words}
 
@@ -69,6 +73,36 @@ module _ (q : ℕ → Bool) where
         let e : length (before q (drop i s)) ≤ length (drop i s) = before_le (drop i s) in
         let z : length (drop i s) ≡ 0 = ap length (drop_of_length-le s h) in
         (omega (arith, c.left), c.low)
+
+  -- what a search for the first byte that passes the test finds
+  place_is : (s : List ℕ) → position_or_len q s ≡ length (before q s)
+  unfolding before
+  place_is [] = refl
+  place_is (b ∷ s) = ⊎_elim (λ (h : q b ≡ true). rw h) (λ (h : q b ≡ false). rw (h, place_is s) (omega arith)) (cases (q b))
+
+  module _ (s : List ℕ) {r : Option ℕ} (is : r ≡ position q s) where
+    pub found_at : {n : ℕ} → r ≡ Some n → (n ≡ length (before q s)) × (n < length s)
+    found_at {n} h =
+        let p = position_or_len q s in
+        ⊎_elim
+        (λ (t : ltb p (length s) ≡ true).
+        let e : Some p ≡ Some n = rw t at (sym is ∙ h) in
+        let z : p ≡ n = cc in
+        (omega (arith, place_is s), omega (arith, ltb-true p (length s) t)))
+        (λ (t : ltb p (length s) ≡ false). let e : None ≡ Some n = rw t at (sym is ∙ h) in absurd (cc))
+        (cases (ltb p (length s)))
+
+    pub found_none : r ≡ None → length s ≡ length (before q s)
+    found_none h =
+        let p = position_or_len q s in
+        ⊎_elim
+        (λ (t : ltb p (length s) ≡ true). let e : Some p ≡ None = rw t at (sym is ∙ h) in absurd (cc))
+        (λ (t : ltb p (length s) ≡ false). omega (arith, ltb-false p (length s) t, place_is s, before_le s))
+        (cases (ltb p (length s)))
+
+-- the bytes from a place on, as the code takes them
+pub rest_is : (from : ℕ) (s : List ℕ) → take (length s - from) (drop from s) ≡ drop from s
+rest_is from s = take_all (length s - from) (drop from s) (omega (arith, length-drop from s))
 
 -- ---- words
 

@@ -1,8 +1,6 @@
 -- What a word can say: a number, a use or listing, a name (docs/GUIDE.md, Edits).
-use Rattle.std.specs.Prelude.{ℕ, ◌+◌, ◌-◌, ◌*◌, min, Bool, true, ◌&&◌, List, [], ◌∷◌, eqb, leb, get_or, length, take}
+use Rattle.std.specs.Prelude.{ℕ, ◌+◌, ◌-◌, ◌*◌, min, Bool, true, ◌&&◌, List, [], ◌∷◌, eqb, leb, get_or, length, take, None, Option, Some}
 use Rattle.lists.specs.Lists.{pick}
-use Rattle.text.specs.declared.Token.{Token}
-use Rattle.text.specs.declared.Token.TheVariants.{Not, Value}
 
 abbrev pub is_digit : ℕ → Bool
 is_digit b = leb 48 b && leb b 57
@@ -17,15 +15,15 @@ value_after n [] = n
 value_after n (b ∷ s) = value_after (n * 10 + (b - 48)) s
 
 -- one to nine digits
-unfoldable pub number : List ℕ → Token
-number w = pick (leb 1 (length w) && leb (length w) 9 && all_digits w) (Value (value_after 0 w)) Not
+unfoldable pub number : List ℕ → Option ℕ
+number w = pick (leb 1 (length w) && leb (length w) 9 && all_digits w) (Some (value_after 0 w)) None
 
 -- a number, and + or - after it. An edge or face above 32,767 names nothing, as 32,767 does
-abbrev pub signed_number : Token → ℕ → Token
-signed_number Not sign = Not
-signed_number (Value n) sign = pick (eqb sign 43) (Value (min n 32767)) (pick (eqb sign 45) (Value (min n 32767 + 32768)) Not)
+abbrev pub signed_number : Option ℕ → ℕ → Option ℕ
+signed_number None sign = None
+signed_number (Some n) sign = pick (eqb sign 43) (Some (min n 32767)) (pick (eqb sign 45) (Some (min n 32767 + 32768)) None)
 
-unfoldable pub signed : List ℕ → Token
+unfoldable pub signed : List ℕ → Option ℕ
 signed w = signed_number (number (take (length w - 1) w)) (get_or w (length w - 1) 0)
 
 -- a word of at most seven bytes as a number: a one and its bytes, the first the highest; no two words have the same. 0 for a longer one

@@ -6,26 +6,15 @@ ghost use Prim.Native.Nat.{◌+◌, ◌-◌, ◌≤◌, ◌<◌};
 ghost use Rattle.text.specs.Text.{before, is_blank, is_feed, is_ink, trimmed};
 ghost use Rattle.text.specs.Tokens.{name, number, signed};
 
-// What a word says: a value, or not what was asked.
-#[derive(Clone, Copy)]
-pub enum Token {
-    Value(u64),
-    Not,
-}
-
 // Where the line that begins at `from` ends: at its line feed, or at the end of the text.
 pub fn line_end(text: &[u8], from: usize) -> usize
     requires { from ≤ length text.now }
     ensures { (result ≡ from + length (before is_feed (drop from text.now))) × (result ≤ length text.now) }
 {
-    let mut i = from;
-    while i < text.len() {
-        if text[i] == b'\n' {
-            break;
-        }
-        i += 1;
+    match text[from..].iter().position(|b| *b == b'\n') {
+        Some(n) => from + n,
+        None => text.len(),
     }
-    i
 }
 
 // The length of a line without a carriage return at its end.
@@ -53,14 +42,13 @@ pub fn word_start(line: &[u8], from: usize) -> usize
     requires { from ≤ length line.now }
     ensures { (result ≡ from + length (before is_ink (drop from line.now))) × (result ≤ length line.now) }
 {
-    let mut i = from;
-    while i < line.len() {
+    // No `position` here: on words of a few bytes it takes a fifth longer.
+    for i in from..line.len() {
         if !is_blank(line[i]) {
-            break;
+            return i;
         }
-        i += 1;
     }
-    i
+    line.len()
 }
 
 // Where the word that begins at `from` ends.
@@ -68,14 +56,12 @@ pub fn word_end(line: &[u8], from: usize) -> usize
     requires { from ≤ length line.now }
     ensures { (result ≡ from + length (before is_blank (drop from line.now))) × (result ≤ length line.now) }
 {
-    let mut i = from;
-    while i < line.len() {
+    for i in from..line.len() {
         if is_blank(line[i]) {
-            break;
+            return i;
         }
-        i += 1;
     }
-    i
+    line.len()
 }
 
 fn wide(b: u8) -> u64
@@ -85,29 +71,26 @@ fn wide(b: u8) -> u64
 }
 
 // A number of one to nine digits.
-pub fn number_of(word: &[u8]) -> Token
+pub fn number_of(word: &[u8]) -> Option<u64>
     ensures { result ≡ number word.now }
 {
     if word.len() == 0 {
-        return Token::Not;
+        return None;
     }
     if word.len() > 9 {
-        return Token::Not;
+        return None;
     }
     let mut n: u64 = 0;
-    let mut i: usize = 0;
-    while i < word.len() {
-        let b = word[i];
-        if b < b'0' {
-            return Token::Not;
+    for b in word {
+        if *b < b'0' {
+            return None;
         }
-        if b > b'9' {
-            return Token::Not;
+        if *b > b'9' {
+            return None;
         }
-        n = n * 10 + (wide(b) - 48);
-        i += 1;
+        n = n * 10 + (wide(*b) - 48);
     }
-    Token::Value(n)
+    Some(n)
 }
 
 fn least(a: u64, b: u64) -> u64
@@ -117,28 +100,23 @@ fn least(a: u64, b: u64) -> u64
 }
 
 // A use or listing: a number and + or -; as in a file, plus 32,768 if reversed.
-pub fn signed_of(word: &[u8]) -> Token
+pub fn signed_of(word: &[u8]) -> Option<u64>
     ensures { result ≡ signed word.now }
 {
     let n = word.len();
     if n == 0 {
-        return Token::Not;
+        return None;
     }
     let last = n - 1;
     let sign = word[last];
-    let digits = number_of(&word[0..last]);
-    match digits {
-        Token::Not => Token::Not,
-        Token::Value(k) => {
-            if sign == b'+' {
-                return Token::Value(least(k, 32767));
-            }
-            if sign == b'-' {
-                return Token::Value(least(k, 32767) + 32768);
-            }
-            Token::Not
-        }
+    let k = number_of(&word[0..last])?;
+    if sign == b'+' {
+        return Some(least(k, 32767));
     }
+    if sign == b'-' {
+        return Some(least(k, 32767) + 32768);
+    }
+    None
 }
 
 // A word of at most seven bytes as a number; 0 for a longer one.
@@ -149,10 +127,8 @@ pub fn name_of(word: &[u8]) -> u64
         return 0;
     }
     let mut n: u64 = 1;
-    let mut i: usize = 0;
-    while i < word.len() {
-        n = n * 256 + wide(word[i]);
-        i += 1;
+    for b in word {
+        n = n * 256 + wide(*b);
     }
     n
 }

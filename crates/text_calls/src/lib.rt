@@ -11,8 +11,7 @@ ghost use Rattle.text_calls.specs.TextCalls.{draft_answer, with_length};
 
 use answers::Answer;
 use draft_faults::put_made;
-use draft_text::{Fault, Made, make};
-use errors::number_of;
+use draft_text::{DraftError, Fault, make};
 use pattern::LONGEST;
 
 // Refused: the number of the refusal, the line, the word or the number that is expected, the length of the sentence.
@@ -30,17 +29,17 @@ fn refused(number: usize, line: usize, word: usize, length: usize) -> Answer
 }
 
 // The answer of a text that is made so, with a sentence of this length.
-fn made_values(m: Made, length: usize) -> Answer
+fn made_values(m: Result<usize, DraftError>, length: usize) -> Answer
     ensures { result ≡ answer (with_length (made_reply m) length) }
 {
     match m {
-        Made::Length(n) => answers::done_with(n, 0, length),
-        Made::At(line, f) => match f {
+        Ok(n) => answers::done_with(n, 0, length),
+        Err(DraftError::At(line, f)) => match f {
             Fault::Word(k, w) => refused(0, line, w, length),
             Fault::Number(k, n) => refused(0, line, n, length),
-            Fault::Refused(r) => refused(number_of(r), line, 0, length),
+            Fault::Refused(r) => refused(r.number(), line, 0, length),
         },
-        other => refused(0, 0, 0, length),
+        Err(_) => refused(0, 0, 0, length),
     }
 }
 

@@ -8,6 +8,7 @@ use lib.ListN.{length}
 use borrow.Author.Tests.{ne_eqb}
 use Rattle.edge.specs.Edges.{edge}
 use Rattle.edge.specs.declared.Edge.{Edge}
+use Rattle.draft_forms.specs.declared.LineKind.{LineKind}
 use Rattle.draft_forms.specs.LineForms.{line_kind, line_values}
 use Rattle.draft_parts.specs.Parts.{face_parts, marked, parts_of, wire_lengths}
 use Rattle.lists.proofs.Count.{All, all_weaker}
@@ -23,7 +24,7 @@ short_is : (n : ℕ) → n < 65536 → short n ≡ n
 short_is n h = omega arith
 
 -- what a line of known kind and values says
-parts_are : (ws : List (List ℕ)) {kind : ℕ} {vs : List ℕ} → line_kind ws ≡ kind → line_values ws ≡ vs → line_parts ws ≡ parts_of kind vs
+parts_are : (ws : List (List ℕ)) {kind : LineKind} {vs : List ℕ} → line_kind ws ≡ kind → line_values ws ≡ vs → line_parts ws ≡ parts_of kind vs
 parts_are ws e f = λ i. parts_of (e i) (f i)
 
 -- ---- the parts of each record

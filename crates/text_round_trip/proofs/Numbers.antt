@@ -1,4 +1,5 @@
 -- Numbers, labels and uses: each is a word, and reads back.
+use Rattle.std.specs.Prelude.{Some}
 use Prim.Native.Nat.{◌%◌, ◌*◌, ◌+◌, ◌-◌, ◌/◌, ◌<◌, ◌^◌, ◌≤◌, suc, zero, ℕ}
 use mathlib.Core.Bool.{Bool, ◌&&◌, false, true}
 use mathlib.Core.List.{List, [], ◌++◌, ◌∷◌}
@@ -13,6 +14,7 @@ use borrow.Author.Tests.{le-leb, leb-false, leb-true, ltb-false, ltb-true}
 use Rattle.decimals.proofs.Digits.{decimal_after, decimal_all}
 use Rattle.forms.proofs.Tokens.{below_is, label_both, label_short, token_use}
 use Rattle.forms.specs.Forms.{label, token}
+use Rattle.forms.specs.declared.WordKind.TheVariants.{Wires}
 use Rattle.lines.specs.Lines.{signed as signedText}
 use Rattle.lists.proofs.Count.{All, all_append}
 use Rattle.lists.proofs.Laws.{cases, left_true, right_true}
@@ -20,7 +22,6 @@ use Rattle.output.proofs.Laws.{decimal_more, decimal_one, decimal_short, length_
 use Rattle.output.specs.Text.{decimal, digit}
 use Rattle.text.proofs.Numbers.{value_below}
 use Rattle.text.specs.Tokens.{all_digits, is_digit, name, name_after, number, signed}
-use Rattle.text.specs.declared.Token.TheVariants.{Value}
 use Rattle.text_round_trip.proofs.Sentences.{Ink, Word}
 
 -- ---- words
@@ -69,26 +70,26 @@ decimal_some (suc n) = decimal_long 0 (suc n) (omega arith)
 pub decimal_word : (n : ℕ) → Word (decimal n)
 decimal_word n = (decimal_some n, digits_ink (decimal n) (decimal_all n))
 
-pub number_back : (n : ℕ) → n < 1000000000 → number (decimal n) ≡ Value n
+pub number_back : (n : ℕ) → n < 1000000000 → number (decimal n) ≡ Some n
 unfolding number
 number_back n h = rw (le-leb 1 (length (decimal n)) (decimal_some n), le-leb (length (decimal n)) 9 (decimal_short 8 n (omega arith)), decimal_all n, decimal_after n)
 
 -- ---- labels
 
-label_ten : (n : ℕ) → 1000000000 ≤ n → n < 4294967296 → label (decimal n) ≡ Value n
+label_ten : (n : ℕ) → 1000000000 ≤ n → n < 4294967296 → label (decimal n) ≡ Some n
 label_ten n h l =
     let q = decimal (n / 10) in
     let r = digit (n % 10) in
     let one : decimal (n % 10) ≡ r = decimal_one (n % 10) (omega arith) in
     let nine : length q ≡ 9 = omega (arith, decimal_long 8 (n / 10) (omega arith), decimal_short 8 (n / 10) (omega arith)) in
     let e : decimal n ≡ q ++ r = decimal_more n (omega arith) in
-    let first : Value (n / 10) ≡ number (take 9 (decimal n)) = sym (rw (e, take_at q r 9 nine) (number_back (n / 10) (omega arith))) in
-    let last : Value (n % 10) ≡ number (take 1 (drop 9 (decimal n))) = sym (rw (e, drop_at q r 9 nine, ← one) (number_back (n % 10) (omega arith))) in
+    let first : Some (n / 10) ≡ number (take 9 (decimal n)) = sym (rw (e, take_at q r 9 nine) (number_back (n / 10) (omega arith))) in
+    let last : Some (n % 10) ≡ number (take 1 (drop 9 (decimal n))) = sym (rw (e, drop_at q r 9 nine, ← one) (number_back (n % 10) (omega arith))) in
     let whole : n / 10 * 10 + n % 10 ≡ n = omega arith in
-    label_both (decimal n) (omega (arith, ap length e, length-append q r)) first last refl refl
+    label_both (decimal n) (omega (arith, ap length e, length-append q r)) first refl last refl
     ∙ rw whole (below_is {n = 4294967296} refl l)
 
-pub label_back : (n : ℕ) → n < 4294967296 → label (decimal n) ≡ Value n
+pub label_back : (n : ℕ) → n < 4294967296 → label (decimal n) ≡ Some n
 label_back n h =
     ⊎_elim
     (λ (e : ltb n 1000000000 ≡ true).
@@ -106,7 +107,7 @@ module _ (ds : List ℕ) (c : ℕ) where
   last_of : get_or (ds ++ (c ∷ [])) (length (ds ++ (c ∷ [])) - 1) 0 ≡ c
   last_of = get_or_at ds c [] 0 (length (ds ++ (c ∷ [])) - 1) (omega (arith, length-append ds (c ∷ [])))
 
-pub signed_back : (u : ℕ) → u < 65536 → signed (signedText u) ≡ Value u
+pub signed_back : (u : ℕ) → u < 65536 → signed (signedText u) ≡ Some u
 unfolding signed signedText
 signed_back u h =
     let ds = decimal (u % 32768) in
@@ -114,10 +115,10 @@ signed_back u h =
     ⊎_elim
     (λ (e : leb 32768 u ≡ true).
     let l = leb-true 32768 u e in
-    rw (e, front_of ds 45, last_of ds 45, n) (ap Value (omega arith)))
+    rw (e, front_of ds 45, last_of ds 45, n) (ap Some (omega arith)))
     (λ (e : leb 32768 u ≡ false).
     let l = leb-false 32768 u e in
-    rw (e, front_of ds 43, last_of ds 43, n) (ap Value (omega arith)))
+    rw (e, front_of ds 43, last_of ds 43, n) (ap Some (omega arith)))
     (cases (leb 32768 u))
 
 -- a name ends in its last byte
@@ -144,8 +145,8 @@ signed_name u =
     (λ (e : leb 32768 u ≡ false). rw e (sign_name ds 43 short (inl refl)))
     (cases (leb 32768 u))
 
-pub use_back_lem : (u : ℕ) → u < 65536 → token 5 (signedText u) ≡ Value u
-use_back_lem u h = token_use 5 (signedText u) refl refl (signed_name u) ∙ signed_back u h
+pub use_back_lem : (u : ℕ) → u < 65536 → token Wires (signedText u) ≡ Some u
+use_back_lem u h = token_use (signedText u) refl (signed_name u) ∙ signed_back u h
 
 pub signed_word : (u : ℕ) → Word (signedText u)
 unfolding signedText

@@ -1,30 +1,57 @@
 -- Lines read one after the other.
 use Prim.Native.Nat.{◌+◌, ◌<◌, ◌≤◌, suc, zero, ℕ}
+use mathlib.Core.Bool.{Bool, false, true}
 use mathlib.Core.List.{List, [], ◌++◌, ◌∷◌, map, map-append}
 use mathlib.Core.Path.{◌∙◌, ◌≡◌, ap, refl, sym}
 use native.Mathlib.Omega.{arith}
 use lib.ListN.{length, length-append}
-use borrow.Author.Tests.{eq-eqb, le-leb, ne_eqb}
+use borrow.Author.Tests.{eq-eqb, le-leb}
 use Rattle.errors.proofs.Laws.{none_both, none_left, none_right}
+use Rattle.draft_forms.specs.declared.LineKind.{LineKind}
+use Rattle.draft_forms.specs.declared.LineKind.TheVariants.{Comment, Edge, Empty, Face, Point, Shell, Unknown}
 use Rattle.draft_parts.specs.Parts.{joined, needed_words}
 use Rattle.lists.proofs.Count.{All, all_append}
 use Rattle.lists.specs.Lists.{flat, tabulate}
 use Rattle.pattern.specs.Checks.{count_faults}
 use Rattle.pattern.specs.Contents.{Content, counts_of}
 use Rattle.text.specs.Text.{words}
-use Rattle.draft_text.specs.TextPattern.{gathered, line_faults, line_parts, next_number, text_faults, word_faults}
-use Rattle.draft_text.specs.declared.Made.TheVariants.{At}
+use Rattle.draft_text.specs.TextPattern.{by_kind, gathered, line_faults, line_parts, next_number, text_faults, word_faults}
+use Rattle.draft_text.specs.declared.DraftError.TheVariants.{At}
+use Rattle.draft_text.specs.declared.Fault.{Fault}
 use Rattle.text_round_trip.proofs.Says.{Says}
 use Rattle.text_round_trip.proofs.Sentences.{Plain, Word, lined, sentence, text, text_append, words_sentence}
 use Rattle.text_round_trip.proofs.Weights.{weight, weight_joined}
 
+-- a line of a record, and no other
+abbrev pub of_record : LineKind → Bool
+of_record Point = true
+of_record Edge = true
+of_record Face = true
+of_record Shell = true
+of_record other = false
+
+not_true {ℓ} : {A : Type ℓ} → false ≡ true → A
+not_true e = absurd (let z : ◌≡◌ {A = ℕ} 0 1 = cc in omega arith)
+
+record_faults : (kind : LineKind) → of_record kind ≡ true → (fs : List Fault) → by_kind kind fs ≡ fs
+record_faults Point h fs = refl
+record_faults Edge h fs = refl
+record_faults Face h fs = refl
+record_faults Shell h fs = refl
+record_faults Comment h fs = not_true h
+record_faults Empty h fs = refl
+record_faults Unknown h fs = not_true h
+
+not_empty_line : {kind : LineKind} → kind ≡ Empty → of_record kind ≡ true → ⊥
+not_empty_line e h = not_true (ap of_record (sym e) ∙ h)
+
 -- a line with the next number has no fault where there is room for its record
-line_right : (p : Content) {ws : List (List ℕ)} {kind k : ℕ} {part : Content} → Says ws kind k part → 0 < kind → kind < 5
+line_right : (p : Content) {ws : List (List ℕ)} {kind : LineKind} {k : ℕ} {part : Content} → Says ws kind k part → of_record kind ≡ true
     → next_number kind (counts_of p) ≡ k → count_faults (counts_of (joined p (line_parts ws))) ≡ [] → line_faults p ws ≡ []
 unfolding line_faults word_faults
-line_right p {ws} {kind} {k} t low high next few =
+line_right p {ws} {kind} {k} t is_record next few =
     let n = length t.values in
-    rw (few, t.read, t.is, ne_eqb kind 5 (λ z. omega arith), ne_eqb kind 0 (λ z. omega arith), next, eq-eqb k k refl, eq-eqb (suc (suc n)) (length ws) (sym t.all), le-leb (needed_words kind) (suc n) t.needed)
+    rw (few, t.read, t.is, record_faults kind is_record, next, eq-eqb k k refl, eq-eqb (suc (suc n)) (length ws) (sym t.all), le-leb (needed_words kind) (suc n) t.needed)
 
 -- line j has the words f j, is right after the parts `state j`, and makes them `state (suc j)`
 pub record Step (state : ℕ → Content) (f : ℕ → List (List ℕ)) (j : ℕ) : Type 0 where
@@ -35,14 +62,14 @@ pub record Step (state : ℕ → Content) (f : ℕ → List (List ℕ)) (j : ℕ
   pub long : length (lined (sentence (f j))) ≤ weight (line_parts (f j))
 
 -- a line whose number is the next, and whose part is the next
-pub step_of : {state : ℕ → Content} {f : ℕ → List (List ℕ)} {j kind : ℕ} {part : Content} → Says (f j) kind j part → 0 < kind → kind < 5
+pub step_of : {state : ℕ → Content} {f : ℕ → List (List ℕ)} {j : ℕ} {kind : LineKind} {part : Content} → Says (f j) kind j part → of_record kind ≡ true
     → next_number kind (counts_of (state j)) ≡ j → joined (state j) part ≡ state (suc j) → count_faults (counts_of (state (suc j))) ≡ [] → Step state f j
-step_of {state} {f} {j} t low high number more few =
+step_of {state} {f} {j} t is_record number more few =
     let next : joined (state j) (line_parts (f j)) ≡ state (suc j) = ap (joined (state j)) t.parts ∙ more in
     record {
       are = t.are;
-      plain = (λ e. omega (arith, t.is), t.begins);
-      right = line_right (state j) t low high number (ap (λ (q : Content). count_faults (counts_of q)) next ∙ few);
+      plain = (λ e. not_empty_line (sym t.is ∙ e) is_record, t.begins);
+      right = line_right (state j) t is_record number (ap (λ (q : Content). count_faults (counts_of q)) next ∙ few);
       next = next;
       long = rw t.parts t.long;
     }

@@ -4,6 +4,8 @@ use mathlib.Core.List.{List, [], ◌∷◌}
 use mathlib.Core.Path.{◌≡◌, refl}
 use native.Mathlib.Omega.{arith}
 use lib.ListN.{get_or, length, length-map}
+use Rattle.draft_forms.specs.declared.LineKind.{LineKind}
+use Rattle.draft_forms.specs.declared.LineKind.TheVariants.{Edge, Face, Point, Shell}
 use Rattle.draft_forms.specs.LineForms.{line_kind, line_values}
 use Rattle.draft_parts.specs.Parts.{needed_words}
 use Rattle.lines.specs.Lines.{signed}
@@ -17,7 +19,7 @@ use Rattle.text_round_trip.proofs.Values.{edge_kind, edge_values, face_kind, fac
 use Rattle.text_round_trip.proofs.Weights.{edge_weight, face_weight, point_weight, shell_weight, weight}
 
 -- the line of these words has the number k of its kind, and adds the part
-pub record Says (ws : List (List ℕ)) (kind k : ℕ) (part : Content) : Type 0 where
+pub record Says (ws : List (List ℕ)) (kind : LineKind) (k : ℕ) (part : Content) : Type 0 where
   -- the values after the number
   pub values : List ℕ
   pub are : All Word ws
@@ -29,7 +31,7 @@ pub record Says (ws : List (List ℕ)) (kind k : ℕ) (part : Content) : Type 0 
   pub begins : get_or (get_or ws 0 []) 0 0 < 128
   pub long : length (lined (sentence ws)) ≤ weight part
 
-pub point_says : (k label : ℕ) → k < 65536 → label < 4294967296 → Says (point_words k label) 1 k (point_part label)
+pub point_says : (k label : ℕ) → k < 65536 → label < 4294967296 → Says (point_words k label) Point k (point_part label)
 unfolding needed_words
 point_says k label h l = record {
   values = 65536 ∷ label ∷ [];
@@ -44,7 +46,7 @@ point_says k label h l = record {
 }
 
 pub edge_says : (k front back t0 t1 : ℕ) → k < 65536 → Small front → Small back → t0 < 18446744073709551616 → t1 < 18446744073709551616
-    → Says (edge_words k front back t0 t1) 2 k (edge_part (edge_of front back t0 t1))
+    → Says (edge_words k front back t0 t1) Edge k (edge_part (edge_of front back t0 t1))
 unfolding needed_words
 edge_says k front back t0 t1 h f b p q = record {
   values = 65536 ∷ front ∷ 65536 ∷ back ∷ 65536 ∷ t0 ∷ t1 ∷ [];
@@ -59,7 +61,7 @@ edge_says k front back t0 t1 h f b p q = record {
 }
 
 pub face_says : (k surface : ℕ) (wires : List (List ℕ)) → k < 65536 → surface < 65536 → All (All Small) wires → Few wires → length wires < 65536
-    → Says (face_words k surface wires) 3 k (face_part surface wires)
+    → Says (face_words k surface wires) Face k (face_part surface wires)
 unfolding needed_words
 face_says k surface wires h s u f n = record {
   values = 65536 ∷ surface ∷ marks wires;
@@ -73,7 +75,7 @@ face_says k surface wires h s u f n = record {
   long = rw (face_line_lem k surface wires u) at (face_weight k surface wires h s);
 }
 
-pub shell_says : (k : ℕ) (listings : List ℕ) → k < 65536 → All Small listings → length listings < 65536 → Says (shell_words k listings) 4 k (shell_part listings)
+pub shell_says : (k : ℕ) (listings : List ℕ) → k < 65536 → All Small listings → length listings < 65536 → Says (shell_words k listings) Shell k (shell_part listings)
 unfolding needed_words
 shell_says k listings h u n = record {
   values = 65536 ∷ listings;

@@ -10,7 +10,9 @@ use borrow.Author.Tests.{ne_eqb}
 use Rattle.lists.proofs.Count.{All, all_append, all_at, all_map, all_weaker}
 use Rattle.lists.proofs.Laws.{flat_append}
 use Rattle.lists.specs.Lists.{flat}
+use Rattle.draft_forms.specs.declared.LineKind.TheVariants.{Empty}
 use Rattle.draft_forms.specs.LineForms.{line_kind}
+use Rattle.draft_text.proofs.Turns.{not_empty}
 use Rattle.draft_text.specs.TextPattern.{has_mark, said}
 use Rattle.text.specs.Text.{fed, is_blank, lines, parted, trimmed, words}
 
@@ -107,12 +109,12 @@ text_append ss ts =
 -- ---- plain lines: each begins with an ASCII letter, and none says that the pattern is empty
 
 abbrev pub Plain : List (List ℕ) → Type 0
-Plain ws = (line_kind ws ≡ 6 → ⊥) × (get_or (get_or ws 0 []) 0 0 < 128)
+Plain ws = (line_kind ws ≡ Empty → ⊥) × (get_or (get_or ws 0 []) 0 0 < 128)
 
 pub plain_unsaid : (ss : List (List (List ℕ))) → All (All Word) ss → All Plain ss → said (map sentence ss) ≡ false
 unfolding said
 plain_unsaid [] are h = refl
-plain_unsaid (ws ∷ ss) are h = rw (words_sentence ws are.0, ne_eqb (line_kind ws) 6 h.0.0, plain_unsaid ss are.1 h.1)
+plain_unsaid (ws ∷ ss) are h = rw (words_sentence ws are.0, not_empty (line_kind ws) h.0.0, plain_unsaid ss are.1 h.1)
 
 pub plain_unmarked : (ss : List (List (List ℕ))) → All (All Word) ss → All Plain ss → has_mark (text ss) ≡ false
 unfolding flat

@@ -69,7 +69,7 @@ module _ (c : Content) (few : count_faults (counts_of c) ≡ []) (ok : content_f
 
   pub point_step : (j : ℕ) → j < length c.points → Step (λ (i : ℕ). partly c i 0 0 0) (point_line_words c) j
   point_step j h =
-      step_of (point_says j (get_or c.points j 0) (omega (arith, summed.few.points)) (fit.points j h)) (omega arith) (omega arith)
+      step_of (point_says j (get_or c.points j 0) (omega (arith, summed.few.points)) (fit.points j h)) refl
       (next_point c j 0 0 0 (omega arith)) (point_more c j 0 0 0 h) (room (suc j) 0 0 0)
 
   -- ---- edges
@@ -87,7 +87,7 @@ module _ (c : Content) (few : count_faults (counts_of c) ≡ []) (ok : content_f
       let e = get_or c.edges j zero_edge in
       let f = fit.edges j h in
       let says = edge_says j e.front.0 e.back.0 (to_bits binary64 e.curve.t0) (to_bits binary64 e.curve.t1) (omega (arith, summed.few.edges)) f.front f.back (to_bits-lt binary64 e.curve.t0 f.t0) (to_bits-lt binary64 e.curve.t1 f.t1) in
-      step_of says (omega arith) (omega arith) (next_edge c a j 0 0 (omega arith)) (rw (edge_back j h) (edge_more c a j 0 0 h)) (room a (suc j) 0 0)
+      step_of says refl (next_edge c a j 0 0 (omega arith)) (rw (edge_back j h) (edge_more c a j 0 0 h)) (room a (suc j) 0 0)
 
   -- ---- faces
 
@@ -117,7 +117,7 @@ module _ (c : Content) (few : count_faults (counts_of c) ≡ []) (ok : content_f
 
   pub face_step : (a b j : ℕ) → j < length c.faces → Step (λ (i : ℕ). partly c a b i 0) (face_line_words c) j
   face_step a b j h =
-      step_of (face_says j (get_or c.faces j zero_face).surface (wires_at c j) (omega (arith, summed.few.faces)) (fit.faces j h).surface (uses_small j) (uses_few j) (wires_few j)) (omega arith) (omega arith)
+      step_of (face_says j (get_or c.faces j zero_face).surface (wires_at c j) (omega (arith, summed.few.faces)) (fit.faces j h).surface (uses_small j) (uses_few j) (wires_few j)) refl
       (next_face c a b j 0 (omega arith)) (face_more c a b j 0 h (wires_counted j)) (room a b (suc j) 0)
 
   -- ---- shells
@@ -131,5 +131,5 @@ module _ (c : Content) (few : count_faults (counts_of c) ≡ []) (ok : content_f
 
   pub shell_step : (a b f j : ℕ) → j < length c.shells → Step (λ (i : ℕ). partly c a b f i) (shell_line_words c) j
   shell_step a b f j h =
-      step_of (shell_says j (get_or (lists c) j []) (omega (arith, summed.few.shells)) (listings_small j) (listings_few j)) (omega arith) (omega arith)
+      step_of (shell_says j (get_or (lists c) j []) (omega (arith, summed.few.shells)) (listings_small j) (listings_few j)) refl
       (next_shell c a b f j (omega arith)) (shell_more c a b f j h (split_length c.shells c.listings (omega (arith, summed.listings)) j)) (room a b f (suc j))

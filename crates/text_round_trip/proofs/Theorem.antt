@@ -28,12 +28,12 @@ use Rattle.pattern_file.specs.File.{file_bytes, file_content, file_faults, table
 use Rattle.show_text.proofs.FileText.{file_fits}
 use Rattle.show_text.specs.PatternText.{file_text, pattern_text, record_lines, text_of}
 use Rattle.draft_text.specs.TextPattern.{agreed, checked, gathered, line_faults, made, said, text_content, text_faults, text_file, word_faults}
-use Rattle.draft_text.specs.declared.Made.TheVariants.{Length}
+use Rattle.std.specs.Prelude.{Ok}
 use Rattle.text_round_trip.proofs.Text.{no_fault_lem, not_long, same_content, unmarked, unsaid}
 
 -- the text says the pattern, and makes its file
 abbrev pub Back : List ℕ → Content → Type 0
-Back text c = (text_content text ≡ c) × (made text ≡ Length (length (file_bytes c)))
+Back text c = (text_content text ≡ c) × (made text ≡ Ok (length (file_bytes c)))
 
 empty_back : Back (ascii "empty\n") nothing
 unfolding made text_faults line_faults word_faults gathered said fed words kind_named name name_after values parts_of needed_words each sum face_rule split
@@ -73,11 +73,11 @@ module _ (c : Content) (few : count_faults (counts_of c) ≡ []) (ok : content_f
       (λ (h : bare (counts_of c) ≡ false). rw h (records_back h))
       (cases (bare (counts_of c)))
 
-pub there_and_back : (s : List ℕ) → ((k : ℕ) → get_or s k 0 < 256) → file_faults s ≡ [] → (text_file (file_text s) ≡ s) × (made (file_text s) ≡ Length (length s))
+pub there_and_back : (s : List ℕ) → ((k : ℕ) → get_or s k 0 < 256) → file_faults s ≡ [] → (text_file (file_text s) ≡ s) × (made (file_text s) ≡ Ok (length s))
 there_and_back s bytes ok =
     let c = file_content s in
     let few : count_faults (counts_of c) ≡ [] = ap count_faults (sym (counts_of_content s)) ∙ table_counts s (none_left (table_faults s) (content_faults c) ok) in
     let back = pattern_back c few (none_right (table_faults s) (content_faults c) ok) (file_fits s bytes) in
     let printed : file_text s ≡ pattern_text c = ap (λ (fs : List Refusal). text_of fs c) ok in
     let file = written_of_read s bytes ok in
-    (ap text_file printed ∙ ap file_bytes back.0 ∙ file, ap made printed ∙ back.1 ∙ ap (λ (r : List ℕ). Length (length r)) file)
+    (ap text_file printed ∙ ap file_bytes back.0 ∙ file, ap made printed ∙ back.1 ∙ ap (λ (r : List ℕ). Ok (length r)) file)

@@ -1,4 +1,6 @@
 -- The values of the words of each line.
+use Rattle.std.specs.Prelude.{Some}
+use Rattle.std.proofs.lemmas.List.{length-map}
 use Prim.Native.Nat.{◌<◌, ◌≤◌, suc, ℕ}
 use mathlib.Core.Bool.{false, true}
 use mathlib.Core.List.{List, [], ◌++◌, ◌∷◌, map}
@@ -6,36 +8,38 @@ use mathlib.Core.Logic.{⊎_elim}
 use mathlib.Core.Path.{◌≡◌, ap, refl, sym}
 use native.Mathlib.Omega.{arith}
 use lib.Dec.{eqb}
-use lib.ListN.{get_or-eq_default, length}
+use lib.ListN.{get_or, get_or-eq_default, length}
 use borrow.Author.Tests.{eqb-false, eqb-true}
 use Rattle.decimals.proofs.Back.{real_back}
 use Rattle.forms.proofs.Tokens.{below_is}
 use Rattle.forms.specs.Forms.{token, values}
+use Rattle.forms.specs.declared.WordKind.{WordKind}
+use Rattle.forms.specs.declared.WordKind.TheVariants.{Signed, Wires}
+use Rattle.draft_forms.specs.declared.LineKind.TheVariants.{Edge, Face, Point, Shell}
 use Rattle.draft_forms.specs.LineForms.{further_kind, kind_named, line_kind, line_values, word_kinds}
 use Rattle.lines.specs.Lines.{signed}
 use Rattle.lists.proofs.Count.{All, all_append, all_weaker}
 use Rattle.lists.proofs.Laws.{cases}
 use Rattle.lists.specs.Lists.{flat}
 use Rattle.text.specs.Tokens.{name, name_after}
-use Rattle.text.specs.declared.Token.TheVariants.{Value}
 use Rattle.text_round_trip.proofs.Lines.{Small, edge_words, face_word, face_words, marks, point_words, shell_words}
 use Rattle.text_round_trip.proofs.Numbers.{label_back, number_back, signed_back, use_back_lem}
 
 -- ---- the kinds of the lines
 
-pub point_kind : (k label : ℕ) → line_kind (point_words k label) ≡ 1
+pub point_kind : (k label : ℕ) → line_kind (point_words k label) ≡ Point
 unfolding kind_named name name_after
 point_kind k label = refl
 
-pub edge_kind : (k front back t0 t1 : ℕ) → line_kind (edge_words k front back t0 t1) ≡ 2
+pub edge_kind : (k front back t0 t1 : ℕ) → line_kind (edge_words k front back t0 t1) ≡ Edge
 unfolding kind_named name name_after
 edge_kind k front back t0 t1 = refl
 
-pub face_kind : (k surface : ℕ) (wires : List (List ℕ)) → line_kind (face_words k surface wires) ≡ 3
+pub face_kind : (k surface : ℕ) (wires : List (List ℕ)) → line_kind (face_words k surface wires) ≡ Face
 unfolding kind_named name name_after
 face_kind k surface wires = refl
 
-pub shell_kind : (k : ℕ) (listings : List ℕ) → line_kind (shell_words k listings) ≡ 4
+pub shell_kind : (k : ℕ) (listings : List ℕ) → line_kind (shell_words k listings) ≡ Shell
 unfolding kind_named name name_after
 shell_kind k listings = refl
 
@@ -52,14 +56,17 @@ edge_values k front back t0 t1 h f b p q = rw (number_back k h, number_back fron
 
 -- ---- any number of words of one kind
 
-values_further : (kinds : List ℕ) (rest : ℕ) (g : ℕ → List ℕ) (i : ℕ) → length kinds ≤ i → (vs : List ℕ) → All (λ (v : ℕ). token rest (g v) ≡ Value v) vs
-    → values kinds rest i (map g vs) ≡ vs
+past_kinds : (kinds : List WordKind) (rest : WordKind) (i : ℕ) → length kinds ≤ i → get_or (map Some kinds) i (Some rest) ≡ Some rest
+past_kinds kinds rest i l = get_or-eq_default (map Some kinds) (Some rest) (simp length-map l)
+
+values_further : (kinds : List WordKind) (rest : WordKind) (g : ℕ → List ℕ) (i : ℕ) → length kinds ≤ i → (vs : List ℕ) → All (λ (v : ℕ). token rest (g v) ≡ Some v) vs
+    → values kinds (Some rest) i (map g vs) ≡ vs
 unfolding values
 values_further kinds rest g i l [] h = refl
 values_further kinds rest g i l (v ∷ vs) h =
-    rw (get_or-eq_default kinds rest l, h.0, values_further kinds rest g (suc i) (omega arith) vs h.1)
+    rw (past_kinds kinds rest i l, h.0, values_further kinds rest g (suc i) (omega arith) vs h.1)
 
-signed_token : (u : ℕ) → Small u → token 2 (signed u) ≡ Value u
+signed_token : (u : ℕ) → Small u → token Signed (signed u) ≡ Some u
 unfolding token
 signed_token u h = signed_back u h
 
@@ -67,15 +74,15 @@ pub shell_values : (k : ℕ) (listings : List ℕ) → k < 1000000000 → All Sm
 unfolding values token word_kinds further_kind kind_named name name_after
 shell_values k listings h l =
     rw (number_back k h)
-    (ap (λ (r : List ℕ). k ∷ 65536 ∷ r) (values_further (word_kinds 4) 2 signed 2 (omega arith) listings (all_weaker Small (λ (u : ℕ). token 2 (signed u) ≡ Value u) signed_token listings l)))
+    (ap (λ (r : List ℕ). k ∷ 65536 ∷ r) (values_further (word_kinds Shell) Signed signed 2 (omega arith) listings (all_weaker Small (λ (u : ℕ). token Signed (signed u) ≡ Some u) signed_token listings l)))
 
 -- ---- faces
 
-face_token : (v : ℕ) → v ≤ 65536 → token 5 (face_word v) ≡ Value v
+face_token : (v : ℕ) → v ≤ 65536 → token Wires (face_word v) ≡ Some v
 unfolding token name name_after
 face_token v h =
     ⊎_elim
-    (λ (e : eqb v 65536 ≡ true). rw e (ap Value (sym (eqb-true v 65536 e))))
+    (λ (e : eqb v 65536 ≡ true). rw e (ap Some (sym (eqb-true v 65536 e))))
     (λ (e : eqb v 65536 ≡ false). let n = eqb-false v 65536 e in rw e (use_back_lem v (lt v n h)))
     (cases (eqb v 65536))
   where
@@ -87,12 +94,12 @@ unfolding flat
 marks_few [] h = tt
 marks_few (us ∷ wires) h = (omega arith, all_append (λ (v : ℕ). v ≤ 65536) us (marks wires) (all_weaker Small (λ (v : ℕ). v ≤ 65536) (λ u l. omega arith) us h.0) (marks_few wires h.1))
 
-wires_values : (wires : List (List ℕ)) → All (All Small) wires → values (word_kinds 3) 5 3 (map face_word (marks wires)) ≡ marks wires
+wires_values : (wires : List (List ℕ)) → All (All Small) wires → values (word_kinds Face) (Some Wires) 3 (map face_word (marks wires)) ≡ marks wires
 unfolding values token word_kinds name name_after flat
 wires_values [] h = refl
 wires_values (us ∷ wires) h =
     ap (λ (r : List ℕ). 65536 ∷ r)
-    (values_further (word_kinds 3) 5 face_word 4 (omega arith) (us ++ marks wires) (all_weaker (λ (v : ℕ). v ≤ 65536) (λ (v : ℕ). token 5 (face_word v) ≡ Value v) face_token (us ++ marks wires) (marks_few (us ∷ wires) h).1))
+    (values_further (word_kinds Face) Wires face_word 4 (omega arith) (us ++ marks wires) (all_weaker (λ (v : ℕ). v ≤ 65536) (λ (v : ℕ). token Wires (face_word v) ≡ Some v) face_token (us ++ marks wires) (marks_few (us ∷ wires) h).1))
 
 pub face_values_lem : (k surface : ℕ) (wires : List (List ℕ)) → k < 1000000000 → surface < 65536 → All (All Small) wires
     → line_values (face_words k surface wires) ≡ k ∷ 65536 ∷ surface ∷ marks wires

@@ -1,4 +1,5 @@
 -- Laws of wires: finding a use, running from use to use, the points that a wire meets, its faults.
+use Rattle.std.specs.Prelude.{Err, None, Ok, Some}
 use Prim.Native.Nat.{◌+◌, ◌-◌, ◌<◌, ◌≤◌, suc, zero, ℕ}
 use mathlib.Core.Bool.{Bool, false, not, true}
 use mathlib.Core.List.{List, [], ◌++◌, ◌∷◌}
@@ -10,23 +11,21 @@ use lib.ListN.{drop, drop_of_length-le, get_or, length, length-drop, length-map,
 use lib.Seq.{drop-cons, get_or-drop, get_or-take}
 use borrow.Author.Tests.{eq-eqb, le-leb, lt-leb, lt-ltb, ltb-true, ne_eqb}
 use Rattle.edge.specs.Uses.{back_of, edge_number, front_of}
-use Rattle.errors.specs.declared.WireCheck.TheVariants.{Refused, Simple}
 use Rattle.errors.specs.declared.WireError.TheVariants.{EmptyWire, NotClosedWire, NotSimpleWire}
 use Rattle.lists.proofs.Marks.{AllBelow, met_fresh}
 use Rattle.lists.specs.Lists.{no_dup, unless}
 use Rattle.lists.specs.Marks.{Below, met}
 use Rattle.wire.specs.Named.{Named}
 use Rattle.wire.specs.Wires.{closed, end_from, find_from, outline_of, points, runs, wire_faults}
-use Rattle.wire.specs.declared.Found.TheVariants.{At, Nothing}
 use Rattle.errors.specs.Sequence.{first_of_wire}
 
 -- a search among the uses from place i on
 module _ (us : List ℕ) (e i : ℕ) where
-  pub find_past : length us ≤ i → find_from i e (drop i us) ≡ Nothing
+  pub find_past : length us ≤ i → find_from i e (drop i us) ≡ None
   unfolding find_from
   find_past h = rw drop_of_length-le
 
-  pub find_here : i < length us → edge_number (get_or us i 0) ≡ e → find_from i e (drop i us) ≡ At i
+  pub find_here : i < length us → edge_number (get_or us i 0) ≡ e → find_from i e (drop i us) ≡ Some i
   unfolding find_from
   find_here h p = rw (drop-cons {A = ℕ} us i 0 h, eq-eqb (edge_number (get_or us i 0)) e p)
 
@@ -49,7 +48,7 @@ not_flip : (a b : Bool) → a ≡ not b → b ≡ not a
 not_flip a true e = rw e
 not_flip a false e = rw e
 
-all_pass : (a b c : Bool) → first_of_wire (unless a EmptyWire ++ unless b NotClosedWire ++ unless c NotSimpleWire) ≡ Simple
+all_pass : (a b c : Bool) → first_of_wire (unless a EmptyWire ++ unless b NotClosedWire ++ unless c NotSimpleWire) ≡ Ok tt
     → (a ≡ true) × (b ≡ true) × (c ≡ true)
 all_pass true true true h = (refl, refl, refl)
 all_pass true true false h = (refl, refl, cc)
@@ -97,10 +96,6 @@ module _ (fronts backs : List ℕ) where
       let l : k < length us = omega (arith, length_points us) in
       rw (get_d_points us k l) (n.point k l)
 
-  -- the point where the use at place i begins
-  pub front_below : (us : List ℕ) → Named fronts backs us → (i p : ℕ) → i < length us → p ≡ front_of fronts backs (get_or us i 0) → p < 2048
-  front_below us n i p h e = rw e (n.point i h)
-
   -- both columns have the edge of a named use
   pub named_edge : (us : List ℕ) → Named fronts backs us → (k : ℕ) → k < length us
       → (edge_number (get_or us k 0) < length fronts) × (edge_number (get_or us k 0) < length backs)
@@ -131,19 +126,19 @@ module _ (fronts backs : List ℕ) where
       not_flip again (no_dup (points fronts backs us)) (e ∙ met_fresh 2048 s (points fronts backs us) marks l b (points_below us n))
 
   -- the first fault of a wire
-  pub empty_wire : (us : List ℕ) → length us ≡ 0 → Refused EmptyWire ≡ first_of_wire (wire_faults fronts backs us)
+  pub empty_wire : (us : List ℕ) → length us ≡ 0 → Err EmptyWire ≡ first_of_wire (wire_faults fronts backs us)
   empty_wire us h = sym (rw h)
 
   module _ (us : List ℕ) (some : 0 < length us) where
-    pub open_wire : closed fronts backs us ≡ false → Refused NotClosedWire ≡ first_of_wire (wire_faults fronts backs us)
+    pub open_wire : closed fronts backs us ≡ false → Err NotClosedWire ≡ first_of_wire (wire_faults fronts backs us)
     open_wire c = sym (rw (lt-ltb 0 (length us) some, c))
 
     pub repeating_wire : closed fronts backs us ≡ true → no_dup (points fronts backs us) ≡ false
-        → Refused NotSimpleWire ≡ first_of_wire (wire_faults fronts backs us)
+        → Err NotSimpleWire ≡ first_of_wire (wire_faults fronts backs us)
     repeating_wire c d = sym (rw (lt-ltb 0 (length us) some, c, d))
 
     pub simple_wire : closed fronts backs us ≡ true → no_dup (points fronts backs us) ≡ true
-        → Simple ≡ first_of_wire (wire_faults fronts backs us)
+        → Ok tt ≡ first_of_wire (wire_faults fronts backs us)
     simple_wire c d = sym (rw (lt-ltb 0 (length us) some, c, d))
 
   -- a wire with no fault has a use, is closed and meets no point twice
@@ -152,7 +147,7 @@ module _ (fronts backs : List ℕ) where
     pub loops : closed fronts backs us ≡ true
     pub once : no_dup (points fronts backs us) ≡ true
 
-  pub simple_sound : (us : List ℕ) → first_of_wire (wire_faults fronts backs us) ≡ Simple → Sound us
+  pub simple_sound : (us : List ℕ) → first_of_wire (wire_faults fronts backs us) ≡ Ok tt → Sound us
   simple_sound us h =
       let t = all_pass (ltb 0 (length us)) (closed fronts backs us) (no_dup (points fronts backs us)) h in
       record { used = ltb-true 0 (length us) t.0; loops = t.1; once = t.2 }
@@ -166,11 +161,11 @@ module _ (fronts backs : List ℕ) where
 module _ (fronts backs : List ℕ) where
   -- a search among the uses from place i on for one that ends at point p
   module _ (us : List ℕ) (p i : ℕ) where
-    pub end_past : length us ≤ i → end_from fronts backs i p (drop i us) ≡ Nothing
+    pub end_past : length us ≤ i → end_from fronts backs i p (drop i us) ≡ None
     unfolding end_from
     end_past h = rw drop_of_length-le
 
-    pub end_here : i < length us → back_of fronts backs (get_or us i 0) ≡ p → end_from fronts backs i p (drop i us) ≡ At i
+    pub end_here : i < length us → back_of fronts backs (get_or us i 0) ≡ p → end_from fronts backs i p (drop i us) ≡ Some i
     unfolding end_from
     end_here h e = rw (drop-cons {A = ℕ} us i 0 h, eq-eqb (back_of fronts backs (get_or us i 0)) p e)
 

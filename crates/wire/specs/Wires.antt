@@ -1,12 +1,10 @@
 -- The wire, an outline: uses in sequence (FORMAT 1.6), and what the face rule asks of one (FORMAT 2.3). `fronts` and `backs` have the ends of the edges.
-use Rattle.std.specs.Prelude.{ℕ, ◌+◌, Bool, true, ◌&&◌, List, [], ◌∷◌, ◌++◌, map, eqb, leb, ltb, drop, length, take}
+use Rattle.std.specs.Prelude.{ℕ, ◌+◌, Bool, true, ◌&&◌, List, [], ◌∷◌, ◌++◌, map, eqb, leb, ltb, drop, length, take, None, Option, Some}
 use Rattle.lists.specs.Lists.{no_dup, pick, unless}
 use Rattle.errors.specs.declared.WireError.{WireError}
 use Rattle.errors.specs.declared.WireError.TheVariants.{EmptyWire, NotClosedWire, NotSimpleWire}
 use Rattle.errors.specs.Numbers.{Reply, done}
 use Rattle.edge.specs.Uses.{edge_number, front_of, back_of}
-use Rattle.wire.specs.declared.Found.{Found}
-use Rattle.wire.specs.declared.Found.TheVariants.{At, Nothing}
 
 module _ (fronts backs : List ℕ) where
   -- from point p, each use from where the one before ended, to point q
@@ -28,20 +26,20 @@ module _ (fronts backs : List ℕ) where
   wire_faults us = unless (ltb 0 (length us)) EmptyWire ++ unless (closed us) NotClosedWire ++ unless (no_dup (points us)) NotSimpleWire
 
 -- number and values of a search: the place, or none
-abbrev pub found_reply : Found → Reply
-found_reply (At i) = done (i ∷ [])
-found_reply Nothing = done []
+abbrev pub found_reply : Option ℕ → Reply
+found_reply (Some i) = done (i ∷ [])
+found_reply None = done []
 
 -- the place of the first use of edge e; the first use of the list has place i
-unfoldable pub find_from : ℕ → ℕ → List ℕ → Found
-find_from i e [] = Nothing
-find_from i e (u ∷ us) = pick (eqb (edge_number u) e) (At i) (find_from (i + 1) e us)
+unfoldable pub find_from : ℕ → ℕ → List ℕ → Option ℕ
+find_from i e [] = None
+find_from i e (u ∷ us) = pick (eqb (edge_number u) e) (Some i) (find_from (i + 1) e us)
 
 module _ (fronts backs : List ℕ) where
   -- the place of the first use that ends at point p; the first use of the list has place i
-  unfoldable pub end_from : ℕ → ℕ → List ℕ → Found
-  end_from i p [] = Nothing
-  end_from i p (u ∷ us) = pick (eqb (back_of fronts backs u) p) (At i) (end_from (i + 1) p us)
+  unfoldable pub end_from : ℕ → ℕ → List ℕ → Option ℕ
+  end_from i p [] = None
+  end_from i p (u ∷ us) = pick (eqb (back_of fronts backs u) p) (Some i) (end_from (i + 1) p us)
 
 -- the part of the use list that begins at `start`, or the empty part where it would pass the end
 abbrev pub outline_of : List ℕ → ℕ → ℕ → List ℕ

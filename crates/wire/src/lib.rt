@@ -10,27 +10,21 @@ ghost use Rattle.wire.specs.Wires.{closed, points, wire_faults, find_from, end_f
 ghost use Rattle.errors.specs.Sequence.{first_of_wire};
 
 use edge::{EdgeID, back_of, front_of};
-use errors::{WireCheck, WireError};
+use errors::WireError;
 use vertex::VertexID;
 
-// Where a use was found.
-#[derive(Clone, Copy)]
-pub enum Found {
-    At(usize),
-    Nothing,
-}
-
 // The place of the first use of an edge.
-pub fn find_use(uses: &[u16], e: EdgeID) -> Found
+pub fn find_use(uses: &[u16], e: EdgeID) -> Option<usize>
     ensures { result ≡ find_from 0 e.0 uses.now }
 {
+    // The form that document 01 names: a loop that yields the place by `break`, or nothing.
     let mut i: usize = 0;
     loop {
         if i >= uses.len() {
-            break Found::Nothing;
+            break None;
         }
         if uses[i] % 32768 == e.0 {
-            break Found::At(i);
+            break Some(i);
         }
         i += 1;
     }
@@ -53,20 +47,16 @@ pub fn is_closed(uses: &[u16], fronts: &[u16], backs: &[u16]) -> bool
     requires { Named fronts.now backs.now uses.now }
     ensures { result ≡ closed fronts.now backs.now uses.now }
 {
-    let n = uses.len();
-    if n == 0 {
+    let [head, rest @ ..] = uses else {
         return true;
-    }
-    let first = front_of(uses[0], fronts, backs);
-    let mut at = back_of(uses[0], fronts, backs);
-    let mut i: usize = 1;
-    while i < n {
-        let u = uses[i];
-        if at != front_of(u, fronts, backs) {
+    };
+    let first = front_of(*head, fronts, backs);
+    let mut at = back_of(*head, fronts, backs);
+    for u in rest {
+        if at != front_of(*u, fronts, backs) {
             return false;
         }
-        at = back_of(u, fronts, backs);
-        i += 1;
+        at = back_of(*u, fronts, backs);
     }
     at == first
 }
@@ -85,14 +75,12 @@ pub fn stamp_points(
     ensures marks_after { marks.new ≡ stamped stamp (points fronts.now backs.now uses.now) marks.old }
 {
     let mut again = false;
-    let mut i: usize = 0;
-    while i < uses.len() {
-        let p = front_of(uses[i], fronts, backs);
+    for u in uses {
+        let p = front_of(*u, fronts, backs);
         if marks[p] == stamp {
             again = true;
         }
         marks[p] = stamp;
-        i += 1;
     }
     again
 }
@@ -115,7 +103,7 @@ pub fn check_wire(
     backs: &[u16],
     marks: &mut [u16],
     stamp: u16,
-) -> WireCheck
+) -> Result<(), WireError>
     requires named { Named fronts.now backs.now uses.now }
     requires marks_len { length marks.old ≡ 2048 }
     requires below { Below stamp marks.old }
@@ -123,30 +111,31 @@ pub fn check_wire(
     ensures below_2 { Below (stamp + 1) marks.new }
 {
     if uses.len() == 0 {
-        return WireCheck::Refused(WireError::EmptyWire);
+        return Err(WireError::EmptyWire);
     }
     if !is_closed(uses, fronts, backs) {
-        return WireCheck::Refused(WireError::NotClosedWire);
+        return Err(WireError::NotClosedWire);
     }
     if !is_simple(uses, fronts, backs, marks, stamp) {
-        return WireCheck::Refused(WireError::NotSimpleWire);
+        return Err(WireError::NotSimpleWire);
     }
-    WireCheck::Simple
+    Ok(())
 }
 
 // The place of the first use that ends at a vertex.
-pub fn find_end(uses: &[u16], fronts: &[u16], backs: &[u16], v: VertexID) -> Found
+pub fn find_end(uses: &[u16], fronts: &[u16], backs: &[u16], v: VertexID) -> Option<usize>
     requires { Named fronts.now backs.now uses.now }
     ensures { result ≡ end_from fronts.now backs.now 0 v.0 uses.now }
 {
     let p = v.0 as usize;
+    // As in `find_use`.
     let mut k: usize = 0;
     loop {
         if k >= uses.len() {
-            break Found::Nothing;
+            break None;
         }
         if back_of(uses[k], fronts, backs) == p {
-            break Found::At(k);
+            break Some(k);
         }
         k += 1;
     }

@@ -1,12 +1,14 @@
 -- A number is read from the bytes that were written for it, and bytes are written again as they were read.
-use Prim.Native.Nat.{◌%◌, ◌+◌, ◌/◌, ◌<◌, ◌≤◌, suc, ℕ}
+use Prim.Native.Nat.{◌%◌, ◌+◌, ◌-◌, ◌/◌, ◌<◌, ◌≤◌, suc, ℕ}
 use mathlib.Core.List.{List, [], ◌++◌, ◌∷◌, map}
 use mathlib.Core.Path.{◌∙◌, ◌≡◌, ap, sym}
 use native.Mathlib.Nat.{add-zero}
 use native.Mathlib.Numerals.{add-one}
 use native.Mathlib.Omega.{arith}
 use lib.ListN.{get_or-map, drop, get_or, length, length-map, set, take}
-use lib.Seq.{drop-cons, get_or-drop, sets}
+use lib.Seq.{drop-cons, get_or-drop, sets, sets-eq}
+use borrow.Rule.Slice.PartMut.{put_mid}
+use Rattle.std.proofs.lemmas.List.{append_assoc, drop-drop}
 use Rattle.lists.proofs.Flat.{after, take_two}
 use Rattle.lists.proofs.Laws.{map_take}
 use Rattle.lists.proofs.Sets.{sets_next}
@@ -74,6 +76,14 @@ bytes64_of s at b h =
     (λ i. bytes32 (lo i) ++ bytes32 (hi i))
     ∙ (λ i. bytes32_of s at b (omega arith) i ++ bytes32_of s (at + 4) b (omega arith) i)
     ∙ take_two s at 4 4
+
+-- a list copied to the places from `at` on, up to `end`
+pub copied : {A : Type 0} (l : List A) (at end : ℕ) (vs part : List A) → end ≡ at + length vs → end ≤ length l → part ≡ vs
+    → put_mid at (end - at) l part ≡ sets l at vs
+copied l at end vs part e h p =
+    let n : end - at ≡ length vs = omega arith in
+    let room : at + length vs ≤ length l = omega arith in
+    rw (p, n, sets-eq vs l at room, drop-drop (length vs) at l, append_assoc)
 
 -- one more of the numbers of 16 bits
 pub short_next : (l : List ℕ) (at : ℕ) (v : List ℕ) (i : ℕ) → i < length v

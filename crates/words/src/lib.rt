@@ -82,11 +82,7 @@ pub fn copy_u16s(from: &[u16], out: &mut [u16], at: usize)
     requires { at + length from.now ≤ length out.old }
     ensures { out.new ≡ sets out.old at from.now }
 {
-    let mut i: usize = 0;
-    while i < from.len() {
-        out[at + i] = from[i];
-        i += 1;
-    }
+    out[at..at + from.len()].copy_from_slice(from);
 }
 
 // A number as one of 16 bits; 65,535 for a larger one.
@@ -101,10 +97,8 @@ pub fn put_saturated(ns: &[u64], out: &mut [u16], at: usize)
     requires { at + length ns.now ≤ length out.old }
     ensures { out.new ≡ sets out.old at (map short ns.now) }
 {
-    let mut i: usize = 0;
-    while i < ns.len() {
-        out[at + i] = saturated(ns[i]);
-        i += 1;
+    for (i, n) in ns.iter().enumerate() {
+        out[at + i] = saturated(*n);
     }
 }
 
@@ -114,10 +108,8 @@ pub fn sum_of(ns: &[u16], n: usize) -> usize
     ensures { result ≡ sum (take n ns.now) }
 {
     let mut total: usize = 0;
-    let mut i: usize = 0;
-    while i < n {
-        total += index(ns[i]);
-        i += 1;
+    for x in &ns[..n] {
+        total += index(*x);
     }
     total
 }

@@ -1,5 +1,9 @@
 -- The pieces worked by hand (FORMAT 3.9), in one table. The answers are those given there, or follow from FORMAT by hand.
-use Rattle.std.specs.Prelude.{ℕ, ◌+◌, List, [], ◌∷◌, ◌++◌, map, length, replicate}
+use Rattle.edge.specs.declared.EdgeID.{EdgeID}
+use Rattle.edit_answers.specs.declared.EditError.{EditError}
+use Rattle.errors.specs.declared.CallError.{CallError}
+use Rattle.errors.specs.declared.CallError.TheVariants.{Refused, Unread}
+use Rattle.std.specs.Prelude.{ℕ, ◌+◌, List, [], ◌∷◌, ◌++◌, map, length, replicate, Err, Ok, Result}
 use Prim.Native.String.{String}
 use Rattle.std.specs.Float.{binary64}
 use Rattle.std.specs.Float.Ieee.{of_bits, to_bits}
@@ -7,8 +11,6 @@ use Rattle.curve.specs.Curves.{parameter_of}
 use Rattle.edge.specs.Edges.{edge}
 use Rattle.edge.specs.declared.Edge.{Edge}
 use Rattle.edit_answers.specs.Answers.{edit_number}
-use Rattle.edit_answers.specs.declared.CutAnswer.{CutAnswer}
-use Rattle.edit_answers.specs.declared.CutAnswer.TheVariants.{Cut, Not, Refused}
 use Rattle.errors.specs.Numbers.{number}
 use Rattle.face.specs.declared.Face.{Face}
 use Rattle.lists.specs.Lists.{flat}
@@ -48,10 +50,10 @@ pub data Answer : Type 0 where
 abbrev ends_of : Edge → Ends
 ends_of e = ends e.front.0 e.back.0 (to_bits binary64 e.curve.t0) (to_bits binary64 e.curve.t1)
 
-abbrev cut_to : CutAnswer → Content → Answer
-cut_to (Cut a b) c = halves a.0 b.0 (wires_in c) (map ends_of c.edges)
-cut_to (Refused f) c = refused (number f)
-cut_to (Not e) c = refused (edit_number e)
+abbrev cut_to : Result (EdgeID × EdgeID) (CallError EditError) → Content → Answer
+cut_to (Ok (a, b)) c = halves a.0 b.0 (wires_in c) (map ends_of c.edges)
+cut_to (Err (Unread f)) c = refused (number f)
+cut_to (Err (Refused e)) c = refused (edit_number e)
 
 -- what the definitions answer
 abbrev pub answer_to : Question → Answer

@@ -1,4 +1,3 @@
-use Prim.Native.Nat.{◌-◌}
 use native.Mathlib.Omega.{arith}
 use Rattle.components.proofs.Linking.{member_all, member_next}
 use Rattle.groups.proofs.All.{joins_start}
@@ -8,18 +7,18 @@ use Rattle.components.proofs.join_part.Goals as goal
 pair : {A B : Type 0} → A → B → A × B
 pair a b = (a, b)
 
-pub loop-i-init : goal.loop-i-init
-loop-i-init c = joins_start _ _ _ _ _ c.requires.0
+pub loop-u-init : goal.loop-u-init
+loop-u-init c = joins_start _ _ _ _ _ c.requires.0
 
 pub join-requires : goal.join-requires
 join-requires c = let pre = c.requires in
-    ready _ _ _ c.loop-i.invariant.forest _ _ (omega (arith, pre.1 c.loop-i.i (omega arith), c.index.ensures.0)) pre.2
+    ready _ _ _ c.loop-u.invariant.forest _ _ (omega (arith, pre.1 c.loop-u.u-index (omega arith), c.index.ensures.0)) pre.2
 
-pub loop-i-preserved : goal.loop-i-preserved
-loop-i-preserved c = member_next c.args.n c.args.part.now c.args.member c.requires.1 c.requires.2 c.loop-i.invariant (omega arith) c.index.ensures.0 (pair c.join.ensures.parents_after c.join.ensures.sizes_after)
+pub loop-u-preserved : goal.loop-u-preserved
+loop-u-preserved c = member_next c.args.n c.args.part.now c.args.member c.requires.1 c.requires.2 c.loop-u.invariant (omega arith) c.index.ensures.0 (pair c.join.ensures.parents_after c.join.ensures.sizes_after)
 
 pub returns-clause-parents_after : goal.returns-clause-parents_after
-returns-clause-parents_after c = let p = member_all c.args.n c.args.part.now c.args.member c.requires.1 c.requires.2 c.loop-i.invariant (omega arith) in p.0
+returns-clause-parents_after c = let p = member_all c.args.n c.args.part.now c.args.member c.requires.1 c.requires.2 c.loop-u.invariant (omega arith) in p.0
 
 pub returns-clause-sizes_after : goal.returns-clause-sizes_after
-returns-clause-sizes_after c = let p = member_all c.args.n c.args.part.now c.args.member c.requires.1 c.requires.2 c.loop-i.invariant (omega arith) in p.1
+returns-clause-sizes_after c = let p = member_all c.args.n c.args.part.now c.args.member c.requires.1 c.requires.2 c.loop-u.invariant (omega arith) in p.1

@@ -1,13 +1,9 @@
 -- After i turns the edges of the first i uses are joined with the member.
-use Prim.Native.Nat.{◌-◌}
 use mathlib.Core.List.{map}
 use lib.ListN.{length, replicate}
 use Rattle.edge.specs.Uses.{edge_number}
 use Rattle.groups.proofs.All.{Joins}
 use Rattle.components.proofs.join_part.Given as goal
 
-abbrev pub invariant-loop-i : goal.invariant-loop-i
-invariant-loop-i l = Joins l.n (map edge_number l.part) (replicate (length l.part) l.member) l.initial.parents l.initial.sizes l.parents l.sizes l.i
-
-abbrev pub decreases-loop-i : goal.decreases-loop-i
-decreases-loop-i l = length l.part - l.i
+abbrev pub invariant-loop-u : goal.invariant-loop-u
+invariant-loop-u l = Joins l.n (map edge_number l.part) (replicate (length l.part) l.member) l.initial.parents l.initial.sizes l.parents l.sizes l.u-index

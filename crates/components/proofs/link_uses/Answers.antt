@@ -1,4 +1,3 @@
-use Prim.Native.Nat.{◌-◌}
 use native.Mathlib.Omega.{arith}
 use Rattle.components.proofs.Linking.{linking_all, linking_fits, linking_next, linking_start, linking_within}
 use Rattle.components.proofs.link_uses.Goals as goal

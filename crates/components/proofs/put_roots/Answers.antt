@@ -1,4 +1,3 @@
-use Prim.Native.Nat.{◌-◌}
 use native.Mathlib.Omega.{arith}
 use Rattle.components.proofs.Loops.{putting_all, putting_long, putting_next, putting_room, putting_start, root_at, roots_in, roots_long, roots_low, roots_room}
 use Rattle.components.proofs.put_roots.Goals as goal

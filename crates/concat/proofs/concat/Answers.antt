@@ -1,9 +1,6 @@
 use native.Mathlib.Omega.{arith}
-use Prim.Native.Nat.{◌<◌}
-use lib.ListN.{get_or}
 use mathlib.Core.Path.{ap, sym, ◌∙◌, ◌≡◌}
-use Rattle.edit_answers.specs.declared.JoinAnswer.TheVariants.{Joined}
-use Rattle.errors.proofs.Laws.{accepted_none}
+use Rattle.errors.proofs.Laws.{accepted_none, handed_on}
 use Rattle.pattern.proofs.Counts.{edges_counted}
 use Rattle.pattern.specs.Checks.{pattern_faults}
 use Rattle.pattern.specs.Contents.{Pattern, content}
@@ -11,112 +8,68 @@ use Rattle.shell_edits.proofs.ConcatTheorem.{concat_pattern_accepted}
 use Rattle.shell_edits.specs.Edits.{concat_content, concat_faults, joined_edge}
 use Rattle.shell_wires.proofs.Facts.{Fine}
 use Rattle.shell_wires.proofs.Held.{held_fine}
-use Rattle.store.specs.Store.{count_table, held}
+use Rattle.std.specs.Prelude.{Ok}
+use Rattle.store.specs.Store.{held}
 use Rattle.concat.proofs.Judged.{concat_room, joint_none}
 use Rattle.concat.proofs.Stored.{join_done, join_not, join_refused, joint_whole, next_is, stored_appended}
 use Rattle.concat.specs.Joins.{appended, joint}
-use Rattle.concat.specs.declared.Joint.TheVariants.{Whole}
 use Rattle.concat.proofs.concat.Goals as goal
+use Rattle.concat.proofs.concat.Goals.{After-append_edge, In_ok-check}
 
-pub returns-in-Refused-clause-value : goal.returns-in-Refused-clause-value
-returns-in-Refused-clause-value c = let P : Pattern = held c.args.t.now c.args.spans.now in
-    let a = c.args in
-    let r = join_refused (P) (concat_faults (content (P)) a.u a.v) (concat_content (content (P)) a.u a.v) (sym c.check-checked.ensures ∙ c.in-Refused.is) in
-    r.0
+good : (c : In_ok-check) → Fine (held c.args.t.now c.args.spans.now)
+good c =
+    held_fine c.args.t.now c.args.spans.now c.tables_known.ensures (accepted_none _ (sym c.check.ensures ∙ c.in_ok-check.was))
 
-pub returns-in-Refused-clause-spans_after : goal.returns-in-Refused-clause-spans_after
-returns-in-Refused-clause-spans_after c = let P : Pattern = held c.args.t.now c.args.spans.now in
-    let a = c.args in
-    let r = join_refused (P) (concat_faults (content (P)) a.u a.v) (concat_content (content (P)) a.u a.v) (sym c.check-checked.ensures ∙ c.in-Refused.is) in
-    r.1
+pub returns-in_err-check-clause-value : goal.returns-in_err-check-clause-value
+returns-in_err-check-clause-value c =
+    let k = content (held c.args.t.now c.args.spans.now) in
+    handed_on _ _ c.from_residual.ensures.1 ∙ (join_refused _ (concat_faults k c.args.u c.args.v) (concat_content k c.args.u c.args.v) (sym c.check.ensures ∙ c.in_err-check.was)).0
 
-pub returns-in-Refused-clause-spans_after_2 : goal.returns-in-Refused-clause-spans_after_2
-returns-in-Refused-clause-spans_after_2 c = let P : Pattern = held c.args.t.now c.args.spans.now in
-    let a = c.args in
-    let r = join_refused (P) (concat_faults (content (P)) a.u a.v) (concat_content (content (P)) a.u a.v) (sym c.check-checked.ensures ∙ c.in-Refused.is) in
-    λ fine. fine
+pub returns-in_err-check-clause-spans_after : goal.returns-in_err-check-clause-spans_after
+returns-in_err-check-clause-spans_after c =
+    let k = content (held c.args.t.now c.args.spans.now) in
+    (join_refused _ (concat_faults k c.args.u c.args.v) (concat_content k c.args.u c.args.v) (sym c.check.ensures ∙ c.in_err-check.was)).1
 
-pub concat_uses-made-requires : goal.concat_uses-made-requires
-concat_uses-made-requires c = let P : Pattern = held c.args.t.now c.args.spans.now in
-    let good : Fine (P) = held_fine c.args.t.now c.args.spans.now c.tables_known.ensures
-    (accepted_none (pattern_faults (P)) (sym c.check-checked.ensures ∙ c.in-Accepted.is)) in
-    (good).ok
+pub concat_uses-requires : goal.concat_uses-requires
+concat_uses-requires c =
+    (good c).ok
+
+pub returns-in_err-d-clause-value : goal.returns-in_err-d-clause-value
+returns-in_err-d-clause-value c =
+    let k = content (held c.args.t.now c.args.spans.now) in
+    let s = good (goal.at.returns-in_err-d-clause-value c).In_ok-check in
+    handed_on _ _ c.from_residual-in_err-d.ensures.1 ∙ (join_not _ (concat_faults k c.args.u c.args.v) (concat_content k c.args.u c.args.v) s.ok (joined_edge k c.args.u c.args.v) (sym c.concat_uses.ensures ∙ c.in_err-d.was)).0
+
+pub returns-in_err-d-clause-spans_after : goal.returns-in_err-d-clause-spans_after
+returns-in_err-d-clause-spans_after c =
+    let k = content (held c.args.t.now c.args.spans.now) in
+    let s = good (goal.at.returns-in_err-d-clause-spans_after c).In_ok-check in
+    (join_not _ (concat_faults k c.args.u c.args.v) (concat_content k c.args.u c.args.v) s.ok (joined_edge k c.args.u c.args.v) (sym c.concat_uses.ensures ∙ c.in_err-d.was)).1
 
 pub append_edge-requires : goal.append_edge-requires
-append_edge-requires c = let P : Pattern = held c.args.t.now c.args.spans.now in
-    let good : Fine (P) = held_fine c.args.t.now c.args.spans.now c.tables_known.ensures
-    (accepted_none (pattern_faults (P)) (sym c.check-checked.ensures ∙ c.in-Accepted.is)) in
-    let made : joint (concat_faults (content (P)) c.args.u c.args.v) (joined_edge (content (P)) c.args.u c.args.v) ≡ Whole c.in-Whole.d = sym c.concat_uses-made.ensures ∙ c.in-Whole.is in
-    let few : get_or (count_table c.args.t.now) 1 0 < 1024 = let p = P in
-    let s = good in
-    omega (arith, edges_counted p s.limits s.full, concat_room (content p) c.args.u c.args.v (joined_edge (content p) c.args.u c.args.v) (made)) in
-    few
+append_edge-requires c =
+    let k = content (held c.args.t.now c.args.spans.now) in
+    let s = good (goal.at.append_edge-requires c).In_ok-check in
+    omega (arith, edges_counted _ s.limits s.full, concat_room k c.args.u c.args.v (joined_edge k c.args.u c.args.v) (sym c.concat_uses.ensures ∙ c.in_ok-d.was))
 
-pub returns-in-Not-clause-value : goal.returns-in-Not-clause-value
-returns-in-Not-clause-value c = let P : Pattern = held c.args.t.now c.args.spans.now in
-    let good : Fine (P) = held_fine c.args.t.now c.args.spans.now c.tables_known.ensures
-    (accepted_none (pattern_faults (P)) (sym c.check-checked.ensures ∙ c.in-Accepted.is)) in
-    let a = c.args in
-    let k = content (P) in
-    let r = join_not (P) (concat_faults k a.u a.v) (concat_content k a.u a.v) (good).ok (joined_edge k a.u a.v) (sym c.concat_uses-made.ensures ∙ c.in-Not.is) in
-    r.0
+pub returns-clause-value : goal.returns-clause-value
+returns-clause-value c =
+    let k = content (held c.args.t.now c.args.spans.now) in
+    let s = good (goal.at.returns-clause-value c).In_ok-check in
+    let es = concat_faults k c.args.u c.args.v in
+    ap Ok (next_is _ s c.append_edge.ensures.result_value) ∙ (join_done _ es (concat_content k c.args.u c.args.v) s.ok (joint_none es (joined_edge k c.args.u c.args.v) (sym c.concat_uses.ensures ∙ c.in_ok-d.was))).0
 
-pub returns-in-Not-clause-spans_after : goal.returns-in-Not-clause-spans_after
-returns-in-Not-clause-spans_after c = let P : Pattern = held c.args.t.now c.args.spans.now in
-    let good : Fine (P) = held_fine c.args.t.now c.args.spans.now c.tables_known.ensures
-    (accepted_none (pattern_faults (P)) (sym c.check-checked.ensures ∙ c.in-Accepted.is)) in
-    let a = c.args in
-    let k = content (P) in
-    let r = join_not (P) (concat_faults k a.u a.v) (concat_content k a.u a.v) (good).ok (joined_edge k a.u a.v) (sym c.concat_uses-made.ensures ∙ c.in-Not.is) in
-    r.1
+pub returns-clause-spans_after : goal.returns-clause-spans_after
+returns-clause-spans_after c =
+    let p : Pattern = held c.args.t.now c.args.spans.now in
+    let k = content p in
+    let s = good (goal.at.returns-clause-spans_after c).In_ok-check in
+    let es = concat_faults k c.args.u c.args.v in
+    let d = joined_edge k c.args.u c.args.v in
+    let made : joint es d ≡ Ok c.in_ok-d.d = sym c.concat_uses.ensures ∙ c.in_ok-d.was in
+    c.append_edge.ensures.spans_after ∙ ap (appended p) (joint_whole es d made) ∙ stored_appended p s d ∙ (join_done p es (concat_content k c.args.u c.args.v) s.ok (joint_none es d made)).1
 
-pub returns-in-Not-clause-spans_after_2 : goal.returns-in-Not-clause-spans_after_2
-returns-in-Not-clause-spans_after_2 c = let P : Pattern = held c.args.t.now c.args.spans.now in
-    let good : Fine (P) = held_fine c.args.t.now c.args.spans.now c.tables_known.ensures
-    (accepted_none (pattern_faults (P)) (sym c.check-checked.ensures ∙ c.in-Accepted.is)) in
-    let a = c.args in
-    let k = content (P) in
-    let r = join_not (P) (concat_faults k a.u a.v) (concat_content k a.u a.v) (good).ok (joined_edge k a.u a.v) (sym c.concat_uses-made.ensures ∙ c.in-Not.is) in
-    λ fine. fine
-
-pub returns-in-Whole-clause-value : goal.returns-in-Whole-clause-value
-returns-in-Whole-clause-value c = let P : Pattern = held c.args.t.now c.args.spans.now in
-    let good : Fine (P) = held_fine c.args.t.now c.args.spans.now c.tables_known.ensures
-    (accepted_none (pattern_faults (P)) (sym c.check-checked.ensures ∙ c.in-Accepted.is)) in
-    let made : joint (concat_faults (content (P)) c.args.u c.args.v) (joined_edge (content (P)) c.args.u c.args.v) ≡ Whole c.in-Whole.d = sym c.concat_uses-made.ensures ∙ c.in-Whole.is in
-    let a = c.args in
-    let p = P in
-    let s = good in
-    let es = concat_faults (content p) a.u a.v in
-    let d = joined_edge (content p) a.u a.v in
-    let e = made in
-    let r = join_done p es (concat_content (content p) a.u a.v) s.ok (joint_none es d e) in
-    let stored = c.append_edge.ensures.spans_after ∙ ap (appended p) (joint_whole es d e) ∙ stored_appended p s d ∙ r.1 in ap Joined (next_is p s c.append_edge.ensures.result_value) ∙ r.0
-
-pub returns-in-Whole-clause-spans_after : goal.returns-in-Whole-clause-spans_after
-returns-in-Whole-clause-spans_after c = let P : Pattern = held c.args.t.now c.args.spans.now in
-    let good : Fine (P) = held_fine c.args.t.now c.args.spans.now c.tables_known.ensures
-    (accepted_none (pattern_faults (P)) (sym c.check-checked.ensures ∙ c.in-Accepted.is)) in
-    let made : joint (concat_faults (content (P)) c.args.u c.args.v) (joined_edge (content (P)) c.args.u c.args.v) ≡ Whole c.in-Whole.d = sym c.concat_uses-made.ensures ∙ c.in-Whole.is in
-    let a = c.args in
-    let p = P in
-    let s = good in
-    let es = concat_faults (content p) a.u a.v in
-    let d = joined_edge (content p) a.u a.v in
-    let e = made in
-    let r = join_done p es (concat_content (content p) a.u a.v) s.ok (joint_none es d e) in
-    let stored = c.append_edge.ensures.spans_after ∙ ap (appended p) (joint_whole es d e) ∙ stored_appended p s d ∙ r.1 in stored
-
-pub returns-in-Whole-clause-spans_after_2 : goal.returns-in-Whole-clause-spans_after_2
-returns-in-Whole-clause-spans_after_2 c = let P : Pattern = held c.args.t.now c.args.spans.now in
-    let good : Fine (P) = held_fine c.args.t.now c.args.spans.now c.tables_known.ensures
-    (accepted_none (pattern_faults (P)) (sym c.check-checked.ensures ∙ c.in-Accepted.is)) in
-    let made : joint (concat_faults (content (P)) c.args.u c.args.v) (joined_edge (content (P)) c.args.u c.args.v) ≡ Whole c.in-Whole.d = sym c.concat_uses-made.ensures ∙ c.in-Whole.is in
-    let a = c.args in
-    let p = P in
-    let s = good in
-    let es = concat_faults (content p) a.u a.v in
-    let d = joined_edge (content p) a.u a.v in
-    let e = made in
-    let r = join_done p es (concat_content (content p) a.u a.v) s.ok (joint_none es d e) in
-    let stored = c.append_edge.ensures.spans_after ∙ ap (appended p) (joint_whole es d e) ∙ stored_appended p s d ∙ r.1 in λ fine. ap pattern_faults stored ∙ concat_pattern_accepted p s.full a.u a.v fine
+pub returns-clause-spans_after_2 : goal.returns-clause-spans_after_2
+returns-clause-spans_after_2 c =
+    let s = good (goal.at.returns-clause-spans_after_2 c).In_ok-check in
+    λ fine. ap pattern_faults (returns-clause-spans_after c) ∙ concat_pattern_accepted _ s.full c.args.u c.args.v fine

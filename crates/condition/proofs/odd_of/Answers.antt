@@ -1,4 +1,3 @@
-use Prim.Native.Nat.{◌-◌}
 use native.Mathlib.Omega.{arith}
 use Rattle.condition.proofs.Loops.{writing_all, writing_next, writing_start}
 use Rattle.condition.proofs.odd_of.Goals as goal

@@ -1,7 +1,5 @@
 -- After k turns the first points of the first k wires are stored.
-use Prim.Native.Nat.{◌-◌}
 use mathlib.Core.List.{[]}
-use lib.ListN.{length}
 use Rattle.lists.proofs.Split.{Walk}
 use Rattle.lists.specs.Lists.{split}
 use Rattle.connected.proofs.Loops.{Writing, first_point}
@@ -9,6 +7,3 @@ use Rattle.connected.proofs.firsts_of.Given as goal
 
 abbrev pub invariant-loop-k : goal.invariant-loop-k
 invariant-loop-k l = Walk l.lens l.k l.at × Writing (first_point l.fronts l.backs) [] 2048 (split l.lens l.uses) l.out l.k
-
-abbrev pub decreases-loop-k : goal.decreases-loop-k
-decreases-loop-k l = length l.lens - l.k

@@ -1,11 +1,6 @@
 -- The wires from number k on.
-use Prim.Native.Nat.{◌-◌}
-use lib.ListN.{length}
 use Rattle.cut_edge_faults.proofs.Flags.{Counting}
 use Rattle.cut_edge_faults.proofs.count_cuts.Given as goal
 
 abbrev pub invariant-loop-k : goal.invariant-loop-k
 invariant-loop-k l = Counting l.flags l.e.0 l.lens l.uses l.count l.at l.k
-
-abbrev pub decreases-loop-k : goal.decreases-loop-k
-decreases-loop-k l = length l.lens - l.k

@@ -1,12 +1,7 @@
 -- The wires from number k on.
-use Prim.Native.Nat.{◌-◌}
-use lib.ListN.{length}
 use Rattle.cut_edge_faults.proofs.Flags.{Seeking}
 use Rattle.edge.specs.Uses.{front_of}
 use Rattle.cut_edge_faults.proofs.meets_vertex.Given as goal
 
 abbrev pub invariant-loop-k : goal.invariant-loop-k
 invariant-loop-k l = Seeking l.flags (front_of l.fronts l.backs) l.v.0 l.lens l.uses l.at l.k
-
-abbrev pub decreases-loop-k : goal.decreases-loop-k
-decreases-loop-k l = length l.lens - l.k

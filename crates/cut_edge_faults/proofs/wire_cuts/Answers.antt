@@ -10,8 +10,8 @@ use Rattle.cut_edge_faults.proofs.wire_cuts.Goals as goal
 pub returns-then-not-flag : goal.returns-then-not-flag
 returns-then-not-flag c = let args = c.args in cuts_off args.flag (has args.e.0 (map edge_number args.uses.now)) (ap not c.if-not-flag.true)
 
-pub returns-in-At : goal.returns-in-At
-returns-in-At c = cuts_at c.args.flag _ _ (ap not c.if-not-flag.false) c.find_use-found.ensures c.in-At.is
+pub returns-in-Some : goal.returns-in-Some
+returns-in-Some c = cuts_at c.args.flag _ _ (ap not c.if-not-flag.false) c.find_use.ensures c.in-Some.is
 
-pub returns-in-Nothing : goal.returns-in-Nothing
-returns-in-Nothing c = cuts_nothing c.args.flag _ _ (ap not c.if-not-flag.false) c.find_use-found.ensures c.in-Nothing.is
+pub returns-in-None : goal.returns-in-None
+returns-in-None c = cuts_nothing c.args.flag _ _ (ap not c.if-not-flag.false) c.find_use.ensures c.in-None.is

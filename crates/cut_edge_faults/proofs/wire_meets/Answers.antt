@@ -1,7 +1,5 @@
-use Prim.Native.Nat.{◌-◌}
 use mathlib.Core.List.{map}
 use mathlib.Core.Path.{◌∙◌, sym}
-use native.Mathlib.Omega.{arith}
 use Rattle.cut_edge_faults.proofs.Flags.{meets_off, meets_on, scan_here, scan_next, scan_past}
 use Rattle.edge.specs.Uses.{front_of}
 use Rattle.lists.specs.Lists.{has}
@@ -15,17 +13,17 @@ returns-then-not-flag c = let args = c.args in
     meets_off args.flag (has args.v.0 (map (front_of args.fronts.now args.backs.now) args.uses.now)) (ap not c.if-not-flag.true)
 
 pub front_of-requires : goal.front_of-requires
-front_of-requires c = named_edge _ _ _ c.requires _ c.loop-i-test.true
+front_of-requires c = named_edge _ _ _ c.requires _ c.loop-u-test.true
 
 pub returns-then-p-front_of : goal.returns-then-p-front_of
 returns-then-p-front_of c = let args = c.args in
     meets_on args.flag (front_of args.fronts.now args.backs.now) args.uses.now (ap not c.if-not-flag.false) c.index-p.ensures.0
-    (c.loop-i.invariant.1 ∙ scan_here (front_of _ _) _ _ _ c.loop-i-test.true (c.if-p-front_of.true ∙ c.front_of.ensures))
+    (c.loop-u.invariant ∙ scan_here (front_of _ _) _ _ _ c.loop-u-test.true (c.if-p-front_of.true ∙ c.front_of.ensures))
 
-pub loop-i-preserved : goal.loop-i-preserved
-loop-i-preserved c = (omega arith, c.loop-i.invariant.1 ∙ scan_next (front_of _ _) _ _ _ c.loop-i-test.true (λ h. c.if-p-front_of.false (h ∙ sym c.front_of.ensures)))
+pub loop-u-preserved : goal.loop-u-preserved
+loop-u-preserved c = c.loop-u.invariant ∙ scan_next (front_of _ _) _ _ _ c.loop-u-test.true (λ h. c.if-p-front_of.false (h ∙ sym c.front_of.ensures))
 
 pub returns : goal.returns
 returns c = let args = c.args in
     meets_on args.flag (front_of args.fronts.now args.backs.now) args.uses.now (ap not c.if-not-flag.false) c.index-p.ensures.0
-    (c.loop-i.invariant.1 ∙ scan_past (front_of _ _) _ _ _ c.loop-i-test.false)
+    (c.loop-u.invariant ∙ scan_past (front_of _ _) _ _ _ c.loop-u-test.false)

@@ -8,8 +8,8 @@ loop-k-init c = (omega arith, refl)
 pub loop-k-preserved : goal.loop-k-preserved
 loop-k-preserved c = passed_next _ _ c.loop-k.invariant c.loop-k-test.true (sym c.reads_back.ensures ∙ c.if-reads_back.false)
 
-pub returns-after-loop-k : goal.returns-after-loop-k
-returns-after-loop-k c = (passed_all _ _ c.loop-k.invariant (omega arith), omega arith)
+pub returns : goal.returns
+returns c = (passed_all _ _ c.loop-k.invariant (omega arith), omega arith)
 
 pub returns-then-reads_back : goal.returns-then-reads_back
 returns-then-reads_back c = (passed_here _ _ c.loop-k.invariant c.loop-k-test.true (sym c.reads_back.ensures ∙ c.if-reads_back.true), omega arith)

@@ -1,7 +1,7 @@
 use Rattle.draft_parts.proofs.Added.{edge_added, edge_room}
 use Rattle.store.proofs.View.{held_seven}
 use Rattle.store.specs.Store.{held}
-use Prim.Native.Nat.{◌<◌, ◌-◌}
+use Prim.Native.Nat.{◌<◌}
 use lib.ListN.{get_or}
 use borrow.Author.Rules.{rules}
 use Rattle.draft_parts.proofs.add_edge.Goals as goal

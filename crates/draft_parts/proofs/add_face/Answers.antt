@@ -6,7 +6,7 @@ use Rattle.draft_parts.specs.Parts.{wires_of}
 use Rattle.store.proofs.View.{held_seven}
 use Rattle.store.specs.Store.{held}
 use Rattle.words.specs.Words.{short}
-use Prim.Native.Nat.{◌≤◌, ◌<◌, ◌+◌, ◌-◌}
+use Prim.Native.Nat.{◌≤◌, ◌<◌, ◌+◌}
 use lib.ListN.{length, get_or}
 use mathlib.Core.Path.{◌≡◌}
 use borrow.Author.Rules.{rules}

@@ -1,20 +1,19 @@
--- The tests in turn.
-use borrow.Author.Tests.{ne_eqb}
+-- The kinds in turn.
+use Rattle.draft_parts.proofs.Counts.{needed_other}
 use Rattle.draft_parts.specs.Parts.{needed_words}
 use Rattle.draft_parts.proofs.needed.Goals as goal
 
-pub returns-then-k-eq2 : goal.returns-then-k-eq2
+pub returns-in-Edge : goal.returns-in-Edge
 unfolding needed_words
-returns-then-k-eq2 c = rw c.if-k-eq2.true
+returns-in-Edge c = rw c.in-Edge.is
 
-pub returns-then-k-eq4 : goal.returns-then-k-eq4
+pub returns-in-Shell : goal.returns-in-Shell
 unfolding needed_words
-returns-then-k-eq4 c = rw c.if-k-eq4.true
+returns-in-Shell c = rw c.in-Shell.is
 
-pub returns-then-k-eq6 : goal.returns-then-k-eq6
+pub returns-in-Empty : goal.returns-in-Empty
 unfolding needed_words
-returns-then-k-eq6 c = rw c.if-k-eq6.true
+returns-in-Empty c = rw c.in-Empty.is
 
-pub returns : goal.returns
-unfolding needed_words
-returns c = rw (ne_eqb _ _ c.if-k-eq2.false, ne_eqb _ _ c.if-k-eq4.false, ne_eqb _ _ c.if-k-eq6.false)
+pub returns-in_default : goal.returns-in_default
+returns-in_default c = needed_other _ c.in_default.not-Edge c.in_default.not-Shell c.in_default.not-Empty

@@ -1,14 +1,9 @@
 use mathlib.Core.Path.{◌∙◌, refl, sym}
 use Rattle.draft_text.proofs.Lines.{wrong_right}
 use Rattle.draft_text.proofs.Turns.{Here, gathering_all, gathering_right, gathering_start, gathering_wrong, line_long, line_short}
-use Prim.Native.Nat.{◌-◌}
 use borrow.Author.Rules.{rules}
 use Rattle.draft_text.proofs.gather.Goals as goal
 use Rattle.draft_text.proofs.gather.Goals.{After-trimmed_length}
-
--- a record from the pairs that a law gives
-split2 : {A B R : Type 0} → (A → B → R) → A × B → R
-split2 f p = f p.0 p.1
 
 -- the line that begins here
 here : (c : After-trimmed_length) → Here c.args.text.now c.loop-at.at c.line_end-end.result c.trimmed_length.result
@@ -41,16 +36,16 @@ pub slice_bounds-add_line-end : goal.slice_bounds-add_line-end
 slice_bounds-add_line-end c =
     let s = line_short (here (goal.at.slice_bounds-add_line-end c).After-trimmed_length) in search rules
 
-pub add_line-check-requires : goal.add_line-check-requires
-add_line-check-requires c =
-    let s = line_long (here (goal.at.add_line-check-requires c).After-trimmed_length) in (search rules, c.loop-at.invariant.1.few)
+pub add_line-requires : goal.add_line-requires
+add_line-requires c =
+    let s = line_long (here (goal.at.add_line-requires c).After-trimmed_length) in (search rules, c.loop-at.invariant.1.few)
 
-pub returns-in-Wrong-clause-m_value : goal.returns-in-Wrong-clause-m_value
-returns-in-Wrong-clause-m_value c =
-    gathering_wrong c.loop-at.invariant.1 (here (goal.at.returns-in-Wrong-clause-m_value c).After-trimmed_length) _ (sym c.in-Wrong.is ∙ c.add_line-check.ensures.value)
+pub returns-in-Err-clause-m_value : goal.returns-in-Err-clause-m_value
+returns-in-Err-clause-m_value c =
+    gathering_wrong c.loop-at.invariant.1 (here (goal.at.returns-in-Err-clause-m_value c).After-trimmed_length) _ (sym c.in-Err.is ∙ c.add_line.ensures.value)
 
-pub returns-in-Wrong-clause-t_after : goal.returns-in-Wrong-clause-t_after
-returns-in-Wrong-clause-t_after c =
+pub returns-in-Err-clause-t_after : goal.returns-in-Err-clause-t_after
+returns-in-Err-clause-t_after c =
     wrong_right _
 
 pub loop-at-smaller : goal.loop-at-smaller
@@ -59,9 +54,9 @@ loop-at-smaller c =
 
 pub loop-at-preserved : goal.loop-at-preserved
 loop-at-preserved c =
-    let e = c.add_line-check.ensures.t_after c.in-Right.is in
-    (search rules, gathering_right c.loop-at.invariant.1 (here (goal.at.loop-at-preserved c).After-trimmed_length) _ _ (sym c.in-Right.is ∙ c.add_line-check.ensures.value) e.0 e.1)
+    let e = c.add_line.ensures.t_after c.in_default.is in
+    (search rules, gathering_right c.loop-at.invariant.1 (here (goal.at.loop-at-preserved c).After-trimmed_length) _ _ (sym c.in_default.is ∙ c.add_line.ensures.value) e.0 e.1)
 
 pub returns : goal.returns
 returns c =
-    split2 (λ x y. record { m_value = x; t_after = y }) (gathering_all c.loop-at.invariant.1 c.loop-at-test.false)
+    let g = gathering_all c.loop-at.invariant.1 c.loop-at-test.false in record { m_value = g.0; t_after = λ _. g.1 }

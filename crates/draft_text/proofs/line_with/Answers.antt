@@ -1,4 +1,3 @@
-use Prim.Native.Nat.{◌-◌}
 use mathlib.Core.Path.{refl}
 use Rattle.draft_text.proofs.Turns.{Here, finding_all, finding_here, finding_next, finding_start, line_long, line_short}
 use borrow.Author.Rules.{rules}

@@ -1,6 +1,5 @@
 -- The words of the line, in turn.
 use Prim.Native.Nat.{◌<◌, ℕ}
-use mathlib.Core.Logic.{⊎_elim}
 use mathlib.Core.Path.{◌∙◌, ap}
 use native.Mathlib.Omega.{arith}
 use lib.ListN.{get_or, length}
@@ -23,23 +22,23 @@ matched c =
     matching _ _ _ _ _ _ _ c.kind_of-first.ensures.0 c.kind_of-first.ensures.1 c.kind_of-first.ensures.2 c.requires (search rules) (pair c.match_line-m.ensures.out_after (pair c.match_line-m.ensures.words_value c.match_line-m.ensures.all_value))
 
 -- the number is the next, or there is none
-next : (c : Joined-n-gt0) → Next (matching _ _ _ _ _ _ _ c.kind_of-first.ensures.0 c.kind_of-first.ensures.1 c.kind_of-first.ensures.2 c.requires (search rules) (pair c.match_line-m.ensures.out_after (pair c.match_line-m.ensures.words_value c.match_line-m.ensures.all_value))) c.args.counts c.if-k-eq5.false c.if-k-eq0.false
+next : (c : Joined-n-gt0) → Next (matching _ _ _ _ _ _ _ c.kind_of-first.ensures.0 c.kind_of-first.ensures.1 c.kind_of-first.ensures.2 c.requires (search rules) (pair c.match_line-m.ensures.out_after (pair c.match_line-m.ensures.words_value c.match_line-m.ensures.all_value))) c.args.counts c.in_default.not-Comment c.in_default-kind.not-Unknown
 next c =
     let matched : Matching (words c.args.line.now) c.kind_of-first.result.kind c.match_line-m.result.words c.match_line-m.result.all c.match_line-m.new.out = matching _ _ _ _ _ _ _ c.kind_of-first.ensures.0 c.kind_of-first.ensures.1 c.kind_of-first.ensures.2 c.requires (search rules) (pair c.match_line-m.ensures.out_after (pair c.match_line-m.ensures.words_value c.match_line-m.ensures.all_value)) in
     let args = c.args in
     let m = matched in
     elim c.if-n-gt0.branch [
-      | then-n-gt0+else-values-next w ↦ next_same m args.counts c.if-k-eq5.false c.if-k-eq0.false w.if-n-gt0.true (w.if-values-next.false ∙ ap (λ (b : ℕ). get_or args.counts b 0) w.body_counted.ensures.0)
-      | else-n-gt0 w ↦ next_none m args.counts c.if-k-eq5.false c.if-k-eq0.false w.if-n-gt0.false
+      | then-n-gt0+else-values-next w ↦ next_same m args.counts c.in_default.not-Comment c.in_default-kind.not-Unknown w.if-n-gt0.true (w.if-values-next.false ∙ ap (λ (b : ℕ). get_or args.counts b 0) w.body_counted.ensures.0)
+      | else-n-gt0 w ↦ next_none m args.counts c.in_default.not-Comment c.in_default-kind.not-Unknown w.if-n-gt0.false
     ]
 
-pub returns-then-k-eq5 : goal.returns-then-k-eq5
-returns-then-k-eq5 c =
-    split2 (λ x y. record { kind_value = x; read = y }) (read_comment _ (words _) _ _ c.kind_of-first.ensures.0 c.if-k-eq5.true)
+pub returns-in-Comment : goal.returns-in-Comment
+returns-in-Comment c =
+    split2 (λ x y. record { kind_value = x; read = y }) (read_comment _ (words _) _ _ c.kind_of-first.ensures.0 c.in-Comment.is)
 
-pub returns-then-k-eq0 : goal.returns-then-k-eq0
-returns-then-k-eq0 c =
-    split2 (λ x y. record { kind_value = x; read = y }) (read_unknown _ (words _) _ _ c.kind_of-first.ensures.0 c.if-k-eq0.true)
+pub returns-in-Unknown : goal.returns-in-Unknown
+returns-in-Unknown c =
+    split2 (λ x y. record { kind_value = x; read = y }) (read_unknown _ (words _) _ _ c.kind_of-first.ensures.0 c.in-Unknown.is)
 
 pub bounds-values-0 : goal.bounds-values-0
 bounds-values-0 c =
@@ -47,7 +46,7 @@ bounds-values-0 c =
 
 pub returns-then-values-next : goal.returns-then-values-next
 returns-then-values-next c =
-    split2 (λ x y. record { kind_value = x; read = y }) (read_number (matched (goal.at.returns-then-values-next c).After-match_line-m) _ c.if-k-eq5.false c.if-k-eq0.false _
+    split2 (λ x y. record { kind_value = x; read = y }) (read_number (matched (goal.at.returns-then-values-next c).After-match_line-m) _ c.in_default.not-Comment c.in_default-kind.not-Unknown _
     (ap (λ (b : ℕ). get_or c.args.counts b 0) c.body_counted.ensures.0) c.if-n-gt0.true c.if-values-next.true)
 
 pub overflow_add-result : goal.overflow_add-result
@@ -60,12 +59,12 @@ overflow_add-result-then-n-needed c =
 
 pub returns-then-not-all : goal.returns-then-not-all
 returns-then-not-all c =
-    split2 (λ x y. record { kind_value = x; read = y }) (read_part (matched (goal.at.returns-then-not-all c).After-match_line-m) _ c.if-k-eq5.false c.if-k-eq0.false (next (goal.at.returns-then-not-all c).Joined-n-gt0) (c.if-not-all.true))
+    split2 (λ x y. record { kind_value = x; read = y }) (read_part (matched (goal.at.returns-then-not-all c).After-match_line-m) _ c.in_default.not-Comment c.in_default-kind.not-Unknown (next (goal.at.returns-then-not-all c).Joined-n-gt0) (c.if-not-all.true))
 
 pub returns-then-n-needed : goal.returns-then-n-needed
 returns-then-n-needed c =
-    split2 (λ x y. record { kind_value = x; read = y }) (read_few (matched (goal.at.returns-then-n-needed c).After-match_line-m) _ c.if-k-eq5.false c.if-k-eq0.false (next (goal.at.returns-then-n-needed c).Joined-n-gt0) (rw (← c.needed.ensures) c.if-n-needed.true))
+    split2 (λ x y. record { kind_value = x; read = y }) (read_few (matched (goal.at.returns-then-n-needed c).After-match_line-m) _ c.in_default.not-Comment c.in_default-kind.not-Unknown (next (goal.at.returns-then-n-needed c).Joined-n-gt0) (rw (← c.needed.ensures) c.if-n-needed.true))
 
 pub returns : goal.returns
 returns c =
-    split2 (λ x y. record { kind_value = x; read = y }) (read_right (matched (goal.at.returns c).After-match_line-m) _ c.if-k-eq5.false c.if-k-eq0.false (next (goal.at.returns c).Joined-n-gt0) (c.if-not-all.false) (rw (← c.needed.ensures) c.if-n-needed.false))
+    split2 (λ x y. record { kind_value = x; read = y }) (read_right (matched (goal.at.returns c).After-match_line-m) _ c.in_default.not-Comment c.in_default-kind.not-Unknown (next (goal.at.returns c).Joined-n-gt0) (c.if-not-all.false) (rw (← c.needed.ensures) c.if-n-needed.false))

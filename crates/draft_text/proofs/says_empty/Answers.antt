@@ -1,4 +1,3 @@
-use Prim.Native.Nat.{◌-◌}
 use Rattle.draft_text.proofs.Turns.{Here, asking_all, asking_here, asking_next, asking_start, line_short}
 use borrow.Author.Rules.{rules}
 use Rattle.draft_text.proofs.says_empty.Goals as goal
@@ -35,9 +34,9 @@ pub slice_bounds-kind_of-end : goal.slice_bounds-kind_of-end
 slice_bounds-kind_of-end c =
     let s = line_short (here (goal.at.slice_bounds-kind_of-end c).After-trimmed_length) in search rules
 
-pub returns-then-first-eq6 : goal.returns-then-first-eq6
-returns-then-first-eq6 c =
-    asking_here c.loop-at.invariant (here (goal.at.returns-then-first-eq6 c).After-trimmed_length) _ c.kind_of-first.ensures.0 c.if-first-eq6.true
+pub returns-in-Empty : goal.returns-in-Empty
+returns-in-Empty c =
+    asking_here c.loop-at.invariant (here (goal.at.returns-in-Empty c).After-trimmed_length) _ c.kind_of-first.ensures.0 c.in-Empty.is
 
 pub loop-at-smaller : goal.loop-at-smaller
 loop-at-smaller c =
@@ -45,7 +44,7 @@ loop-at-smaller c =
 
 pub loop-at-preserved : goal.loop-at-preserved
 loop-at-preserved c =
-    asking_next c.loop-at.invariant (here (goal.at.loop-at-preserved c).After-trimmed_length) _ c.kind_of-first.ensures.0 c.if-first-eq6.false
+    asking_next c.loop-at.invariant (here (goal.at.loop-at-preserved c).After-trimmed_length) _ c.kind_of-first.ensures.0 c.in_default.not-Empty
 
 pub returns : goal.returns
 returns c =

@@ -1,25 +1,24 @@
-use Prim.Native.Nat.{◌-◌}
 use native.Mathlib.Omega.{arith}
 use Rattle.extract.proofs.Laws.{keeping_all, keeping_here, keeping_next, keeping_start}
 use Rattle.extract.proofs.keep_listings.Goals as goal
 
-pub loop-i-init : goal.loop-i-init
-loop-i-init c = keeping_start _ _ _ _ _ _ _ _ c.requires.fronts_len_bound.3
+pub loop-l-init : goal.loop-l-init
+loop-l-init c = keeping_start _ _ _ _ _ _ _ _ c.requires.fronts_len_bound.3
 
 pub part_of-requires : goal.part_of-requires
-part_of-requires c = (c.requires.all_walk _ c.loop-i-test.true).shows
+part_of-requires c = (c.requires.all_walk _ c.loop-l-test.true).shows
 
 pub keep_part-requires : goal.keep_part-requires
-keep_part-requires c = keeping_here _ _ _ _ _ _ _ _ _ _ c.loop-i.invariant (c.requires.all_walk _ c.loop-i-test.true) c.requires.fronts_len_bound.0 c.requires.fronts_len_bound.1 c.requires.fronts_len_bound.2 _ c.part_of.ensures
+keep_part-requires c = keeping_here _ _ _ _ _ _ _ _ _ _ c.loop-l.invariant (c.requires.all_walk _ c.loop-l-test.true) c.requires.fronts_len_bound.0 c.requires.fronts_len_bound.1 c.requires.fronts_len_bound.2 _ c.part_of.ensures
 
-pub loop-i-preserved : goal.loop-i-preserved
-loop-i-preserved c = keeping_next _ _ _ _ _ _ _ _ _ _ c.loop-i.invariant c.loop-i-test.true _ _ c.part_of.ensures c.keep_part.ensures.kept_after c.keep_part.auto.kept c.keep_part.ensures.holding
+pub loop-l-preserved : goal.loop-l-preserved
+loop-l-preserved c = keeping_next _ _ _ _ _ _ _ _ _ _ c.loop-l.invariant c.loop-l-test.true _ _ c.part_of.ensures c.keep_part.ensures.kept_after c.keep_part.auto.kept c.keep_part.ensures.holding
 
 pub shape_of-kept : goal.shape_of-kept
-shape_of-kept c = c.loop-i.invariant.long
+shape_of-kept c = c.loop-l.invariant.long
 
 pub returns-clause-kept_after : goal.returns-clause-kept_after
-returns-clause-kept_after c = keeping_all _ _ _ _ _ _ _ _ _ _ c.loop-i.invariant (omega arith)
+returns-clause-kept_after c = keeping_all _ _ _ _ _ _ _ _ _ _ c.loop-l.invariant (omega arith)
 
 pub returns-clause-holding : goal.returns-clause-holding
-returns-clause-holding c = c.loop-i.invariant.holding
+returns-clause-holding c = c.loop-l.invariant.holding

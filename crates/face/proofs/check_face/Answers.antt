@@ -1,80 +1,30 @@
 -- The wires one by one, then, where there are two or more, with a new stamp against each other.
-use Prim.Native.Nat.{◌+◌}
-use mathlib.Core.List.{List, []}
+use Rattle.std.specs.Prelude.{Ok, Err}
 use mathlib.Core.Path.{◌∙◌, ◌≡◌, ap, sym}
 use native.Mathlib.Omega.{arith}
-use lib.ListN.{length}
-use Rattle.errors.proofs.Laws.{accepted_none, passed_first, refused_first}
+use Rattle.errors.proofs.Laws.{accepted_none, passed_first, refused_first, handed_on}
 use Rattle.errors.specs.Faults.{each, first}
-use Rattle.errors.specs.declared.Check.TheVariants.{Accepted}
-use Rattle.errors.specs.declared.Refusal.{Refusal}
 use Rattle.face.proofs.Laws.{one_alone}
-use Rattle.face.specs.Faces.{outline_faults, shared_faults}
+use Rattle.face.specs.Faces.{outline_faults}
 use Rattle.lists.proofs.Laws.{length_split}
-use Rattle.lists.proofs.Marks.{below_later}
 use Rattle.lists.specs.Lists.{split}
-use borrow.Author.Rules.{rules}
 use Rattle.face.proofs.check_face.Goals as goal
+use Rattle.face.proofs.check_face.Goals.{In_ok-check_wires}
 
--- marks below a stamp are below the next
+-- no wire has a fault by itself
+fine : (c : In_ok-check_wires) → first (each (outline_faults c.args.fronts.now c.args.backs.now) c.args.first (split c.args.lengths.now c.args.uses.now)) ≡ Ok tt
+fine c = sym c.check_wires.ensures.value ∙ c.in_ok-check_wires.was
+
 pub returns-then-lengths-lt2-clause-value : goal.returns-then-lengths-lt2-clause-value
-returns-then-lengths-lt2-clause-value c = let alone : List Refusal = each (outline_faults c.args.fronts.now c.args.backs.now) c.args.first (split c.args.lengths.now c.args.uses.now) in
-    let shared : List Refusal = shared_faults c.args.fronts.now c.args.backs.now [] c.args.first (split c.args.lengths.now c.args.uses.now) in
-    let fine : first (alone) ≡ Accepted = sym c.check_wires-alone.ensures.value ∙ c.in-Accepted.is in
-    let check-wires = c.check_wires-alone in
-    let few = length_split c.args.lengths.now c.args.uses.now in sym (passed_first (alone) (shared) (fine) ∙ ap first (one_alone c.args.fronts.now c.args.backs.now c.args.first (split c.args.lengths.now c.args.uses.now) (omega (arith, few, c.if-lengths-lt2.true))))
-
-pub returns-then-lengths-lt2-clause-below_2 : goal.returns-then-lengths-lt2-clause-below_2
-returns-then-lengths-lt2-clause-below_2 c = let alone : List Refusal = each (outline_faults c.args.fronts.now c.args.backs.now) c.args.first (split c.args.lengths.now c.args.uses.now) in
-    let shared : List Refusal = shared_faults c.args.fronts.now c.args.backs.now [] c.args.first (split c.args.lengths.now c.args.uses.now) in
-    let fine : first (alone) ≡ Accepted = sym c.check_wires-alone.ensures.value ∙ c.in-Accepted.is in
-    let check-wires = c.check_wires-alone in
-    let few = length_split c.args.lengths.now c.args.uses.now in below_later (c.args.stamp + length c.args.lengths.now) (c.args.stamp + length c.args.lengths.now + 1) check-wires.new.marks check-wires.ensures.below_2 (omega arith)
-
-pub disjoint_wires-requires-clause-lengths_in_bounds : goal.disjoint_wires-requires-clause-lengths_in_bounds
-disjoint_wires-requires-clause-lengths_in_bounds c = let alone : List Refusal = each (outline_faults c.args.fronts.now c.args.backs.now) c.args.first (split c.args.lengths.now c.args.uses.now) in
-    let fine : first (alone) ≡ Accepted = sym c.check_wires-alone.ensures.value ∙ c.in-Accepted.is in
-    let check-wires = c.check_wires-alone in
-    search rules
-
-pub disjoint_wires-requires-clause-marks_len : goal.disjoint_wires-requires-clause-marks_len
-disjoint_wires-requires-clause-marks_len c = let alone : List Refusal = each (outline_faults c.args.fronts.now c.args.backs.now) c.args.first (split c.args.lengths.now c.args.uses.now) in
-    let fine : first (alone) ≡ Accepted = sym c.check_wires-alone.ensures.value ∙ c.in-Accepted.is in
-    let check-wires = c.check_wires-alone in
-    search rules
-
-pub disjoint_wires-requires-clause-below : goal.disjoint_wires-requires-clause-below
-disjoint_wires-requires-clause-below c = let alone : List Refusal = each (outline_faults c.args.fronts.now c.args.backs.now) c.args.first (split c.args.lengths.now c.args.uses.now) in
-    let fine : first (alone) ≡ Accepted = sym c.check_wires-alone.ensures.value ∙ c.in-Accepted.is in
-    let check-wires = c.check_wires-alone in
-    check-wires.ensures.below_2
+returns-then-lengths-lt2-clause-value c = let few = length_split c.args.lengths.now c.args.uses.now in
+    sym (passed_first _ _ (fine (goal.at.returns-then-lengths-lt2-clause-value c).In_ok-check_wires) ∙ ap first (one_alone _ _ _ _ (omega (arith, few, c.if-lengths-lt2.true))))
 
 pub disjoint_wires-requires-clause-uses_value : goal.disjoint_wires-requires-clause-uses_value
-disjoint_wires-requires-clause-uses_value c = let alone : List Refusal = each (outline_faults c.args.fronts.now c.args.backs.now) c.args.first (split c.args.lengths.now c.args.uses.now) in
-    let fine : first (alone) ≡ Accepted = sym c.check_wires-alone.ensures.value ∙ c.in-Accepted.is in
-    let check-wires = c.check_wires-alone in
-    accepted_none (alone) (fine)
+disjoint_wires-requires-clause-uses_value c = accepted_none _ (fine (goal.at.disjoint_wires-requires-clause-uses_value c).In_ok-check_wires)
 
-pub returns-in-Refused-clause-value : goal.returns-in-Refused-clause-value
-returns-in-Refused-clause-value c = let alone : List Refusal = each (outline_faults c.args.fronts.now c.args.backs.now) c.args.first (split c.args.lengths.now c.args.uses.now) in
-    let shared : List Refusal = shared_faults c.args.fronts.now c.args.backs.now [] c.args.first (split c.args.lengths.now c.args.uses.now) in
-    let check-wires = c.check_wires-alone in sym (refused_first (alone) (shared) _ (sym check-wires.ensures.value ∙ c.in-Refused.is))
+pub returns-in_err-check_wires-clause-value : goal.returns-in_err-check_wires-clause-value
+returns-in_err-check_wires-clause-value c =
+    handed_on _ _ c.from_residual.ensures.1 ∙ (sym (refused_first _ _ _ (sym c.check_wires.ensures.value ∙ c.in_err-check_wires.was)))
 
-pub returns-in-Refused-clause-below_2 : goal.returns-in-Refused-clause-below_2
-returns-in-Refused-clause-below_2 c = let alone : List Refusal = each (outline_faults c.args.fronts.now c.args.backs.now) c.args.first (split c.args.lengths.now c.args.uses.now) in
-    let shared : List Refusal = shared_faults c.args.fronts.now c.args.backs.now [] c.args.first (split c.args.lengths.now c.args.uses.now) in
-    let check-wires = c.check_wires-alone in below_later (c.args.stamp + length c.args.lengths.now) (c.args.stamp + length c.args.lengths.now + 1) check-wires.new.marks check-wires.ensures.below_2 (omega arith)
-
-pub returns-else-lengths-lt2-clause-value : goal.returns-else-lengths-lt2-clause-value
-returns-else-lengths-lt2-clause-value c = let alone : List Refusal = each (outline_faults c.args.fronts.now c.args.backs.now) c.args.first (split c.args.lengths.now c.args.uses.now) in
-    let shared : List Refusal = shared_faults c.args.fronts.now c.args.backs.now [] c.args.first (split c.args.lengths.now c.args.uses.now) in
-    let fine : first (alone) ≡ Accepted = sym c.check_wires-alone.ensures.value ∙ c.in-Accepted.is in
-    let disjoint-wires = c.disjoint_wires in
-    disjoint-wires.ensures.value ∙ sym (passed_first (alone) (shared) (fine))
-
-pub returns-else-lengths-lt2-clause-below_2 : goal.returns-else-lengths-lt2-clause-below_2
-returns-else-lengths-lt2-clause-below_2 c = let alone : List Refusal = each (outline_faults c.args.fronts.now c.args.backs.now) c.args.first (split c.args.lengths.now c.args.uses.now) in
-    let shared : List Refusal = shared_faults c.args.fronts.now c.args.backs.now [] c.args.first (split c.args.lengths.now c.args.uses.now) in
-    let fine : first (alone) ≡ Accepted = sym c.check_wires-alone.ensures.value ∙ c.in-Accepted.is in
-    let disjoint-wires = c.disjoint_wires in
-    disjoint-wires.ensures.below_2
+pub returns-clause-value : goal.returns-clause-value
+returns-clause-value c = c.disjoint_wires.ensures.value ∙ sym (passed_first _ _ (fine (goal.at.returns-clause-value c).In_ok-check_wires))

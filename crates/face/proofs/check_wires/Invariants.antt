@@ -1,10 +1,9 @@
 -- The loop has passed k wires; the next one begins at `at`.
-use Prim.Native.Nat.{◌+◌, ◌-◌}
+use Prim.Native.Nat.{◌+◌}
 use mathlib.Core.List.{[]}
 use mathlib.Core.Path.{◌≡◌}
 use lib.ListN.{length}
 use Rattle.errors.proofs.Laws.{Passed}
-use Rattle.errors.specs.Faults.{first}
 use Rattle.face.specs.Faces.{outline_faults}
 use Rattle.lists.proofs.Split.{Walk}
 use Rattle.lists.specs.Lists.{split}
@@ -13,6 +12,3 @@ use Rattle.face.proofs.check_wires.Given as goal
 
 abbrev pub invariant-loop-k : goal.invariant-loop-k
 invariant-loop-k l = Walk l.lengths l.k l.at × Passed (outline_faults l.fronts l.backs) [] (split l.lengths l.uses) l.first l.k × (length l.marks ≡ 2048) × Below (l.stamp + l.k) l.marks
-
-abbrev pub decreases-loop-k : goal.decreases-loop-k
-decreases-loop-k l = length l.lengths - l.k

@@ -1,22 +1,14 @@
-use Prim.Native.Nat.{◌-◌}
-use native.Mathlib.Omega.{arith}
-use lib.ListN.{get_or}
-use borrow.Author.Tests.{le-ltb, lt-ltb}
+use mathlib.Core.Path.{◌∙◌}
+use lib.Dec.{ltb}
+use borrow.Author.Rules.{rules}
+use borrow.Author.Tests.{tests}
+use Rattle.std.proofs.lemmas.Iterator.Search.{all_from_yields_List}
+use Rattle.std.proofs.lemmas.Iterator.{YieldsList-from_slice}
 use Rattle.edge.specs.Uses.{edge_number}
-use Rattle.face_parts.proofs.Laws.{passed_all, passed_next, passed_start, passed_stop}
-use Rattle.face_parts.proofs.are_uses.Invariants.{names}
+use Rattle.face_parts.proofs.Laws.{all_counted}
 use Rattle.face_parts.proofs.are_uses.Goals as goal
 
-pub loop-i-init : goal.loop-i-init
-loop-i-init c = passed_start (names _) c.args.wire.now
-
-pub returns-then-index-edges : goal.returns-then-index-edges
-returns-then-index-edges c = let args = c.args in let u = get_or args.wire.now c.loop-i.i 0 in
-    passed_stop (names args.edges) 0 args.wire.now c.loop-i.i c.loop-i-test.true (le-ltb (edge_number u) args.edges (omega arith))
-
-pub loop-i-preserved : goal.loop-i-preserved
-loop-i-preserved c = let args = c.args in let u = get_or args.wire.now c.loop-i.i 0 in
-    passed_next (names args.edges) 0 args.wire.now c.loop-i.i c.loop-i-test.true c.loop-i.invariant (lt-ltb (edge_number u) args.edges (omega arith))
-
 pub returns : goal.returns
-returns c = passed_all (names _) _ _ c.loop-i.invariant c.loop-i-test.false
+returns c =
+    all_from_yields_List (λ u. ltb (edge_number u) c.args.edges) _ _ _ c.all.ensures.ran (YieldsList-from_slice c.args.wire.now c.iter.ensures.rest) (λ x b q k. search (rules, tests))
+    ∙ all_counted (λ u. ltb (edge_number u) c.args.edges) c.args.wire.now

@@ -13,29 +13,29 @@ pair : {A B : Type 0} → A → B → A × B
 pair a b = (a, b)
 
 pub put_joined_file-requires : goal.put_joined_file-requires
-put_joined_file-requires c = let P : Pattern = held c.load-table.new.t c.load-table.new.spans in
+put_joined_file-requires c = let P : Pattern = held c.load.new.t c.load.new.spans in
     λ a h.
     let p = P in
     c.concat-joined.ensures.spans_after_2 (joined_fine p _ (sym c.concat-joined.ensures.value) h)
 
-pub returns-in-Refused-clause-value : goal.returns-in-Refused-clause-value
-returns-in-Refused-clause-value c = let a = c.args in
+pub returns-in-Err-clause-value : goal.returns-in-Err-clause-value
+returns-in-Err-clause-value c = let a = c.args in
     let s = a.file.now in
-    let no = sym c.load-table.ensures.value ∙ c.in-Refused.is in
+    let no = sym c.load.ensures.value ∙ c.in-Err.is in
     when_refused s _ no (concat_file (pattern_of s) a.u a.v a.out.now) c.unread.ensures
 
-pub returns-in-Refused-clause-out_after : goal.returns-in-Refused-clause-out_after
-returns-in-Refused-clause-out_after c = let a = c.args in
+pub returns-in-Err-clause-out_after : goal.returns-in-Err-clause-out_after
+returns-in-Err-clause-out_after c = let a = c.args in
     let s = a.file.now in
-    let no = sym c.load-table.ensures.value ∙ c.in-Refused.is in
+    let no = sym c.load.ensures.value ∙ c.in-Err.is in
     after_refused s _ no a.out.now (concat_file_bytes (pattern_of s) a.u a.v a.out.now)
 
-pub returns-in-Accepted-clause-value : goal.returns-in-Accepted-clause-value
-returns-in-Accepted-clause-value c = let P : Pattern = held c.load-table.new.t c.load-table.new.spans in
+pub returns-in-Ok-clause-value : goal.returns-in-Ok-clause-value
+returns-in-Ok-clause-value c = let P : Pattern = held c.load.new.t c.load.new.spans in
     let a = c.args in
-    let p = file_joined a.file.now (P) c.load-table.ensures.spans_after (sym c.load-table.ensures.value ∙ c.in-Accepted.is) (λ (p : Pattern). concat_faults (content p) a.u a.v) (λ (p : Pattern). after_concat p a.u a.v) a.out.now c.concat-joined.ensures.value c.concat-joined.ensures.spans_after (pair c.put_joined_file.ensures.value c.put_joined_file.ensures.out_after) in p.0
+    let p = file_joined a.file.now (P) c.load.ensures.spans_after (sym c.load.ensures.value ∙ c.in-Ok.is) (λ (p : Pattern). concat_faults (content p) a.u a.v) (λ (p : Pattern). after_concat p a.u a.v) a.out.now c.concat-joined.ensures.value c.concat-joined.ensures.spans_after (pair c.put_joined_file.ensures.value c.put_joined_file.ensures.out_after) in p.0
 
-pub returns-in-Accepted-clause-out_after : goal.returns-in-Accepted-clause-out_after
-returns-in-Accepted-clause-out_after c = let P : Pattern = held c.load-table.new.t c.load-table.new.spans in
+pub returns-in-Ok-clause-out_after : goal.returns-in-Ok-clause-out_after
+returns-in-Ok-clause-out_after c = let P : Pattern = held c.load.new.t c.load.new.spans in
     let a = c.args in
-    let p = file_joined a.file.now (P) c.load-table.ensures.spans_after (sym c.load-table.ensures.value ∙ c.in-Accepted.is) (λ (p : Pattern). concat_faults (content p) a.u a.v) (λ (p : Pattern). after_concat p a.u a.v) a.out.now c.concat-joined.ensures.value c.concat-joined.ensures.spans_after (pair c.put_joined_file.ensures.value c.put_joined_file.ensures.out_after) in p.1
+    let p = file_joined a.file.now (P) c.load.ensures.spans_after (sym c.load.ensures.value ∙ c.in-Ok.is) (λ (p : Pattern). concat_faults (content p) a.u a.v) (λ (p : Pattern). after_concat p a.u a.v) a.out.now c.concat-joined.ensures.value c.concat-joined.ensures.spans_after (pair c.put_joined_file.ensures.value c.put_joined_file.ensures.out_after) in p.1

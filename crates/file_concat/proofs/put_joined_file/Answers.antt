@@ -1,32 +1,22 @@
 use Rattle.store.specs.Store.{held}
-use Rattle.file_concat.proofs.JoinedFile.{told_joined, told_not, told_refused}
+use Rattle.file_concat.proofs.JoinedFile.{told_joined, told_refused}
 use Rattle.file_concat.proofs.put_joined_file.Goals as goal
 
 pub put_file-requires : goal.put_file-requires
-put_file-requires c = c.requires _ c.in-Joined.is
+put_file-requires c = c.requires _ c.in-Ok.is
 
-pub returns-in-Joined-clause-value : goal.returns-in-Joined-clause-value
-returns-in-Joined-clause-value c = let a = c.args in
-    let e = c.in-Joined.is in
-    let p = told_joined a.joined (held a.t.now a.spans.now) a.out.now e (c.requires _ e) c.join_values.ensures c.put_file.ensures.0 c.put_file.ensures.1 in p.0
+pub returns-in-Err-clause-value : goal.returns-in-Err-clause-value
+returns-in-Err-clause-value c =
+    (told_refused c.args.joined (held c.args.t.now c.args.spans.now) c.args.out.now c.in-Err.is c.call_values.ensures).0
 
-pub returns-in-Joined-clause-out_after : goal.returns-in-Joined-clause-out_after
-returns-in-Joined-clause-out_after c = let a = c.args in
-    let e = c.in-Joined.is in
-    let p = told_joined a.joined (held a.t.now a.spans.now) a.out.now e (c.requires _ e) c.join_values.ensures c.put_file.ensures.0 c.put_file.ensures.1 in p.1
+pub returns-in-Err-clause-out_after : goal.returns-in-Err-clause-out_after
+returns-in-Err-clause-out_after c =
+    (told_refused c.args.joined (held c.args.t.now c.args.spans.now) c.args.out.now c.in-Err.is c.call_values.ensures).1
 
-pub returns-in-Refused-clause-value : goal.returns-in-Refused-clause-value
-returns-in-Refused-clause-value c = let a = c.args in
-    let p = told_refused a.joined (held a.t.now a.spans.now) a.out.now c.in-Refused.is c.unread.ensures in p.0
+pub returns-in-Ok-clause-value : goal.returns-in-Ok-clause-value
+returns-in-Ok-clause-value c =
+    (told_joined c.args.joined (held c.args.t.now c.args.spans.now) c.args.out.now c.in-Ok.is (c.requires _ c.in-Ok.is) c.edit_values.ensures c.put_file.ensures.0 c.put_file.ensures.1).0
 
-pub returns-in-Refused-clause-out_after : goal.returns-in-Refused-clause-out_after
-returns-in-Refused-clause-out_after c = let a = c.args in
-    let p = told_refused a.joined (held a.t.now a.spans.now) a.out.now c.in-Refused.is c.unread.ensures in p.1
-
-pub returns-in-Not-clause-value : goal.returns-in-Not-clause-value
-returns-in-Not-clause-value c = let a = c.args in
-    let p = told_not a.joined (held a.t.now a.spans.now) a.out.now c.in-Not.is c.refused.ensures c.edit_number.ensures in p.0
-
-pub returns-in-Not-clause-out_after : goal.returns-in-Not-clause-out_after
-returns-in-Not-clause-out_after c = let a = c.args in
-    let p = told_not a.joined (held a.t.now a.spans.now) a.out.now c.in-Not.is c.refused.ensures c.edit_number.ensures in p.1
+pub returns-in-Ok-clause-out_after : goal.returns-in-Ok-clause-out_after
+returns-in-Ok-clause-out_after c =
+    (told_joined c.args.joined (held c.args.t.now c.args.spans.now) c.args.out.now c.in-Ok.is (c.requires _ c.in-Ok.is) c.edit_values.ensures c.put_file.ensures.0 c.put_file.ensures.1).1

@@ -17,24 +17,24 @@ split2 : {A B R : Type 0} → (A → B → R) → A × B → R
 split2 f p = f p.0 p.1
 
 pub put_joined_file-requires : goal.put_joined_file-requires
-put_joined_file-requires c = let P : Pattern = held c.load-table.new.t c.load-table.new.spans in
+put_joined_file-requires c = let P : Pattern = held c.load.new.t c.load.new.spans in
     λ a h.
     let p = P in
     c.remove_vertex_by_concat_edges-joined.ensures.spans_after_2 (joined_fine p _ (sym c.remove_vertex_by_concat_edges-joined.ensures.value) h)
 
-pub returns-in-Refused-clause-value : goal.returns-in-Refused-clause-value
-returns-in-Refused-clause-value c = let a = c.args in
+pub returns-in-Err-clause-value : goal.returns-in-Err-clause-value
+returns-in-Err-clause-value c = let a = c.args in
     let s = a.file.now in
-    let no = sym c.load-table.ensures.value ∙ c.in-Refused.is in
+    let no = sym c.load.ensures.value ∙ c.in-Err.is in
     when_refused s _ no (remove_file (pattern_of s) a.n a.v a.out.now) c.unread.ensures
 
-pub returns-in-Refused-clause-out_after : goal.returns-in-Refused-clause-out_after
-returns-in-Refused-clause-out_after c = let a = c.args in
+pub returns-in-Err-clause-out_after : goal.returns-in-Err-clause-out_after
+returns-in-Err-clause-out_after c = let a = c.args in
     let s = a.file.now in
-    let no = sym c.load-table.ensures.value ∙ c.in-Refused.is in
+    let no = sym c.load.ensures.value ∙ c.in-Err.is in
     after_refused s _ no a.out.now (remove_file_bytes (pattern_of s) a.n a.v a.out.now)
 
-pub returns-in-Accepted : goal.returns-in-Accepted
-returns-in-Accepted c = let P : Pattern = held c.load-table.new.t c.load-table.new.spans in
+pub returns-in-Ok : goal.returns-in-Ok
+returns-in-Ok c = let P : Pattern = held c.load.new.t c.load.new.spans in
     let a = c.args in
-    split2 (λ x y. record { value = x; out_after = y }) (file_joined a.file.now (P) c.load-table.ensures.spans_after (sym c.load-table.ensures.value ∙ c.in-Accepted.is) (λ (p : Pattern). remove_faults (content p) a.n a.v) (λ (p : Pattern). after_remove p a.n a.v) a.out.now c.remove_vertex_by_concat_edges-joined.ensures.value c.remove_vertex_by_concat_edges-joined.ensures.spans_after (pair c.put_joined_file.ensures.value c.put_joined_file.ensures.out_after))
+    split2 (λ x y. record { value = x; out_after = y }) (file_joined a.file.now (P) c.load.ensures.spans_after (sym c.load.ensures.value ∙ c.in-Ok.is) (λ (p : Pattern). remove_faults (content p) a.n a.v) (λ (p : Pattern). after_remove p a.n a.v) a.out.now c.remove_vertex_by_concat_edges-joined.ensures.value c.remove_vertex_by_concat_edges-joined.ensures.spans_after (pair c.put_joined_file.ensures.value c.put_joined_file.ensures.out_after))

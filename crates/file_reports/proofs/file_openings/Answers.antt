@@ -10,42 +10,42 @@ use Rattle.store_read.specs.Loading.{pattern_of}
 use Rattle.pattern.specs.Contents.{Pattern}
 use Rattle.file_reports.proofs.file_openings.Goals as goal
 
-pub returns-in-Refused-clause-value : goal.returns-in-Refused-clause-value
-returns-in-Refused-clause-value c = let no = sym c.load-table.ensures.value ∙ c.in-Refused.is in
+pub returns-in-Err-clause-value : goal.returns-in-Err-clause-value
+returns-in-Err-clause-value c = let no = sym c.load.ensures.value ∙ c.in-Err.is in
     let file = c.args.file.now in
     when_refused file _ no (figure_values (openings_answer (pattern_of file) c.args.n)) c.unread.ensures
 
-pub returns-in-Refused-clause-out_after : goal.returns-in-Refused-clause-out_after
-returns-in-Refused-clause-out_after c = let no = sym c.load-table.ensures.value ∙ c.in-Refused.is in
+pub returns-in-Err-clause-out_after : goal.returns-in-Err-clause-out_after
+returns-in-Err-clause-out_after c = let no = sym c.load.ensures.value ∙ c.in-Err.is in
     let file = c.args.file.now in
     list_refused flat file c.args.out.now flat_none _ no (openings_out (pattern_of file) c.args.n)
 
-pub returns-in-Refused-clause-lens_after : goal.returns-in-Refused-clause-lens_after
-returns-in-Refused-clause-lens_after c = let no = sym c.load-table.ensures.value ∙ c.in-Refused.is in
+pub returns-in-Err-clause-lens_after : goal.returns-in-Err-clause-lens_after
+returns-in-Err-clause-lens_after c = let no = sym c.load.ensures.value ∙ c.in-Err.is in
     let file = c.args.file.now in
     list_refused (map length) file c.args.lens.now refl _ no (openings_out (pattern_of file) c.args.n)
 
-pub returns-in-Refused-clause-file_promised : goal.returns-in-Refused-clause-file_promised
-returns-in-Refused-clause-file_promised c = let no = sym c.load-table.ensures.value ∙ c.in-Refused.is in
+pub returns-in-Err-clause-file_promised : goal.returns-in-Err-clause-file_promised
+returns-in-Err-clause-file_promised c = let no = sym c.load.ensures.value ∙ c.in-Err.is in
     let file = c.args.file.now in
     kept_refused file c.args.n _ no
 
-pub returns-in-Accepted-clause-value : goal.returns-in-Accepted-clause-value
-returns-in-Accepted-clause-value c = let right = sym c.load-table.ensures.value ∙ c.in-Accepted.is in
+pub returns-in-Ok-clause-value : goal.returns-in-Ok-clause-value
+returns-in-Ok-clause-value c = let right = sym c.load.ensures.value ∙ c.in-Ok.is in
     let file = c.args.file.now in
-    when_loaded file _ c.load-table.ensures.spans_after right (λ (p : Pattern). figure_values (openings_answer p c.args.n)) (λ p f fs h. rw h) (c.figure_values.ensures ∙ ap figure_values c.extract_boundaries.ensures.value)
+    when_loaded file _ c.load.ensures.spans_after right (λ (p : Pattern). figure_values (openings_answer p c.args.n)) (λ p f fs h. rw h) (c.call_values.ensures ∙ ap figure_values c.extract_boundaries.ensures.value)
 
-pub returns-in-Accepted-clause-out_after : goal.returns-in-Accepted-clause-out_after
-returns-in-Accepted-clause-out_after c = let right = sym c.load-table.ensures.value ∙ c.in-Accepted.is in
+pub returns-in-Ok-clause-out_after : goal.returns-in-Ok-clause-out_after
+returns-in-Ok-clause-out_after c = let right = sym c.load.ensures.value ∙ c.in-Ok.is in
     let file = c.args.file.now in
-    list_loaded flat file c.args.out.now _ c.load-table.ensures.spans_after right (λ (p : Pattern). openings_out p c.args.n) (λ p f fs h. rw h) _ c.extract_boundaries.ensures.out_after
+    list_loaded flat file c.args.out.now _ c.load.ensures.spans_after right (λ (p : Pattern). openings_out p c.args.n) (λ p f fs h. rw h) _ c.extract_boundaries.ensures.out_after
 
-pub returns-in-Accepted-clause-lens_after : goal.returns-in-Accepted-clause-lens_after
-returns-in-Accepted-clause-lens_after c = let right = sym c.load-table.ensures.value ∙ c.in-Accepted.is in
+pub returns-in-Ok-clause-lens_after : goal.returns-in-Ok-clause-lens_after
+returns-in-Ok-clause-lens_after c = let right = sym c.load.ensures.value ∙ c.in-Ok.is in
     let file = c.args.file.now in
-    list_loaded (map length) file c.args.lens.now _ c.load-table.ensures.spans_after right (λ (p : Pattern). openings_out p c.args.n) (λ p f fs h. rw h) _ c.extract_boundaries.ensures.lens_after
+    list_loaded (map length) file c.args.lens.now _ c.load.ensures.spans_after right (λ (p : Pattern). openings_out p c.args.n) (λ p f fs h. rw h) _ c.extract_boundaries.ensures.lens_after
 
-pub returns-in-Accepted-clause-file_promised : goal.returns-in-Accepted-clause-file_promised
-returns-in-Accepted-clause-file_promised c = let right = sym c.load-table.ensures.value ∙ c.in-Accepted.is in
+pub returns-in-Ok-clause-file_promised : goal.returns-in-Ok-clause-file_promised
+returns-in-Ok-clause-file_promised c = let right = sym c.load.ensures.value ∙ c.in-Ok.is in
     let file = c.args.file.now in
-    kept_loaded file c.args.n _ c.load-table.ensures.spans_after right c.extract_boundaries.ensures.shell_promised
+    kept_loaded file c.args.n _ c.load.ensures.spans_after right c.extract_boundaries.ensures.shell_promised

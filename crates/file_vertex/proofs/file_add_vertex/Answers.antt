@@ -6,24 +6,24 @@ use Rattle.file_vertex.proofs.Laws.{refuses_answer, refuses_bytes}
 use Rattle.file_vertex.specs.FileVertex.{vertex_file, vertex_file_bytes}
 use Rattle.file_vertex.proofs.file_add_vertex.Goals as goal
 
-pub returns-in-Refused-clause-value : goal.returns-in-Refused-clause-value
-returns-in-Refused-clause-value c = let a = c.args in
-    let no = sym c.load-table.ensures.value ∙ c.in-Refused.is in
+pub returns-in-Err-clause-value : goal.returns-in-Err-clause-value
+returns-in-Err-clause-value c = let a = c.args in
+    let no = sym c.load.ensures.value ∙ c.in-Err.is in
     when_refused a.file.now _ no _ c.unread.ensures
 
-pub returns-in-Refused-clause-out_after : goal.returns-in-Refused-clause-out_after
-returns-in-Refused-clause-out_after c = let a = c.args in
-    let no = sym c.load-table.ensures.value ∙ c.in-Refused.is in
+pub returns-in-Err-clause-out_after : goal.returns-in-Err-clause-out_after
+returns-in-Err-clause-out_after c = let a = c.args in
+    let no = sym c.load.ensures.value ∙ c.in-Err.is in
     after_refused a.file.now _ no _ _
 
-pub returns-in-Accepted-clause-value : goal.returns-in-Accepted-clause-value
-returns-in-Accepted-clause-value c = let a = c.args in
-    let q = held c.load-table.new.t c.load-table.new.spans in
+pub returns-in-Ok-clause-value : goal.returns-in-Ok-clause-value
+returns-in-Ok-clause-value c = let a = c.args in
+    let q = held c.load.new.t c.load.new.spans in
     let o = a.out.now in
-    let right = sym c.load-table.ensures.value ∙ c.in-Accepted.is in when_loaded a.file.now q c.load-table.ensures.spans_after right (λ (p : Pattern). vertex_file p a.label o) (λ p f fs h. refuses_answer p a.label o f fs h) c.add_stored.ensures.value
+    let right = sym c.load.ensures.value ∙ c.in-Ok.is in when_loaded a.file.now q c.load.ensures.spans_after right (λ (p : Pattern). vertex_file p a.label o) (λ p f fs h. refuses_answer p a.label o f fs h) c.add_stored.ensures.value
 
-pub returns-in-Accepted-clause-out_after : goal.returns-in-Accepted-clause-out_after
-returns-in-Accepted-clause-out_after c = let a = c.args in
-    let q = held c.load-table.new.t c.load-table.new.spans in
+pub returns-in-Ok-clause-out_after : goal.returns-in-Ok-clause-out_after
+returns-in-Ok-clause-out_after c = let a = c.args in
+    let q = held c.load.new.t c.load.new.spans in
     let o = a.out.now in
-    let right = sym c.load-table.ensures.value ∙ c.in-Accepted.is in after_loaded a.file.now q c.load-table.ensures.spans_after right o (λ (p : Pattern). vertex_file_bytes p a.label o) (λ p f fs h. refuses_bytes p a.label o f fs h) c.add_stored.ensures.out_after
+    let right = sym c.load.ensures.value ∙ c.in-Ok.is in after_loaded a.file.now q c.load.ensures.spans_after right o (λ (p : Pattern). vertex_file_bytes p a.label o) (λ p f fs h. refuses_bytes p a.label o f fs h) c.add_stored.ensures.out_after

@@ -12,16 +12,16 @@ pub returns-then-word-gt10 : goal.returns-then-word-gt10
 returns-then-word-gt10 c = sym (label_long _ (omega arith))
 
 pub overflow_mul-m : goal.overflow_mul-m
-overflow_mul-m c = omega (arith, number_below _ _ (sym c.number_of-nine.ensures ∙ c.in-Value.is))
+overflow_mul-m c = omega (arith, number_below _ _ (sym c.number_of-2.ensures ∙ c.in_ok-m.was))
 
 pub overflow_add-m : goal.overflow_add-m
-overflow_add-m c = omega (arith, number_below _ _ (sym c.number_of-nine.ensures ∙ c.in-Value.is), number_below _ _ (sym c.number_of-one.ensures ∙ c.in-Value-one.is))
+overflow_add-m c = omega (arith, number_below _ _ (sym c.number_of-2.ensures ∙ c.in_ok-m.was), number_below _ _ (sym c.number_of-3.ensures ∙ c.in_ok-d.was))
 
-pub returns-in-Not : goal.returns-in-Not
-returns-in-Not c = sym (label_first _ (omega arith) c.number_of-nine.ensures c.number_of-one.ensures c.in-Not.is)
+pub returns-in_err-m : goal.returns-in_err-m
+returns-in_err-m c = c.from_residual.ensures ∙ sym (label_first _ (omega arith) c.number_of-2.ensures c.in_err-m.was)
 
-pub returns-in-Not-one : goal.returns-in-Not-one
-returns-in-Not-one c = sym (label_last _ (omega arith) c.number_of-nine.ensures c.number_of-one.ensures c.in-Value.is c.in-Not-one.is)
+pub returns-in_err-d : goal.returns-in_err-d
+returns-in_err-d c = c.from_residual-in_err-d.ensures ∙ sym (label_last _ (omega arith) c.number_of-2.ensures c.in_ok-m.was c.number_of-3.ensures c.in_err-d.was)
 
-pub returns-in-Value-one : goal.returns-in-Value-one
-returns-in-Value-one c = c.below.ensures ∙ sym (label_both _ (omega arith) c.number_of-nine.ensures c.number_of-one.ensures c.in-Value.is c.in-Value-one.is)
+pub returns : goal.returns
+returns c = c.below.ensures ∙ sym (label_both _ (omega arith) c.number_of-2.ensures c.in_ok-m.was c.number_of-3.ensures c.in_ok-d.was)

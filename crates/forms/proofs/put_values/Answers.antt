@@ -29,21 +29,21 @@ pub loop-at-init : goal.loop-at-init
 loop-at-init c =
     (c.requires.0, reading_start _ _ (words (drop c.args.from c.args.line.now)) _)
 
-pub shape_of-out-in-Not : goal.shape_of-out-in-Not
-shape_of-out-in-Not c =
+pub shape_of-out-in_default : goal.shape_of-out-in_default
+shape_of-out-in_default c =
     reading_long c.loop-at.invariant.1
 
-pub returns-in-Not-clause-out_after : goal.returns-in-Not-clause-out_after
-returns-in-Not-clause-out_after c =
-    let p = reading_not c.loop-at.invariant.1 (word (goal.at.returns-in-Not-clause-out_after c).After-word_end-end).0 c.kind_at.ensures c.token_of-read.ensures c.in-Not.is in p.0
+pub returns-in_default-clause-out_after : goal.returns-in_default-clause-out_after
+returns-in_default-clause-out_after c =
+    let p = reading_not c.loop-at.invariant.1 (word (goal.at.returns-in_default-clause-out_after c).After-word_end-end).0 c.kind_at.ensures c.said_by.ensures c.in_default.is in p.0
 
-pub returns-in-Not-clause-words_value : goal.returns-in-Not-clause-words_value
-returns-in-Not-clause-words_value c =
-    let p = reading_not c.loop-at.invariant.1 (word (goal.at.returns-in-Not-clause-words_value c).After-word_end-end).0 c.kind_at.ensures c.token_of-read.ensures c.in-Not.is in p.1.0
+pub returns-in_default-clause-words_value : goal.returns-in_default-clause-words_value
+returns-in_default-clause-words_value c =
+    let p = reading_not c.loop-at.invariant.1 (word (goal.at.returns-in_default-clause-words_value c).After-word_end-end).0 c.kind_at.ensures c.said_by.ensures c.in_default.is in p.1.0
 
-pub returns-in-Not-clause-all_value : goal.returns-in-Not-clause-all_value
-returns-in-Not-clause-all_value c =
-    let p = reading_not c.loop-at.invariant.1 (word (goal.at.returns-in-Not-clause-all_value c).After-word_end-end).0 c.kind_at.ensures c.token_of-read.ensures c.in-Not.is in p.1.1
+pub returns-in_default-clause-all_value : goal.returns-in_default-clause-all_value
+returns-in_default-clause-all_value c =
+    let p = reading_not c.loop-at.invariant.1 (word (goal.at.returns-in_default-clause-all_value c).After-word_end-end).0 c.kind_at.ensures c.said_by.ensures c.in_default.is in p.1.1
 
 pub offset_bounds-out-i : goal.offset_bounds-out-i
 offset_bounds-out-i c =
@@ -63,7 +63,7 @@ loop-at-smaller c =
 
 pub loop-at-preserved : goal.loop-at-preserved
 loop-at-preserved c =
-    (c.word_end-end.ensures.1, reading_next c.loop-at.invariant.1 (word (goal.at.loop-at-preserved c).After-word_end-end).0 c.kind_at.ensures c.token_of-read.ensures c.in-Value.is)
+    (c.word_end-end.ensures.1, reading_next c.loop-at.invariant.1 (word (goal.at.loop-at-preserved c).After-word_end-end).0 c.kind_at.ensures c.said_by.ensures c.in-Some.is)
 
 pub shape_of-out-after-loop-at : goal.shape_of-out-after-loop-at
 shape_of-out-after-loop-at c =

@@ -1,49 +1,43 @@
 -- A word of each kind.
-use mathlib.Core.Path.{◌∙◌, ◌≡◌, sym}
-use lib.Dec.{eqb}
-use borrow.Author.Tests.{eq-eqb, ne_eqb}
-use Rattle.forms.proofs.Tokens.{token_label, token_name, token_none, token_nowhere, token_number, token_parameter, token_real, token_short, token_signed, token_use, token_wire}
-use Rattle.forms.specs.Forms.{token}
-use Rattle.lists.specs.Lists.{pick}
-use Rattle.text.specs.declared.Token.TheVariants.{Not, Value}
+use mathlib.Core.Path.{◌∙◌, ap, sym}
+use Rattle.forms.proofs.Tokens.{token_name, token_nowhere, token_other, token_parameter, token_use, token_wire}
+use Rattle.forms.specs.Forms.{below, token}
 use Rattle.forms.proofs.token_of.Goals as goal
 
-pub returns-then-k-eq0 : goal.returns-then-k-eq0
-returns-then-k-eq0 c = sym (token_none _ _ c.if-k-eq0.true)
+pub returns-in-Number : goal.returns-in-Number
+unfolding token
+returns-in-Number c = rw c.in-Number.is c.number_of.ensures
 
-pub returns-then-k-eq-NUMBER : goal.returns-then-k-eq-NUMBER
-returns-then-k-eq-NUMBER c = c.number_of.ensures ∙ sym (token_number _ _ c.if-k-eq-NUMBER.true)
+pub returns-in-Signed : goal.returns-in-Signed
+unfolding token
+returns-in-Signed c = rw c.in-Signed.is c.signed_of.ensures
 
-pub returns-then-k-eq-SIGNED : goal.returns-then-k-eq-SIGNED
-returns-then-k-eq-SIGNED c = c.signed_of.ensures ∙ sym (token_signed _ _ c.if-k-eq-SIGNED.true)
-
-pub returns-then-k-eq-REAL : goal.returns-then-k-eq-REAL
-returns-then-k-eq-REAL c = c.real_of.ensures ∙ sym (token_real _ _ c.if-k-eq-REAL.true)
+pub returns-in-Real : goal.returns-in-Real
+unfolding token
+returns-in-Real c = rw c.in-Real.is c.real_of.ensures
 
 pub returns-then-name_of-eq103142400119370341 : goal.returns-then-name_of-eq103142400119370341
-returns-then-name_of-eq103142400119370341 c = sym (token_nowhere _ _ c.if-k-eq-PARAMETER.true c.name_of.ensures c.if-name_of-eq103142400119370341.true)
+returns-then-name_of-eq103142400119370341 c = rw c.in-Parameter.is (sym (token_nowhere _ c.name_of.ensures c.if-name_of-eq103142400119370341.true))
 
-pub returns-then-k-eq-PARAMETER : goal.returns-then-k-eq-PARAMETER
-returns-then-k-eq-PARAMETER c = c.real_of-then-k-eq-PARAMETER.ensures ∙ sym (token_parameter _ _ c.if-k-eq-PARAMETER.true c.name_of.ensures c.if-name_of-eq103142400119370341.false)
+pub returns-else-name_of-eq103142400119370341 : goal.returns-else-name_of-eq103142400119370341
+returns-else-name_of-eq103142400119370341 c = rw c.in-Parameter.is (c.real_of-in-Parameter.ensures ∙ sym (token_parameter _ c.name_of.ensures c.if-name_of-eq103142400119370341.false))
 
 pub returns-then-name_of-eq6298366565 : goal.returns-then-name_of-eq6298366565
-returns-then-name_of-eq6298366565 c = sym (token_wire _ _ c.if-k-eq-WIRES.true c.name_of-then-k-eq-WIRES.ensures c.if-name_of-eq6298366565.true)
+returns-then-name_of-eq6298366565 c = rw c.in-Wires.is (sym (token_wire _ c.name_of-in-Wires.ensures c.if-name_of-eq6298366565.true))
 
-pub returns-then-k-eq-WIRES : goal.returns-then-k-eq-WIRES
-returns-then-k-eq-WIRES c = c.signed_of-then-k-eq-WIRES.ensures ∙ sym (token_use _ _ c.if-k-eq-WIRES.true c.name_of-then-k-eq-WIRES.ensures c.if-name_of-eq6298366565.false)
+pub returns-else-name_of-eq6298366565 : goal.returns-else-name_of-eq6298366565
+returns-else-name_of-eq6298366565 c = rw c.in-Wires.is (c.signed_of-in-Wires.ensures ∙ sym (token_use _ c.name_of-in-Wires.ensures c.if-name_of-eq6298366565.false))
 
-pub returns-then-k-eq-SHORT : goal.returns-then-k-eq-SHORT
-returns-then-k-eq-SHORT c = c.below.ensures ∙ rw c.number_of-then-k-eq-SHORT.ensures (sym (token_short _ _ c.if-k-eq-SHORT.true))
+pub returns-in-Short : goal.returns-in-Short
+unfolding token
+returns-in-Short c = rw c.in-Short.is (c.below.ensures ∙ ap (below 65536) c.number_of-in-Short.ensures)
 
-pub returns-then-k-eq-LABEL : goal.returns-then-k-eq-LABEL
-returns-then-k-eq-LABEL c = c.label_of.ensures ∙ sym (token_label _ _ c.if-k-eq-LABEL.true)
+pub returns-in-Label : goal.returns-in-Label
+unfolding token
+returns-in-Label c = rw c.in-Label.is c.label_of.ensures
 
-pub returns-then-name_of-k : goal.returns-then-name_of-k
-returns-then-name_of-k c = let by_name : token c.args.k c.args.word.now ≡ pick (eqb c.name_of-2.result c.args.k) (Value 65536) Not = token_name _ _ c.if-k-eq0.false c.if-k-eq-NUMBER.false c.if-k-eq-SIGNED.false c.if-k-eq-REAL.false c.if-k-eq-PARAMETER.false c.if-k-eq-WIRES.false c.if-k-eq-SHORT.false c.if-k-eq-LABEL.false
-    ∙ rw c.name_of-2.ensures in
-    sym (by_name ∙ rw (eq-eqb _ _ c.if-name_of-k.true))
+pub returns-then-name_of-name : goal.returns-then-name_of-name
+returns-then-name_of-name c = rw c.in-Named.is (sym (token_name _ c.name_of-in-Named.ensures c.if-name_of-name.true))
 
-pub returns : goal.returns
-returns c = let by_name : token c.args.k c.args.word.now ≡ pick (eqb c.name_of-2.result c.args.k) (Value 65536) Not = token_name _ _ c.if-k-eq0.false c.if-k-eq-NUMBER.false c.if-k-eq-SIGNED.false c.if-k-eq-REAL.false c.if-k-eq-PARAMETER.false c.if-k-eq-WIRES.false c.if-k-eq-SHORT.false c.if-k-eq-LABEL.false
-    ∙ rw c.name_of-2.ensures in
-    sym (by_name ∙ rw (ne_eqb _ _ c.if-name_of-k.false))
+pub returns-else-name_of-name : goal.returns-else-name_of-name
+returns-else-name_of-name c = rw c.in-Named.is (sym (token_other _ c.name_of-in-Named.ensures c.if-name_of-name.false))

@@ -1,4 +1,3 @@
-use Prim.Native.Nat.{◌-◌}
 use native.Mathlib.Omega.{arith}
 use Rattle.glue_walk.proofs.Chaining.{chaining_all, chaining_left, chaining_lens, chaining_next, chaining_out, chaining_start}
 use Rattle.glue_walk.proofs.chain_all.Goals as goal
@@ -7,16 +6,13 @@ pub loop-q-init : goal.loop-q-init
 loop-q-init c = chaining_start _ _ _ _ _ c.requires
 
 pub chain_at-w-requires-clause-q_in_bounds : goal.chain_at-w-requires-clause-q_in_bounds
-chain_at-w-requires-clause-q_in_bounds c = c.loop-q-test.true
+chain_at-w-requires-clause-q_in_bounds c = omega (arith, c.loop-q.invariant.long)
 
 pub chain_at-w-requires-clause-room : goal.chain_at-w-requires-clause-room
 chain_at-w-requires-clause-room c = c.loop-q.invariant.room
 
-pub loop-q-smaller : goal.loop-q-smaller
-loop-q-smaller c = omega (arith, c.loop-q.invariant.long, c.loop-q-test.true)
-
 pub loop-q-preserved : goal.loop-q-preserved
-loop-q-preserved c = chaining_next _ _ _ _ _ _ _ _ _ _ c.loop-q.invariant c.loop-q-test.true _ _ _ _ c.chain_at-w.ensures.laid c.chain_at-w.ensures.kept_after c.chain_at-w.ensures.room_2 c.chain_at-w.auto.kept
+loop-q-preserved c = chaining_next _ _ _ _ _ _ _ _ _ _ c.loop-q.invariant (omega (arith, c.loop-q.invariant.long)) _ _ _ _ c.chain_at-w.ensures.laid c.chain_at-w.ensures.kept_after c.chain_at-w.ensures.room_2 c.chain_at-w.auto.kept
 
 pub shape_of-kept : goal.shape_of-kept
 shape_of-kept c = c.loop-q.invariant.long

@@ -1,11 +1,6 @@
 -- The points passed so far have given the first outlines.
-use Prim.Native.Nat.{◌-◌}
-use lib.ListN.{length}
 use Rattle.glue_walk.proofs.Chaining.{Chaining}
 use Rattle.glue_walk.proofs.chain_all.Given as goal
 
 abbrev pub invariant-loop-q : goal.invariant-loop-q
 invariant-loop-q l = Chaining l.fronts l.backs l.initial.kept l.initial.out l.initial.lens l.kept l.out l.lens l.w l.q
-
-abbrev pub decreases-loop-q : goal.decreases-loop-q
-decreases-loop-q l = length l.initial.kept - l.q

@@ -1,36 +1,30 @@
 -- The singular points are those that are written.
-use Prim.Native.Nat.{◌-◌}
+use Rattle.errors.proofs.Laws.{handed_on}
 use mathlib.Core.Path.{◌∙◌, refl, sym}
 use Rattle.calls.proofs.Answers.{there_fine, there_ready}
 use borrow.Author.Rules.{rules}
 use Rattle.group_calls.proofs.singular_vertices.Goals as goal
 
 pub groups_at-g-requires-clause-faultless : goal.groups_at-g-requires-clause-faultless
-groups_at-g-requires-clause-faultless c = there_ready c.args.t.now c.args.spans.now _ (sym c.find_shell-found.ensures ∙ c.in-There.is)
+groups_at-g-requires-clause-faultless c = there_ready c.args.t.now c.args.spans.now _ (sym c.find_shell.ensures ∙ c.in_ok-find_shell.was)
 
 pub groups_at-g-requires-clause-in_bounds : goal.groups_at-g-requires-clause-in_bounds
 groups_at-g-requires-clause-in_bounds c = search rules
 
-pub returns-in-Refused-clause-value : goal.returns-in-Refused-clause-value
-returns-in-Refused-clause-value c = rw (← c.find_shell-found.ensures, c.in-Refused.is) refl
+pub returns-in_err-find_shell-clause-value : goal.returns-in_err-find_shell-clause-value
+returns-in_err-find_shell-clause-value c = handed_on _ _ c.from_residual.ensures.1 ∙ rw (← c.find_shell.ensures, c.in_err-find_shell.was) refl
 
-pub returns-in-Refused-clause-out_after : goal.returns-in-Refused-clause-out_after
-returns-in-Refused-clause-out_after c = rw (← c.find_shell-found.ensures, c.in-Refused.is) refl
+pub returns-in_err-find_shell-clause-out_after : goal.returns-in_err-find_shell-clause-out_after
+returns-in_err-find_shell-clause-out_after c = rw (← c.find_shell.ensures, c.in_err-find_shell.was) refl
 
-pub returns-in-NoShell-clause-value : goal.returns-in-NoShell-clause-value
-returns-in-NoShell-clause-value c = rw (← c.find_shell-found.ensures, c.in-NoShell.is) refl
-
-pub returns-in-NoShell-clause-out_after : goal.returns-in-NoShell-clause-out_after
-returns-in-NoShell-clause-out_after c = rw (← c.find_shell-found.ensures, c.in-NoShell.is) refl
-
-pub returns-in-There-clause-value : goal.returns-in-There-clause-value
-returns-in-There-clause-value c = let told = c.find_shell-found.ensures in
-    let is = c.in-There.is in
+pub returns-clause-value : goal.returns-clause-value
+returns-clause-value c = let told = c.find_shell.ensures in
+    let is = c.in_ok-find_shell.was in
     let g = c.groups_at-g.ensures c.args.spans.now (there_fine _ _ (sym told ∙ is)) in
     rw (← told, is) (rw g.counts)
 
-pub returns-in-There-clause-out_after : goal.returns-in-There-clause-out_after
-returns-in-There-clause-out_after c = let told = c.find_shell-found.ensures in
-    let is = c.in-There.is in
+pub returns-clause-out_after : goal.returns-clause-out_after
+returns-clause-out_after c = let told = c.find_shell.ensures in
+    let is = c.in_ok-find_shell.was in
     let g = c.groups_at-g.ensures c.args.spans.now (there_fine _ _ (sym told ∙ is)) in
     rw (← told, is) g.points

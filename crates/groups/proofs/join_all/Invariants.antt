@@ -1,11 +1,7 @@
--- After k turns the first k pairs are joined.
-use Prim.Native.Nat.{◌-◌}
-use lib.ListN.{length}
+-- After each turn the pairs so far are joined.
+use Rattle.std.proofs.Common.{length}
 use Rattle.groups.proofs.All.{Joins}
 use Rattle.groups.proofs.join_all.Given as goal
 
-abbrev pub invariant-loop-k : goal.invariant-loop-k
-invariant-loop-k l = Joins l.n l.a l.b l.initial.parents l.initial.sizes l.parents l.sizes l.k
-
-abbrev pub decreases-loop-k : goal.decreases-loop-k
-decreases-loop-k l = length l.a - l.k
+abbrev pub invariant-loop-i : goal.invariant-loop-i
+invariant-loop-i l = Joins l.n l.a l.b l.initial.parents l.initial.sizes l.parents l.sizes (length l.yielded)

@@ -1,25 +1,15 @@
--- Each branch writes the form that the definition picks.
+-- Each branch writes the form that the definition gives.
+use mathlib.Core.Path.{◌∙◌, ap}
 use Rattle.lines.proofs.Steps.{put_as}
-use Rattle.job_lines.proofs.Forms.{form_add, form_concat, form_cut, form_cutface, form_glue, form_point, form_remove}
+use Rattle.job_lines.specs.JobLines.{job_form}
+use Rattle.job_lines.specs.declared.Task.TheVariants.{Face, Shell}
 use Rattle.job_lines.proofs.put_form.Goals as goal
 
-pub returns-then-j-eq1 : goal.returns-then-j-eq1
-returns-then-j-eq1 c = put_as _ _ _ _ (form_cut _ c.if-j-eq1.true) c.put_text.ensures
+pub returns-in-Shell-Remove : goal.returns-in-Shell-Remove
+returns-in-Shell-Remove c = put_as _ _ _ _ (ap job_form (c.in-Shell-Remove.is ∙ ap Shell (rw c.in-Shell-Remove.is at c.in-Shell-Remove.field-0-is))) c.put_text-in-Shell-Remove.ensures
 
-pub returns-then-j-eq2 : goal.returns-then-j-eq2
-returns-then-j-eq2 c = put_as _ _ _ _ (form_remove _ c.if-j-eq2.true) c.put_text-then-j-eq2.ensures
+pub returns-in-Face-Add : goal.returns-in-Face-Add
+returns-in-Face-Add c = put_as _ _ _ _ (ap job_form (c.in-Face-Add.is ∙ ap Face (rw c.in-Face-Add.is at c.in-Face-Add.field-0-is))) c.put_text-in-Face-Add.ensures
 
-pub returns-then-j-eq3 : goal.returns-then-j-eq3
-returns-then-j-eq3 c = put_as _ _ _ _ (form_concat _ c.if-j-eq3.true) c.put_text-then-j-eq3.ensures
-
-pub returns-then-j-eq4 : goal.returns-then-j-eq4
-returns-then-j-eq4 c = put_as _ _ _ _ (form_point _ c.if-j-eq4.true) c.put_text-then-j-eq4.ensures
-
-pub returns-then-j-eq5 : goal.returns-then-j-eq5
-returns-then-j-eq5 c = put_as _ _ _ _ (form_add _ c.if-j-eq5.true) c.put_text-then-j-eq5.ensures
-
-pub returns-then-j-eq6 : goal.returns-then-j-eq6
-returns-then-j-eq6 c = put_as _ _ _ _ (form_cutface _ c.if-j-eq6.true) c.put_text-then-j-eq6.ensures
-
-pub returns : goal.returns
-returns c = put_as _ _ _ _ (form_glue _ c.if-j-eq1.false c.if-j-eq2.false c.if-j-eq3.false c.if-j-eq4.false c.if-j-eq5.false c.if-j-eq6.false) c.put_text-2.ensures
+pub returns-in-Face-CutFace : goal.returns-in-Face-CutFace
+returns-in-Face-CutFace c = put_as _ _ _ _ (ap job_form (c.in-Face-CutFace.is ∙ ap Face (rw c.in-Face-CutFace.is at c.in-Face-CutFace.field-0-is))) c.put_text-in-Face-CutFace.ensures

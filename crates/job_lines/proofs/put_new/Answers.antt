@@ -2,7 +2,7 @@
 use mathlib.Core.List.{◌++◌}
 use native.Mathlib.Omega.{arith}
 use Rattle.answer_lines.proofs.Bounds.{put_front}
-use Rattle.job_lines.proofs.Answers.{edges_one, edges_two, point_one}
+use Rattle.job_lines.proofs.Answers.{edges_two, joined_one, point_one, removed_one}
 use Rattle.lines.proofs.Bounds.{number_short}
 use Rattle.lines.specs.Parts.{word_number}
 use Rattle.lists.proofs.Sets.{put_then}
@@ -17,19 +17,26 @@ pub put_number-requires : goal.put_number-requires
 put_number-requires c = let args = c.args in
     omega (arith, decimal_20 args.first (omega arith), number_short (ascii " ") 20 _ (decimal_20 args.second (omega arith)))
 
-pub returns-then-j-eq1 : goal.returns-then-j-eq1
-returns-then-j-eq1 c = let args = c.args in
-    put_front args.text.now _ _ (edges_two _ _ _ c.if-j-eq1.true)
-    (put_then args.text.now 0 (ascii "done edges " ++ decimal _) (word_number (ascii " ") _) _ _ _ _ c.put_field-at.ensures c.put_number.ensures)
+pub returns-in-Cut : goal.returns-in-Cut
+returns-in-Cut c = let args = c.args in
+    rw c.in-Cut.is
+    (put_front args.text.now _ _ (edges_two _ _)
+    (put_then args.text.now 0 (ascii "done edges " ++ decimal _) (word_number (ascii " ") _) _ _ _ _ c.put_field-at.ensures c.put_number.ensures))
 
-pub put_number-requires-then-j-eq4 : goal.put_number-requires-then-j-eq4
-put_number-requires-then-j-eq4 c = omega (arith, number_short (ascii "done point ") 20 _ (decimal_20 c.args.first (omega arith)))
+pub put_number-requires-in-Remove : goal.put_number-requires-in-Remove
+put_number-requires-in-Remove c = omega (arith, number_short (ascii "done edge ") 20 _ (decimal_20 c.args.first (omega arith)))
 
-pub returns-then-j-eq4 : goal.returns-then-j-eq4
-returns-then-j-eq4 c = put_front _ _ _ (point_one _ _ _ c.if-j-eq4.true) c.put_number-then-j-eq4.ensures
+pub returns-in-Remove : goal.returns-in-Remove
+returns-in-Remove c = rw c.in-Remove.is (put_front _ _ _ (removed_one _ c.args.second) c.put_number-in-Remove.ensures)
 
-pub put_number-requires-2 : goal.put_number-requires-2
-put_number-requires-2 c = omega (arith, number_short (ascii "done edge ") 20 _ (decimal_20 c.args.first (omega arith)))
+pub put_number-requires-in-Concat : goal.put_number-requires-in-Concat
+put_number-requires-in-Concat c = omega (arith, number_short (ascii "done edge ") 20 _ (decimal_20 c.args.first (omega arith)))
 
-pub returns : goal.returns
-returns c = put_front _ _ _ (edges_one _ _ _ c.if-j-eq1.false c.if-j-eq4.false) c.put_number-2.ensures
+pub returns-in-Concat : goal.returns-in-Concat
+returns-in-Concat c = rw c.in-Concat.is (put_front _ _ _ (joined_one _ c.args.second) c.put_number-in-Concat.ensures)
+
+pub put_number-requires-in-Point : goal.put_number-requires-in-Point
+put_number-requires-in-Point c = omega (arith, number_short (ascii "done point ") 20 _ (decimal_20 c.args.first (omega arith)))
+
+pub returns-in-Point : goal.returns-in-Point
+returns-in-Point c = rw c.in-Point.is (put_front _ _ _ (point_one _ c.args.second) c.put_number-in-Point.ensures)

@@ -16,22 +16,22 @@ pair a b = (a, b)
 split2 : {A B R : Type 0} → (A → B → R) → A × B → R
 split2 f p = f p.0 p.1
 
-begun : (c : After-first_of-first) → Named c.args.line.now (take (c.trimmed_length-length.result - 0) c.args.line.now) c.first_of-first.result.job c.first_of-first.result.end
+begun : (c : After-first_of-first) → Named c.args.line.now (take (c.trimmed_length-length.result - 0) c.args.line.now) c.first_of-first.result.task c.first_of-first.result.end
 begun c =
-    record { few = c.if-line-gt65536.false; trim = trim_is c.args.line.now c.trimmed_length-length.result c.trimmed_length-length.ensures.1; job = c.first_of-first.ensures.0; rest = c.first_of-first.ensures.3 }
+    record { few = c.if-line-gt65536.false; trim = trim_is c.args.line.now c.trimmed_length-length.result c.trimmed_length-length.ensures.1; job = c.first_of-first.ensures.0; rest = c.first_of-first.ensures.2 }
 
-read : (c : After-match_job-m) → Valued c.args.line.now c.first_of-first.result.job c.match_job-m.result.words c.match_job-m.result.all c.match_job-m.new.out
+read : (c : After-match_job-m) → Valued c.args.line.now c.in-Some.task c.match_job-m.result.words c.match_job-m.result.all c.match_job-m.new.out
 read c =
-    let begun : Named c.args.line.now (take (c.trimmed_length-length.result - 0) c.args.line.now) c.first_of-first.result.job c.first_of-first.result.end = record { few = c.if-line-gt65536.false; trim = trim_is c.args.line.now c.trimmed_length-length.result c.trimmed_length-length.ensures.1; job = c.first_of-first.ensures.0; rest = c.first_of-first.ensures.3 } in
-    valued begun c.if-j-eq0.false _ _ _ c.match_job-m.ensures.out_after c.match_job-m.ensures.words_value c.match_job-m.ensures.all_value
+    let begun : Named c.args.line.now (take (c.trimmed_length-length.result - 0) c.args.line.now) c.first_of-first.result.task c.first_of-first.result.end = record { few = c.if-line-gt65536.false; trim = trim_is c.args.line.now c.trimmed_length-length.result c.trimmed_length-length.ensures.1; job = c.first_of-first.ensures.0; rest = c.first_of-first.ensures.2 } in
+    valued begun _ c.in-Some.is _ _ _ c.match_job-m.ensures.out_after c.match_job-m.ensures.words_value c.match_job-m.ensures.all_value
 
 pub returns-then-line-gt65536 : goal.returns-then-line-gt65536
 returns-then-line-gt65536 c =
     split2 (λ x y. record { text_after = x; out_after = y }) (answered _ _ _ (too_long _ _ _ c.if-line-gt65536.true) _ _ _ (c.put_text.ensures.0, omega (arith, c.put_text.ensures.1)))
 
-pub returns-then-j-eq0 : goal.returns-then-j-eq0
-returns-then-j-eq0 c =
-    split2 (λ x y. record { text_after = x; out_after = y }) (answered _ _ _ (no_name_line (begun (goal.at.returns-then-j-eq0 c).After-first_of-first) _ _ c.if-j-eq0.true) _ _ _ c.put_unnamed.ensures)
+pub returns-in_default : goal.returns-in_default
+returns-in_default c =
+    split2 (λ x y. record { text_after = x; out_after = y }) (answered _ _ _ (no_name_line (begun (goal.at.returns-in_default c).After-first_of-first) _ _ c.in_default.is) _ _ _ c.put_unnamed.ensures)
 
 pub returns-then-not-m : goal.returns-then-not-m
 returns-then-not-m c =
@@ -44,7 +44,7 @@ returns-then-n-needed c =
 pub do_job-requires : goal.do_job-requires
 do_job-requires c =
     let e = job_fits (read (goal.at.do_job-requires c).After-match_job-m) c.if-not-m.false _ c.needed.ensures.0 c.if-n-needed.false in
-    (search rules, search rules, e.0, e.1, search rules)
+    (e.0, e.1, search rules)
 
 pub returns : goal.returns
 returns c =

@@ -6,13 +6,13 @@ use Rattle.jobs.proofs.do_face_job.Goals as goal
 use Rattle.jobs.proofs.do_face_job.Goals.{Else-a-ne0}
 
 -- what was answered if the edit is done
-held : (c : Else-a-ne0) → Held c.args.j c.args.v.now c.args.file.now c.face_job-a.result c.face_job-a.new.uses c.face_job-a.new.lens
+held : (c : Else-a-ne0) → Held c.args.task c.args.v.now c.args.file.now c.face_job-a.result c.face_job-a.new.uses c.face_job-a.new.lens
 held c =
     record { is = c.face_job-a.ensures.value; done = c.if-a-ne0.false; held = c.face_job-a.ensures.uses_after; kept = c.face_job-a.ensures.lens_after }
 
 pub returns-then-a-ne0 : goal.returns-then-a-ne0
 returns-then-a-ne0 c =
-    text_as (face_refused _ _ _ _ c.face_job-a.ensures.value c.if-a-ne0.true) _ _ _ (c.put_refused.ensures.0, c.put_refused.ensures.1)
+    text_as (face_refused c.args.task c.args.v.now c.args.file.now _ c.face_job-a.ensures.value c.if-a-ne0.true) _ _ _ (c.put_refused.ensures.0, c.put_refused.ensures.1)
 
 pub slice_bounds-put_done-end : goal.slice_bounds-put_done-end
 slice_bounds-put_done-end c =
@@ -28,4 +28,4 @@ put_done-requires c =
 
 pub returns : goal.returns
 returns c =
-    text_as (face_done _ _ _ _ c.face_job-a.ensures.value c.if-a-ne0.false (told_parts (held (goal.at.returns c).Else-a-ne0))) _ _ _ c.put_done.ensures
+    text_as (face_done c.args.task c.args.v.now c.args.file.now _ c.face_job-a.ensures.value c.if-a-ne0.false (told_parts (held (goal.at.returns c).Else-a-ne0))) _ _ _ c.put_done.ensures

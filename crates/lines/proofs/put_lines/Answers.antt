@@ -1,37 +1,38 @@
-use Prim.Native.Nat.{◌+◌, ◌-◌, ◌≤◌}
+use Prim.Native.Nat.{◌+◌, ◌≤◌}
 use native.Mathlib.Omega.{arith}
 use lib.ListN.{length}
 use Rattle.lines.proofs.Loops.{lining_all, lining_fits, lining_next, lining_room, lining_start}
 use Rattle.lines.specs.Parts.{word_line}
 use Rattle.lines.proofs.put_lines.Goals as goal
+use Rattle.lines.proofs.put_lines.Goals.{After-index-n}
 
-pub loop-k-init : goal.loop-k-init
-loop-k-init c = lining_start (word_line c.args.word.now) _ _ _ _ c.requires.0 c.requires.1
+-- the part lies within the items
+fits : (c : After-index-n) → c.loop-len.start + c.index-n.result ≤ length c.args.items.now
+fits c = lining_fits (word_line c.args.word.now) c.loop-len.invariant c.loop-len-test.true c.index-n.ensures.0
+
+pub loop-len-init : goal.loop-len-init
+loop-len-init c = lining_start (word_line c.args.word.now) _ _ _ _ c.requires.0 c.requires.1
 
 pub overflow_add-start : goal.overflow_add-start
-overflow_add-start c = let fits : c.loop-k.start + c.index-n.result ≤ length c.args.items.now = lining_fits (word_line c.args.word.now) c.loop-k.invariant c.loop-k-test.true c.index-n.ensures.0 in
-    omega (arith, fits)
+overflow_add-start c = omega (arith, fits (goal.at.overflow_add-start c).After-index-n)
 
 pub offset_bounds-items-start : goal.offset_bounds-items-start
-offset_bounds-items-start c = let fits : c.loop-k.start + c.index-n.result ≤ length c.args.items.now = lining_fits (word_line c.args.word.now) c.loop-k.invariant c.loop-k-test.true c.index-n.ensures.0 in
-    omega (arith, fits)
+offset_bounds-items-start c = omega (arith, fits (goal.at.offset_bounds-items-start c).After-index-n)
 
 pub slice_bounds-put_line-end : goal.slice_bounds-put_line-end
-slice_bounds-put_line-end c = let fits : c.loop-k.start + c.index-n.result ≤ length c.args.items.now = lining_fits (word_line c.args.word.now) c.loop-k.invariant c.loop-k-test.true c.index-n.ensures.0 in
-    fits
+slice_bounds-put_line-end c = fits (goal.at.slice_bounds-put_line-end c).After-index-n
 
 pub put_line-end-requires : goal.put_line-end-requires
-put_line-end-requires c = lining_room (word_line c.args.word.now) c.loop-k.invariant c.loop-k-test.true c.index-n.ensures.0
+put_line-end-requires c = lining_room (word_line c.args.word.now) c.loop-len.invariant c.loop-len-test.true c.index-n.ensures.0
 
-pub overflow_add-start-in-loop-k : goal.overflow_add-start-in-loop-k
-overflow_add-start-in-loop-k c = let fits : c.loop-k.start + c.index-n.result ≤ length c.args.items.now = lining_fits (word_line c.args.word.now) c.loop-k.invariant c.loop-k-test.true c.index-n.ensures.0 in
-    omega (arith, fits)
+pub overflow_add-start-in-loop-len : goal.overflow_add-start-in-loop-len
+overflow_add-start-in-loop-len c = omega (arith, fits (goal.at.overflow_add-start-in-loop-len c).After-index-n)
 
-pub loop-k-preserved : goal.loop-k-preserved
-loop-k-preserved c = lining_next (word_line c.args.word.now) c.loop-k.invariant c.loop-k-test.true c.index-n.ensures.0 _ _ c.put_line-end.ensures
+pub loop-len-preserved : goal.loop-len-preserved
+loop-len-preserved c = lining_next (word_line c.args.word.now) c.loop-len.invariant c.loop-len-test.true c.index-n.ensures.0 _ _ c.put_line-end.ensures
 
 pub shape_of-out : goal.shape_of-out
-shape_of-out c = c.loop-k.invariant.putting.long
+shape_of-out c = c.loop-len.invariant.putting.long
 
 pub returns : goal.returns
-returns c = lining_all (word_line c.args.word.now) c.loop-k.invariant c.loop-k-test.false
+returns c = lining_all (word_line c.args.word.now) c.loop-len.invariant c.loop-len-test.false

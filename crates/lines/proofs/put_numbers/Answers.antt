@@ -1,20 +1,19 @@
-use Prim.Native.Nat.{◌-◌}
 use mathlib.Core.Path.{sym}
 use Rattle.lines.proofs.Loops.{putting_all, putting_next, putting_room, putting_start}
 use Rattle.lines.specs.Parts.{word_number}
 use Rattle.lines.proofs.put_numbers.Goals as goal
 
-pub loop-j-init : goal.loop-j-init
-loop-j-init c = putting_start (word_number c.args.word.now) _ _ _ c.requires
+pub loop-point-init : goal.loop-point-init
+loop-point-init c = putting_start (word_number c.args.word.now) _ _ _ c.requires
 
 pub put_number-end-requires : goal.put_number-end-requires
-put_number-end-requires c = putting_room (word_number c.args.word.now) c.loop-j.invariant 0 c.loop-j-test.true (sym c.index.ensures.0)
+put_number-end-requires c = putting_room (word_number c.args.word.now) c.loop-point.invariant 0 c.loop-point-test.true (sym c.index.ensures.0)
 
-pub loop-j-preserved : goal.loop-j-preserved
-loop-j-preserved c = putting_next (word_number c.args.word.now) c.loop-j.invariant 0 c.loop-j-test.true (sym c.index.ensures.0) _ _ c.put_number-end.ensures
+pub loop-point-preserved : goal.loop-point-preserved
+loop-point-preserved c = putting_next (word_number c.args.word.now) c.loop-point.invariant 0 c.loop-point-test.true (sym c.index.ensures.0) _ _ c.put_number-end.ensures
 
 pub shape_of-out : goal.shape_of-out
-shape_of-out c = c.loop-j.invariant.long
+shape_of-out c = c.loop-point.invariant.long
 
 pub returns : goal.returns
-returns c = putting_all (word_number c.args.word.now) c.loop-j.invariant c.loop-j-test.false
+returns c = putting_all (word_number c.args.word.now) c.loop-point.invariant c.loop-point-test.false

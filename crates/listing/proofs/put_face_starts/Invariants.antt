@@ -1,10 +1,6 @@
 -- After k turns the first k starts are stored.
-use Prim.Native.Nat.{◌-◌}
 use Rattle.listing.proofs.Loops.{Starting}
 use Rattle.listing.proofs.put_face_starts.Given as goal
 
 abbrev pub invariant-loop-k : goal.invariant-loop-k
 invariant-loop-k l = Starting l.wires l.counts l.n l.out l.k l.at l.start
-
-abbrev pub decreases-loop-k : goal.decreases-loop-k
-decreases-loop-k l = l.n - l.k

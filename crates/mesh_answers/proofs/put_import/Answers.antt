@@ -1,15 +1,11 @@
-use mathlib.Core.Path.{refl}
+use mathlib.Core.Path.{◌≡◌}
 use native.Mathlib.Omega.{arith}
+use Rattle.output.specs.Text.{ascii}
+use Rattle.mesh_answers.specs.ImportLines.{import_line}
 use Rattle.mesh_answers.proofs.put_import.Goals as goal
 
-pub returns-in-Length : goal.returns-in-Length
-returns-in-Length c = rw c.in-Length.is (refl, refl, omega arith)
-
-pub returns-in-Line : goal.returns-in-Line
-returns-in-Line c = rw c.in-Line.is c.put_line.ensures
-
-pub returns-in-Refused : goal.returns-in-Refused
-returns-in-Refused c = rw c.in-Refused.is c.put_refusal.ensures
-
-pub returns-in-NoSpace : goal.returns-in-NoSpace
-returns-in-NoSpace c = rw c.in-NoSpace.is (c.put_text.ensures.0, c.put_text.ensures.1, omega arith)
+pub returns-in-Err-Refused-NoSpace : goal.returns-in-Err-Refused-NoSpace
+returns-in-Err-Refused-NoSpace c =
+    let x = c.in-Err-Refused-NoSpace in
+    let e : import_line c.args.a ≡ ascii "refused 17\n" = rw (x.is, rw x.is at x.field-0-is, rw (x.is, rw x.is at x.field-0-is) at x.field-0-0-is) in
+    rw e (c.put_text.ensures.0, c.put_text.ensures.1, omega arith)

@@ -1,7 +1,6 @@
 -- Along the edge, then the other way round.
-use mathlib.Core.Logic.{inl, inr, ⊎_elim}
 use mathlib.Core.Path.{sym}
-use Rattle.mesh_edges.proofs.Chains.{joins_along, joins_back, joins_not}
+use Rattle.mesh_edges.proofs.Chains.{joins_along, joins_back}
 use Rattle.mesh_edges.proofs.is_between.Goals as goal
 
 pub returns-then-back-q : goal.returns-then-back-q

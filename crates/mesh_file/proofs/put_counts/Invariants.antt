@@ -1,5 +1,4 @@
 -- After b turns the first b counts are stored.
-use Prim.Native.Nat.{◌-◌, ◌≤◌}
 use mathlib.Core.List.{List}
 use mathlib.Core.Path.{◌≡◌}
 use lib.Ieee.{Float}
@@ -10,7 +9,4 @@ use Rattle.store.specs.Store.{held}
 use Rattle.mesh_file.proofs.put_counts.Given as goal
 
 abbrev pub invariant-loop-b : goal.invariant-loop-b
-invariant-loop-b l = (l.b ≤ 7) × ((spans : List Float) → held l.t spans ≡ with_counts (held l.initial.t spans) (sets (held l.initial.t spans).counts 0 (take l.b l.counts)))
-
-abbrev pub decreases-loop-b : goal.decreases-loop-b
-decreases-loop-b l = 7 - l.b
+invariant-loop-b l = (spans : List Float) → held l.t spans ≡ with_counts (held l.initial.t spans) (sets (held l.initial.t spans).counts 0 (take l.b l.fn.counts))

@@ -1,5 +1,4 @@
 -- After k turns k faces and their listings are stored.
-use Prim.Native.Nat.{◌-◌, ◌≤◌}
 use mathlib.Core.List.{List}
 use mathlib.Core.Path.{◌≡◌}
 use lib.Ieee.{Float}
@@ -8,7 +7,4 @@ use Rattle.mesh_file.specs.Judging.{with_listed}
 use Rattle.mesh_file.proofs.put_faces.Given as goal
 
 abbrev pub invariant-loop-k : goal.invariant-loop-k
-invariant-loop-k l = (l.k ≤ l.n) × ((spans : List Float) → held l.t spans ≡ with_listed (held l.initial.t spans) l.k)
-
-abbrev pub decreases-loop-k : goal.decreases-loop-k
-decreases-loop-k l = l.n - l.k
+invariant-loop-k l = (spans : List Float) → held l.t spans ≡ with_listed (held l.initial.t spans) l.k

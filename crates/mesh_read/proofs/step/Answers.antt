@@ -1,4 +1,4 @@
-use Rattle.std.proofs.Common.{◌-◌, ◌≤◌, length, ⊎_elim, arith, rules}
+use Rattle.std.proofs.Common.{◌≤◌, length, arith}
 use Rattle.store.specs.Store.{held}
 use Rattle.mesh_read.proofs.Pieces.{Stepping, read_more, stepping_all, stepping_next, stepping_past, stepping_start}
 use Rattle.mesh_read.proofs.Runs.{stepping_refused, stepping_run, stops_rest}

@@ -13,25 +13,25 @@ pub look_up-l-requires-clause-lookups_bound : goal.look_up-l-requires-clause-loo
 look_up-l-requires-clause-lookups_bound c = omega (arith, c.loop-u.invariant.asked, c.loop-u.invariant.all, c.requires.3)
 
 pub offset_bounds-out-m : goal.offset_bounds-out-m
-offset_bounds-out-m c = let h = room_at _ _ _ _ _ _ _ _ _ _ _ _ c.loop-u.invariant _ _ _ c.look_up-l.ensures.answer_value c.look_up-l.ensures.kept_after_2 c.look_up-l.ensures.lookups_value c.in-Use.u c.in-Use.is c.requires.2 in
+offset_bounds-out-m c = let h = room_at _ _ _ _ _ _ _ _ _ _ _ _ c.loop-u.invariant _ _ _ c.look_up-l.ensures.answer_value c.look_up-l.ensures.kept_after_2 c.look_up-l.ensures.lookups_value c.in-Some.u c.in-Some.is c.requires.2 in
     omega (arith, h)
 
 pub bounds-out-m : goal.bounds-out-m
-bounds-out-m c = room_at _ _ _ _ _ _ _ _ _ _ _ _ c.loop-u.invariant _ _ _ c.look_up-l.ensures.answer_value c.look_up-l.ensures.kept_after_2 c.look_up-l.ensures.lookups_value c.in-Use.u c.in-Use.is c.requires.2
+bounds-out-m c = room_at _ _ _ _ _ _ _ _ _ _ _ _ c.loop-u.invariant _ _ _ c.look_up-l.ensures.answer_value c.look_up-l.ensures.kept_after_2 c.look_up-l.ensures.lookups_value c.in-Some.u c.in-Some.is c.requires.2
 
 pub overflow_add-m : goal.overflow_add-m
-overflow_add-m c = let h = room_at _ _ _ _ _ _ _ _ _ _ _ _ c.loop-u.invariant _ _ _ c.look_up-l.ensures.answer_value c.look_up-l.ensures.kept_after_2 c.look_up-l.ensures.lookups_value c.in-Use.u c.in-Use.is c.requires.2 in
+overflow_add-m c = let h = room_at _ _ _ _ _ _ _ _ _ _ _ _ c.loop-u.invariant _ _ _ c.look_up-l.ensures.answer_value c.look_up-l.ensures.kept_after_2 c.look_up-l.ensures.lookups_value c.in-Some.u c.in-Some.is c.requires.2 in
     omega (arith, h)
 
 pub back_of-q-requires : goal.back_of-q-requires
-back_of-q-requires c = let h = edge_at_lem _ _ _ _ _ _ _ _ _ _ _ _ c.loop-u.invariant _ _ _ c.look_up-l.ensures.answer_value c.look_up-l.ensures.kept_after_2 c.look_up-l.ensures.lookups_value c.in-Use.u c.in-Use.is in
+back_of-q-requires c = let h = edge_at_lem _ _ _ _ _ _ _ _ _ _ _ _ c.loop-u.invariant _ _ _ c.look_up-l.ensures.answer_value c.look_up-l.ensures.kept_after_2 c.look_up-l.ensures.lookups_value c.in-Some.u c.in-Some.is in
     (omega (arith, h.0, h.1), omega (arith, h.0, h.1))
 
 pub loop-u-smaller : goal.loop-u-smaller
-loop-u-smaller c = less_at _ _ _ _ _ _ _ _ _ _ _ _ c.loop-u.invariant _ _ _ c.look_up-l.ensures.answer_value c.look_up-l.ensures.kept_after_2 c.look_up-l.ensures.lookups_value c.in-Use.u c.in-Use.is
+loop-u-smaller c = less_at _ _ _ _ _ _ _ _ _ _ _ _ c.loop-u.invariant _ _ _ c.look_up-l.ensures.answer_value c.look_up-l.ensures.kept_after_2 c.look_up-l.ensures.lookups_value c.in-Some.u c.in-Some.is
 
 pub loop-u-preserved : goal.loop-u-preserved
-loop-u-preserved c = next_at _ _ _ _ _ _ _ _ _ _ _ _ c.loop-u.invariant _ _ _ c.look_up-l.ensures.answer_value c.look_up-l.ensures.kept_after_2 c.look_up-l.ensures.lookups_value c.in-Use.u c.in-Use.is _ c.back_of-q.ensures
+loop-u-preserved c = next_at _ _ _ _ _ _ _ _ _ _ _ _ c.loop-u.invariant _ _ _ c.look_up-l.ensures.answer_value c.look_up-l.ensures.kept_after_2 c.look_up-l.ensures.lookups_value c.in-Some.u c.in-Some.is _ c.back_of-q.ensures
 
 pub shape_of-kept : goal.shape_of-kept
 shape_of-kept c = c.look_up-l.auto.kept ∙ c.loop-u.invariant.long
@@ -40,4 +40,4 @@ pub shape_of-out : goal.shape_of-out
 shape_of-out c = going_long _ _ _ _ _ _ _ _ _ _ _ _ c.loop-u.invariant
 
 pub returns : goal.returns
-returns c = end _ _ _ _ _ _ _ _ _ _ _ _ c.loop-u.invariant _ _ _ c.look_up-l.ensures.answer_value c.look_up-l.ensures.kept_after_2 c.look_up-l.ensures.lookups_value c.in-Nothing.is _ refl refl
+returns c = end _ _ _ _ _ _ _ _ _ _ _ _ c.loop-u.invariant _ _ _ c.look_up-l.ensures.answer_value c.look_up-l.ensures.kept_after_2 c.look_up-l.ensures.lookups_value c.in_default.is _ refl refl

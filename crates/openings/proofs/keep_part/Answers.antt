@@ -1,5 +1,4 @@
-use Prim.Native.Nat.{◌%◌, ◌-◌, ◌/◌}
-use mathlib.Core.Logic.{⊎_elim}
+use Prim.Native.Nat.{◌%◌, ◌/◌}
 use mathlib.Core.Path.{◌∙◌, refl}
 use native.Mathlib.Omega.{arith}
 use lib.ListN.{get_or}
@@ -9,30 +8,30 @@ use Rattle.openings.proofs.Keeping.{keeping_all, keeping_edge, keeping_even, kee
 use Rattle.openings.proofs.keep_part.Goals as goal
 use Rattle.openings.proofs.keep_part.Goals.{then-odd-e-eq1, else-odd-e-eq1}
 
-pub loop-i-init : goal.loop-i-init
-loop-i-init c = keeping_start _ _ _ _ _ c.requires
+pub loop-u-init : goal.loop-u-init
+loop-u-init c = keeping_start _ _ _ _ _ c.requires
 
 pub bounds-odd-e : goal.bounds-odd-e
-bounds-odd-e c = keeping_tally _ _ _ _ _ c.requires _ _ c.loop-i.invariant _ (omega arith) refl
+bounds-odd-e c = keeping_tally _ _ _ _ _ c.requires _ _ c.loop-u.invariant _ (omega arith) refl
 
 pub front_of-p-requires : goal.front_of-p-requires
-front_of-p-requires c = keeping_edge _ _ _ _ _ c.requires _ _ c.loop-i.invariant _ (omega arith) refl
+front_of-p-requires c = keeping_edge _ _ _ _ _ c.requires _ _ c.loop-u.invariant _ (omega arith) refl
 
 pub keep_at-requires : goal.keep_at-requires
-keep_at-requires c = keeping_front _ _ _ _ _ c.requires _ _ c.loop-i.invariant _ (omega arith) refl _ c.front_of-p.ensures
+keep_at-requires c = keeping_front _ _ _ _ _ c.requires _ _ c.loop-u.invariant _ (omega arith) refl _ c.front_of-p.ensures
 
 pub shape_of-kept : goal.shape_of-kept
-shape_of-kept c = c.loop-i.invariant.long
+shape_of-kept c = c.loop-u.invariant.long
 
 pub returns-clause-kept_after : goal.returns-clause-kept_after
-returns-clause-kept_after c = keeping_all _ _ _ _ _ c.requires _ _ c.loop-i.invariant (omega arith)
+returns-clause-kept_after c = keeping_all _ _ _ _ _ c.requires _ _ c.loop-u.invariant (omega arith)
 
 pub returns-clause-holding : goal.returns-clause-holding
-returns-clause-holding c = c.loop-i.invariant.holding
+returns-clause-holding c = c.loop-u.invariant.holding
 
-pub loop-i-preserved : goal.loop-i-preserved
-loop-i-preserved c = let loop = c.loop-i in
-    let u = get_or c.args.part.now loop.i 0 in
+pub loop-u-preserved : goal.loop-u-preserved
+loop-u-preserved c = let loop = c.loop-u in
+    let u = get_or c.args.part.now loop.u-index 0 in
     elim c.if-odd-e-eq1.branch [
       | then-odd-e-eq1 w ↦ rw (w.kept-is ∙ w.keep_at.ensures) (keeping_odd _ _ _ _ _ c.requires _ _ loop.invariant u (omega arith) refl (eq-eqb (get_or c.args.odd.now (edge_number u) 0 / 16 % 2) 1 w.if-odd-e-eq1.true) _ w.front_of-p.ensures)
       | else-odd-e-eq1 w ↦ rw w.kept-is (keeping_even _ _ _ _ _ c.requires _ _ loop.invariant u (omega arith) refl (ne_eqb (get_or c.args.odd.now (edge_number u) 0 / 16 % 2) 1 w.if-odd-e-eq1.false))

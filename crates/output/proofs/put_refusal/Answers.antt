@@ -9,29 +9,29 @@ use Rattle.output.specs.Text.{ascii, decimal, field}
 use Rattle.output.proofs.put_refusal.Goals as goal
 
 pub put_field-at-requires : goal.put_field-at-requires
-put_field-at-requires c = let short : (length (decimal c.number_of-n.result) ≤ 20) × (length (decimal c.body_of-b.result) ≤ 20) × (length (decimal c.record_of-k.result) ≤ 20) = (decimal_20 _ (omega arith), decimal_20 _ (omega arith), decimal_20 _ (omega arith)) in
+put_field-at-requires c = let short : (length (decimal c.number-n.result) ≤ 20) × (length (decimal c.body-b.result) ≤ 20) × (length (decimal c.record-k.result) ≤ 20) = (decimal_20 _ (omega arith), decimal_20 _ (omega arith), decimal_20 _ (omega arith)) in
     let s = short in omega arith
 
 pub put_field-at-requires-2 : goal.put_field-at-requires-2
-put_field-at-requires-2 c = let short : (length (decimal c.number_of-n.result) ≤ 20) × (length (decimal c.body_of-b.result) ≤ 20) × (length (decimal c.record_of-k.result) ≤ 20) = (decimal_20 _ (omega arith), decimal_20 _ (omega arith), decimal_20 _ (omega arith)) in
+put_field-at-requires-2 c = let short : (length (decimal c.number-n.result) ≤ 20) × (length (decimal c.body-b.result) ≤ 20) × (length (decimal c.record-k.result) ≤ 20) = (decimal_20 _ (omega arith), decimal_20 _ (omega arith), decimal_20 _ (omega arith)) in
     let s = short in omega arith
 
 pub put_field-at-requires-3 : goal.put_field-at-requires-3
-put_field-at-requires-3 c = let short : (length (decimal c.number_of-n.result) ≤ 20) × (length (decimal c.body_of-b.result) ≤ 20) × (length (decimal c.record_of-k.result) ≤ 20) = (decimal_20 _ (omega arith), decimal_20 _ (omega arith), decimal_20 _ (omega arith)) in
+put_field-at-requires-3 c = let short : (length (decimal c.number-n.result) ≤ 20) × (length (decimal c.body-b.result) ≤ 20) × (length (decimal c.record-k.result) ≤ 20) = (decimal_20 _ (omega arith), decimal_20 _ (omega arith), decimal_20 _ (omega arith)) in
     let s = short in omega arith
 
 pub put_text-requires : goal.put_text-requires
-put_text-requires c = let short : (length (decimal c.number_of-n.result) ≤ 20) × (length (decimal c.body_of-b.result) ≤ 20) × (length (decimal c.record_of-k.result) ≤ 20) = (decimal_20 _ (omega arith), decimal_20 _ (omega arith), decimal_20 _ (omega arith)) in
+put_text-requires c = let short : (length (decimal c.number-n.result) ≤ 20) × (length (decimal c.body-b.result) ≤ 20) × (length (decimal c.record-k.result) ≤ 20) = (decimal_20 _ (omega arith), decimal_20 _ (omega arith), decimal_20 _ (omega arith)) in
     let s = short in omega arith
 
 pub returns : goal.returns
 unfolding field
-returns c = let short : (length (decimal c.number_of-n.result) ≤ 20) × (length (decimal c.body_of-b.result) ≤ 20) × (length (decimal c.record_of-k.result) ≤ 20) = (decimal_20 _ (omega arith), decimal_20 _ (omega arith), decimal_20 _ (omega arith)) in
+returns c = let short : (length (decimal c.number-n.result) ≤ 20) × (length (decimal c.body-b.result) ≤ 20) × (length (decimal c.record-k.result) ≤ 20) = (decimal_20 _ (omega arith), decimal_20 _ (omega arith), decimal_20 _ (omega arith)) in
     let s = short in
     let out = c.args.out.now in
-    let n = c.number_of-n in
-    let b = c.body_of-b in
-    let k = c.record_of-k in
+    let n = c.number-n in
+    let b = c.body-b in
+    let k = c.record-k in
     let x = field "refused " n.result in
     let y = field " body " b.result in
     let z = field " record " k.result in

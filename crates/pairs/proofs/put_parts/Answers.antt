@@ -1,5 +1,4 @@
 use native.Mathlib.Omega.{arith}
-use Prim.Native.Nat.{◌-◌}
 use Rattle.pairs.proofs.Loops.{laying_all, laying_long, laying_next, laying_room, laying_start}
 use Rattle.pairs.proofs.put_parts.Goals as goal
 

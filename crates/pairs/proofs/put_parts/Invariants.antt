@@ -1,11 +1,6 @@
 -- After so many turns what as many pairs show is stored.
-use Prim.Native.Nat.{◌-◌}
-use lib.ListN.{length}
 use Rattle.pairs.proofs.Loops.{Laying}
 use Rattle.pairs.proofs.put_parts.Given as goal
 
 abbrev pub invariant-loop-pair : goal.invariant-loop-pair
-invariant-loop-pair l = Laying l.uses l.turned l.starts l.pairs l.initial.out l.out l.at l.pair
-
-abbrev pub decreases-loop-pair : goal.decreases-loop-pair
-decreases-loop-pair l = length l.pairs - l.pair
+invariant-loop-pair l = Laying l.uses l.turned l.starts l.pairs l.initial.out l.out l.at l.pair-index

@@ -1,5 +1,4 @@
 use native.Mathlib.Omega.{arith}
-use Prim.Native.Nat.{◌-◌}
 use Prim.Native.Nat.{ℕ}
 use lib.ListN.{length, length-replicate}
 use mathlib.Core.Path.{ap}

@@ -1,11 +1,6 @@
 -- After k turns the spans of the first k pairs are written.
-use Prim.Native.Nat.{◌-◌}
-use lib.ListN.{length}
 use Rattle.pairs.proofs.Loops.{Spanning}
 use Rattle.pairs.proofs.put_spans.Given as goal
 
 abbrev pub invariant-loop-k : goal.invariant-loop-k
 invariant-loop-k l = Spanning l.uses l.turned l.starts l.pairs l.out l.k
-
-abbrev pub decreases-loop-k : goal.decreases-loop-k
-decreases-loop-k l = length l.pairs - l.k

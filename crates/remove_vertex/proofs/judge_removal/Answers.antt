@@ -4,7 +4,8 @@ use lib.ListN.{get_or}
 use mathlib.Core.Path.{sym, ◌∙◌}
 use Rattle.concat.proofs.Stored.{held_edge_of}
 use Rattle.edge.specs.Uses.{edge_number}
-use Rattle.pattern.specs.Contents.{Pattern, content}
+use Rattle.errors.proofs.Laws.{handed_on}
+use Rattle.pattern.specs.Contents.{content}
 use Rattle.shell_wires.proofs.Facts.{Fine}
 use Rattle.shell_wires.proofs.Held.{held_fine, held_lent}
 use Rattle.shell_wires.specs.Lent.{Lent}
@@ -12,42 +13,48 @@ use Rattle.store.specs.Store.{count_table, held}
 use Rattle.remove_vertex.proofs.Removals.{of_edges}
 use Rattle.remove_vertex.proofs.Stored.{pair_refused, pair_removed}
 use Rattle.remove_vertex.proofs.judge_removal.Goals as goal
+use Rattle.remove_vertex.proofs.judge_removal.Goals.{After-listings_in, After-tables_known, In_ok-e}
 
-pub find_pair-found-requires : goal.find_pair-found-requires
-find_pair-found-requires c = let P : Pattern = held c.args.t.now c.args.spans.now in
-    let lent : Lent (P) c.counts_in-counts.result c.fronts_in.result.now c.backs_in.result.now c.uses_in.result.now c.wires_in.result.now c.faces_in.result.now c.shells_in.result.now c.listings_in.result.now = rw (c.counts_in-counts.ensures, c.fronts_in.ensures, c.backs_in.ensures, c.uses_in.ensures, c.wires_in.ensures, c.faces_in.ensures, c.shells_in.ensures, c.listings_in.ensures)
-    (held_lent c.args.t.now c.args.spans.now c.tables_known.ensures c.requires) in
-    (P, lent)
+good : (c : After-tables_known) → Fine (held c.args.t.now c.args.spans.now)
+good c =
+    held_fine c.args.t.now c.args.spans.now c.tables_known.ensures c.requires
+
+lent : (c : After-listings_in) → Lent (held c.args.t.now c.args.spans.now) c.counts_in-counts.result c.fronts_in.result.now c.backs_in.result.now c.uses_in.result.now c.wires_in.result.now c.faces_in.result.now c.shells_in.result.now c.listings_in.result.now
+lent c =
+    rw (c.counts_in-counts.ensures, c.fronts_in.ensures, c.backs_in.ensures, c.uses_in.ensures, c.wires_in.ensures, c.faces_in.ensures, c.shells_in.ensures, c.listings_in.ensures)
+    (held_lent c.args.t.now c.args.spans.now c.tables_known.ensures c.requires)
+
+-- the pair is of the edges
+inside : (c : In_ok-e) → (edge_number c.in_ok-e.k.ending < get_or (count_table c.args.t.now) 1 0) × (edge_number c.in_ok-e.k.next < get_or (count_table c.args.t.now) 1 0)
+inside c =
+    rw c.counts_in-counts.ensures at (of_edges (get_or c.counts_in-counts.result 1 0) c.in_ok-e.was c.find_pair.ensures.of_edges)
+
+pub find_pair-requires : goal.find_pair-requires
+find_pair-requires c =
+    (held c.args.t.now c.args.spans.now, lent c)
 
 pub edge_in-a-requires : goal.edge_in-a-requires
-edge_in-a-requires c = let P : Pattern = held c.args.t.now c.args.spans.now in
-    let good : Fine (P) = held_fine c.args.t.now c.args.spans.now c.tables_known.ensures c.requires in
-    let inside : (edge_number c.in-Found.k.ending < get_or (count_table c.args.t.now) 1 0) × (edge_number c.in-Found.k.next < get_or (count_table c.args.t.now) 1 0) = rw c.counts_in-counts.ensures at (of_edges (get_or c.counts_in-counts.result 1 0) c.in-Found.is c.find_pair-found.ensures.of_edges) in
-    omega (arith, (inside).0, (good).limits.edges, c.index.ensures.0)
+edge_in-a-requires c =
+    let l = goal.at.edge_in-a-requires c in
+    omega (arith, (inside l.In_ok-e).0, (good l.After-tables_known).limits.edges, c.index.ensures.0)
 
 pub edge_in-b-requires : goal.edge_in-b-requires
-edge_in-b-requires c = let P : Pattern = held c.args.t.now c.args.spans.now in
-    let good : Fine (P) = held_fine c.args.t.now c.args.spans.now c.tables_known.ensures c.requires in
-    let inside : (edge_number c.in-Found.k.ending < get_or (count_table c.args.t.now) 1 0) × (edge_number c.in-Found.k.next < get_or (count_table c.args.t.now) 1 0) = rw c.counts_in-counts.ensures at (of_edges (get_or c.counts_in-counts.result 1 0) c.in-Found.is c.find_pair-found.ensures.of_edges) in
-    omega (arith, (inside).1, (good).limits.edges, c.index-in-Found.ensures.0)
+edge_in-b-requires c =
+    let l = goal.at.edge_in-b-requires c in
+    omega (arith, (inside l.In_ok-e).1, (good l.After-tables_known).limits.edges, c.index-2.ensures.0)
 
-pub returns-in-Not : goal.returns-in-Not
-returns-in-Not c = let P : Pattern = held c.args.t.now c.args.spans.now in
-    let lent : Lent (P) c.counts_in-counts.result c.fronts_in.result.now c.backs_in.result.now c.uses_in.result.now c.wires_in.result.now c.faces_in.result.now c.shells_in.result.now c.listings_in.result.now = rw (c.counts_in-counts.ensures, c.fronts_in.ensures, c.backs_in.ensures, c.uses_in.ensures, c.wires_in.ensures, c.faces_in.ensures, c.shells_in.ensures, c.listings_in.ensures)
-    (held_lent c.args.t.now c.args.spans.now c.tables_known.ensures c.requires) in
-    let a = c.args in
-    pair_refused (content (P)) a.n a.v.0 (sym c.in-Not.is ∙ c.find_pair-found.ensures.value (P) (lent))
+pub returns-in_err-e : goal.returns-in_err-e
+returns-in_err-e c =
+    let l = lent (goal.at.returns-in_err-e c).After-listings_in in
+    handed_on _ _ c.from_residual.ensures.1 ∙ pair_refused (content (held c.args.t.now c.args.spans.now)) c.args.n c.args.v.0 (sym c.in_err-e.was ∙ c.find_pair.ensures.value _ l)
 
-pub returns-in-Found : goal.returns-in-Found
-returns-in-Found c = let P : Pattern = held c.args.t.now c.args.spans.now in
-    let good : Fine (P) = held_fine c.args.t.now c.args.spans.now c.tables_known.ensures c.requires in
-    let lent : Lent (P) c.counts_in-counts.result c.fronts_in.result.now c.backs_in.result.now c.uses_in.result.now c.wires_in.result.now c.faces_in.result.now c.shells_in.result.now c.listings_in.result.now = rw (c.counts_in-counts.ensures, c.fronts_in.ensures, c.backs_in.ensures, c.uses_in.ensures, c.wires_in.ensures, c.faces_in.ensures, c.shells_in.ensures, c.listings_in.ensures)
-    (held_lent c.args.t.now c.args.spans.now c.tables_known.ensures c.requires) in
-    let inside : (edge_number c.in-Found.k.ending < get_or (count_table c.args.t.now) 1 0) × (edge_number c.in-Found.k.next < get_or (count_table c.args.t.now) 1 0) = rw c.counts_in-counts.ensures at (of_edges (get_or c.counts_in-counts.result 1 0) c.in-Found.is c.find_pair-found.ensures.of_edges) in
-    let a = c.args in
-    let t = a.t.now in
-    let spans = a.spans.now in
-    let s = good in
-    pair_removed (held t spans) _ _ _ _ _ _ _ _ (lent) a.n a.v.0 _ _ (sym c.in-Found.is ∙ c.find_pair-found.ensures.value (held t spans) (lent)) _ _
-    (c.edge_in-a.ensures ∙ held_edge_of t spans s _ _ c.index.ensures.0 (inside).0)
-    (c.edge_in-b.ensures ∙ held_edge_of t spans s _ _ c.index-in-Found.ensures.0 (inside).1) _ c.join_pair.ensures
+pub returns : goal.returns
+returns c =
+    let l = goal.at.returns c in
+    let s = good l.After-tables_known in
+    let i = inside l.In_ok-e in
+    let t = c.args.t.now in
+    let spans = c.args.spans.now in
+    pair_removed (held t spans) _ _ _ _ _ _ _ _ (lent l.After-listings_in) c.args.n c.args.v.0 _ _ (sym c.in_ok-e.was ∙ c.find_pair.ensures.value _ (lent l.After-listings_in)) _ _
+    (c.edge_in-a.ensures ∙ held_edge_of t spans s _ _ c.index.ensures.0 i.0)
+    (c.edge_in-b.ensures ∙ held_edge_of t spans s _ _ c.index-2.ensures.0 i.1) _ c.join_pair.ensures

@@ -1,133 +1,96 @@
 use native.Mathlib.Omega.{arith}
-use Prim.Native.Nat.{◌<◌}
-use lib.ListN.{get_or}
 use mathlib.Core.List.{[]}
 use mathlib.Core.Path.{ap, sym, ◌∙◌, ◌≡◌}
 use Rattle.concat.proofs.Stored.{join_done, join_not, join_refused, next_is}
-use Rattle.remove_vertex_corners.specs.Endings.{ending_of}
-use Rattle.remove_vertex_corners.specs.declared.Ending.{Ending}
-use Rattle.edit_answers.specs.declared.JoinAnswer.TheVariants.{Joined}
-use Rattle.errors.proofs.Laws.{accepted_none}
+use Rattle.errors.proofs.Laws.{accepted_none, handed_on}
 use Rattle.pattern.proofs.Counts.{edges_counted}
 use Rattle.pattern.specs.Checks.{pattern_faults}
-use Rattle.pattern.specs.Contents.{Pattern, content}
+use Rattle.pattern.specs.Contents.{content}
+use Rattle.remove_vertex_corners.specs.Endings.{ending_of}
+use Rattle.remove_vertex_corners.specs.declared.Ending.{Ending}
 use Rattle.shell_edits.proofs.RemoveTheorem.{remove_pattern_accepted}
 use Rattle.shell_edits.specs.Edits.{ending_wires, remove_content, remove_faults}
 use Rattle.shell_wires.proofs.Facts.{Fine}
 use Rattle.shell_wires.proofs.Held.{held_fine}
-use Rattle.store.specs.Store.{count_table, held}
+use Rattle.std.specs.Prelude.{Ok}
+use Rattle.store.specs.Store.{held}
 use Rattle.remove_vertex.proofs.Removals.{joins_whole, not_joint}
 use Rattle.remove_vertex.proofs.Stored.{removal_room}
 use Rattle.remove_vertex.specs.Removals.{pair_edge, pair_stored}
 use Rattle.remove_vertex.proofs.remove_vertex_by_concat_edges.Goals as goal
+use Rattle.remove_vertex.proofs.remove_vertex_by_concat_edges.Goals.{In_ok-check, In_ok-d}
 
-pub returns-in-Refused-clause-value : goal.returns-in-Refused-clause-value
-returns-in-Refused-clause-value c = let P : Pattern = held c.args.t.now c.args.spans.now in
-    let k = content (P) in
-    let r = join_refused (P) (remove_faults k c.args.n c.args.v.0) (remove_content k c.args.n c.args.v.0) (sym c.check-checked.ensures ∙ c.in-Refused.is) in
-    r.0
+good : (c : In_ok-check) → Fine (held c.args.t.now c.args.spans.now)
+good c =
+    held_fine c.args.t.now c.args.spans.now c.tables_known.ensures (accepted_none _ (sym c.check.ensures ∙ c.in_ok-check.was))
 
-pub returns-in-Refused-clause-spans_after : goal.returns-in-Refused-clause-spans_after
-returns-in-Refused-clause-spans_after c = let P : Pattern = held c.args.t.now c.args.spans.now in
-    let k = content (P) in
-    let r = join_refused (P) (remove_faults k c.args.n c.args.v.0) (remove_content k c.args.n c.args.v.0) (sym c.check-checked.ensures ∙ c.in-Refused.is) in
-    r.1
+-- nothing is refused, and these are the edge and the wires
+joined : (c : In_ok-d)
+    → (remove_faults (content (held c.args.t.now c.args.spans.now)) c.args.n c.args.v.0 ≡ [])
+    × ((c.in_ok-d.d ≡ pair_edge (content (held c.args.t.now c.args.spans.now)) c.args.v.0 (ending_of (ending_wires (content (held c.args.t.now c.args.spans.now)) c.args.n c.args.v.0)))
+    × (c.in_ok-d.e ≡ ending_of (ending_wires (content (held c.args.t.now c.args.spans.now)) c.args.n c.args.v.0)))
+joined c =
+    let k = content (held c.args.t.now c.args.spans.now) in
+    let ends : Ending = ending_of (ending_wires k c.args.n c.args.v.0) in
+    joins_whole (remove_faults k c.args.n c.args.v.0) (pair_edge k c.args.v.0 ends) ends (sym c.judge_removal.ensures ∙ c.in_ok-d.was)
 
-pub returns-in-Refused-clause-spans_after_2 : goal.returns-in-Refused-clause-spans_after_2
-returns-in-Refused-clause-spans_after_2 c = let P : Pattern = held c.args.t.now c.args.spans.now in
-    let k = content (P) in
-    let r = join_refused (P) (remove_faults k c.args.n c.args.v.0) (remove_content k c.args.n c.args.v.0) (sym c.check-checked.ensures ∙ c.in-Refused.is) in
-    λ fine. fine
+pub returns-in_err-check-clause-value : goal.returns-in_err-check-clause-value
+returns-in_err-check-clause-value c =
+    let k = content (held c.args.t.now c.args.spans.now) in
+    handed_on _ _ c.from_residual.ensures.1 ∙ (join_refused _ (remove_faults k c.args.n c.args.v.0) (remove_content k c.args.n c.args.v.0) (sym c.check.ensures ∙ c.in_err-check.was)).0
 
-pub judge_removal-judged-requires : goal.judge_removal-judged-requires
-judge_removal-judged-requires c = let P : Pattern = held c.args.t.now c.args.spans.now in
-    let good : Fine (P) = held_fine c.args.t.now c.args.spans.now c.tables_known.ensures
-    (accepted_none (pattern_faults (P)) (sym c.check-checked.ensures ∙ c.in-Accepted.is)) in
-    (good).ok
+pub returns-in_err-check-clause-spans_after : goal.returns-in_err-check-clause-spans_after
+returns-in_err-check-clause-spans_after c =
+    let k = content (held c.args.t.now c.args.spans.now) in
+    (join_refused _ (remove_faults k c.args.n c.args.v.0) (remove_content k c.args.n c.args.v.0) (sym c.check.ensures ∙ c.in_err-check.was)).1
+
+pub judge_removal-requires : goal.judge_removal-requires
+judge_removal-requires c =
+    (good c).ok
+
+pub returns-in_err-d-clause-value : goal.returns-in_err-d-clause-value
+returns-in_err-d-clause-value c =
+    let k = content (held c.args.t.now c.args.spans.now) in
+    let ends : Ending = ending_of (ending_wires k c.args.n c.args.v.0) in
+    let es = remove_faults k c.args.n c.args.v.0 in
+    let d = pair_edge k c.args.v.0 ends in
+    let s = good (goal.at.returns-in_err-d-clause-value c).In_ok-check in
+    handed_on _ _ c.from_residual-in_err-d.ensures.1 ∙ (join_not _ es (remove_content k c.args.n c.args.v.0) s.ok d (not_joint es d ends (sym c.judge_removal.ensures ∙ c.in_err-d.was))).0
+
+pub returns-in_err-d-clause-spans_after : goal.returns-in_err-d-clause-spans_after
+returns-in_err-d-clause-spans_after c =
+    let k = content (held c.args.t.now c.args.spans.now) in
+    let ends : Ending = ending_of (ending_wires k c.args.n c.args.v.0) in
+    let es = remove_faults k c.args.n c.args.v.0 in
+    let d = pair_edge k c.args.v.0 ends in
+    let s = good (goal.at.returns-in_err-d-clause-spans_after c).In_ok-check in
+    (join_not _ es (remove_content k c.args.n c.args.v.0) s.ok d (not_joint es d ends (sym c.judge_removal.ensures ∙ c.in_err-d.was))).1
 
 pub write_removal-requires-clause-spans_value : goal.write_removal-requires-clause-spans_value
-write_removal-requires-clause-spans_value c = let P : Pattern = held c.args.t.now c.args.spans.now in
-    let ends : Ending = ending_of (ending_wires (content (P)) c.args.n c.args.v.0) in
-    let good : Fine (P) = held_fine c.args.t.now c.args.spans.now c.tables_known.ensures
-    (accepted_none (pattern_faults (P)) (sym c.check-checked.ensures ∙ c.in-Accepted.is)) in
-    let joined : (remove_faults (content (P)) c.args.n c.args.v.0 ≡ []) × ((c.in-Joins.d ≡ pair_edge (content (P)) c.args.v.0 (ends)) × (c.in-Joins.e ≡ ends)) = joins_whole (remove_faults (content (P)) c.args.n c.args.v.0) (pair_edge (content (P)) c.args.v.0 (ends)) (ends) (sym c.judge_removal-judged.ensures ∙ c.in-Joins.is) in
-    let few : get_or (count_table c.args.t.now) 1 0 < 1024 = let g = good in omega (arith, edges_counted (P) g.limits g.full, removal_room (content (P)) c.args.n c.args.v.0 (joined).0) in
-    (good).ok
+write_removal-requires-clause-spans_value c =
+    (good (goal.at.write_removal-requires-clause-spans_value c).In_ok-check).ok
 
 pub write_removal-requires-clause-t_bound : goal.write_removal-requires-clause-t_bound
-write_removal-requires-clause-t_bound c = let P : Pattern = held c.args.t.now c.args.spans.now in
-    let ends : Ending = ending_of (ending_wires (content (P)) c.args.n c.args.v.0) in
-    let good : Fine (P) = held_fine c.args.t.now c.args.spans.now c.tables_known.ensures
-    (accepted_none (pattern_faults (P)) (sym c.check-checked.ensures ∙ c.in-Accepted.is)) in
-    let joined : (remove_faults (content (P)) c.args.n c.args.v.0 ≡ []) × ((c.in-Joins.d ≡ pair_edge (content (P)) c.args.v.0 (ends)) × (c.in-Joins.e ≡ ends)) = joins_whole (remove_faults (content (P)) c.args.n c.args.v.0) (pair_edge (content (P)) c.args.v.0 (ends)) (ends) (sym c.judge_removal-judged.ensures ∙ c.in-Joins.is) in
-    let few : get_or (count_table c.args.t.now) 1 0 < 1024 = let g = good in omega (arith, edges_counted (P) g.limits g.full, removal_room (content (P)) c.args.n c.args.v.0 (joined).0) in
-    few
+write_removal-requires-clause-t_bound c =
+    let l = goal.at.write_removal-requires-clause-t_bound c in
+    let s = good l.In_ok-check in
+    omega (arith, edges_counted _ s.limits s.full, removal_room (content (held c.args.t.now c.args.spans.now)) c.args.n c.args.v.0 (joined l.In_ok-d).0)
 
-pub returns-in-Not-clause-value : goal.returns-in-Not-clause-value
-returns-in-Not-clause-value c = let P : Pattern = held c.args.t.now c.args.spans.now in
-    let ends : Ending = ending_of (ending_wires (content (P)) c.args.n c.args.v.0) in
-    let good : Fine (P) = held_fine c.args.t.now c.args.spans.now c.tables_known.ensures
-    (accepted_none (pattern_faults (P)) (sym c.check-checked.ensures ∙ c.in-Accepted.is)) in
-    let k = content (P) in
-    let es = remove_faults k c.args.n c.args.v.0 in
-    let d = pair_edge k c.args.v.0 (ends) in
-    let r = join_not (P) es (remove_content k c.args.n c.args.v.0) (good).ok d (not_joint es d (ends) (sym c.judge_removal-judged.ensures ∙ c.in-Not.is)) in
-    r.0
+pub returns-clause-value : goal.returns-clause-value
+returns-clause-value c =
+    let l = goal.at.returns-clause-value c in
+    let k = content (held c.args.t.now c.args.spans.now) in
+    let s = good l.In_ok-check in
+    ap Ok (next_is _ s c.write_removal.ensures.result_value) ∙ (join_done _ (remove_faults k c.args.n c.args.v.0) (remove_content k c.args.n c.args.v.0) s.ok (joined l.In_ok-d).0).0
 
-pub returns-in-Not-clause-spans_after : goal.returns-in-Not-clause-spans_after
-returns-in-Not-clause-spans_after c = let P : Pattern = held c.args.t.now c.args.spans.now in
-    let ends : Ending = ending_of (ending_wires (content (P)) c.args.n c.args.v.0) in
-    let good : Fine (P) = held_fine c.args.t.now c.args.spans.now c.tables_known.ensures
-    (accepted_none (pattern_faults (P)) (sym c.check-checked.ensures ∙ c.in-Accepted.is)) in
-    let k = content (P) in
-    let es = remove_faults k c.args.n c.args.v.0 in
-    let d = pair_edge k c.args.v.0 (ends) in
-    let r = join_not (P) es (remove_content k c.args.n c.args.v.0) (good).ok d (not_joint es d (ends) (sym c.judge_removal-judged.ensures ∙ c.in-Not.is)) in
-    r.1
+pub returns-clause-spans_after : goal.returns-clause-spans_after
+returns-clause-spans_after c =
+    let l = goal.at.returns-clause-spans_after c in
+    let k = content (held c.args.t.now c.args.spans.now) in
+    let e = joined l.In_ok-d in
+    c.write_removal.ensures.spans_after ∙ (λ i. pair_stored (held c.args.t.now c.args.spans.now) c.args.v.0 (e.1.1 i) (e.1.0 i)) ∙ (join_done _ (remove_faults k c.args.n c.args.v.0) (remove_content k c.args.n c.args.v.0) (good l.In_ok-check).ok e.0).1
 
-pub returns-in-Not-clause-spans_after_2 : goal.returns-in-Not-clause-spans_after_2
-returns-in-Not-clause-spans_after_2 c = let P : Pattern = held c.args.t.now c.args.spans.now in
-    let ends : Ending = ending_of (ending_wires (content (P)) c.args.n c.args.v.0) in
-    let good : Fine (P) = held_fine c.args.t.now c.args.spans.now c.tables_known.ensures
-    (accepted_none (pattern_faults (P)) (sym c.check-checked.ensures ∙ c.in-Accepted.is)) in
-    let k = content (P) in
-    let es = remove_faults k c.args.n c.args.v.0 in
-    let d = pair_edge k c.args.v.0 (ends) in
-    let r = join_not (P) es (remove_content k c.args.n c.args.v.0) (good).ok d (not_joint es d (ends) (sym c.judge_removal-judged.ensures ∙ c.in-Not.is)) in
-    λ fine. fine
-
-pub returns-in-Joins-clause-value : goal.returns-in-Joins-clause-value
-returns-in-Joins-clause-value c = let P : Pattern = held c.args.t.now c.args.spans.now in
-    let ends : Ending = ending_of (ending_wires (content (P)) c.args.n c.args.v.0) in
-    let good : Fine (P) = held_fine c.args.t.now c.args.spans.now c.tables_known.ensures
-    (accepted_none (pattern_faults (P)) (sym c.check-checked.ensures ∙ c.in-Accepted.is)) in
-    let joined : (remove_faults (content (P)) c.args.n c.args.v.0 ≡ []) × ((c.in-Joins.d ≡ pair_edge (content (P)) c.args.v.0 (ends)) × (c.in-Joins.e ≡ ends)) = joins_whole (remove_faults (content (P)) c.args.n c.args.v.0) (pair_edge (content (P)) c.args.v.0 (ends)) (ends) (sym c.judge_removal-judged.ensures ∙ c.in-Joins.is) in
-    let p = P in
-    let g = good in
-    let e = joined in
-    let r = join_done p (remove_faults (content p) c.args.n c.args.v.0) (remove_content (content p) c.args.n c.args.v.0) g.ok e.0 in
-    let stored = c.write_removal.ensures.spans_after ∙ (λ i. pair_stored p c.args.v.0 (e.1.1 i) (e.1.0 i)) ∙ r.1 in ap Joined (next_is p g c.write_removal.ensures.result_value) ∙ r.0
-
-pub returns-in-Joins-clause-spans_after : goal.returns-in-Joins-clause-spans_after
-returns-in-Joins-clause-spans_after c = let P : Pattern = held c.args.t.now c.args.spans.now in
-    let ends : Ending = ending_of (ending_wires (content (P)) c.args.n c.args.v.0) in
-    let good : Fine (P) = held_fine c.args.t.now c.args.spans.now c.tables_known.ensures
-    (accepted_none (pattern_faults (P)) (sym c.check-checked.ensures ∙ c.in-Accepted.is)) in
-    let joined : (remove_faults (content (P)) c.args.n c.args.v.0 ≡ []) × ((c.in-Joins.d ≡ pair_edge (content (P)) c.args.v.0 (ends)) × (c.in-Joins.e ≡ ends)) = joins_whole (remove_faults (content (P)) c.args.n c.args.v.0) (pair_edge (content (P)) c.args.v.0 (ends)) (ends) (sym c.judge_removal-judged.ensures ∙ c.in-Joins.is) in
-    let p = P in
-    let g = good in
-    let e = joined in
-    let r = join_done p (remove_faults (content p) c.args.n c.args.v.0) (remove_content (content p) c.args.n c.args.v.0) g.ok e.0 in
-    let stored = c.write_removal.ensures.spans_after ∙ (λ i. pair_stored p c.args.v.0 (e.1.1 i) (e.1.0 i)) ∙ r.1 in stored
-
-pub returns-in-Joins-clause-spans_after_2 : goal.returns-in-Joins-clause-spans_after_2
-returns-in-Joins-clause-spans_after_2 c = let P : Pattern = held c.args.t.now c.args.spans.now in
-    let ends : Ending = ending_of (ending_wires (content (P)) c.args.n c.args.v.0) in
-    let good : Fine (P) = held_fine c.args.t.now c.args.spans.now c.tables_known.ensures
-    (accepted_none (pattern_faults (P)) (sym c.check-checked.ensures ∙ c.in-Accepted.is)) in
-    let joined : (remove_faults (content (P)) c.args.n c.args.v.0 ≡ []) × ((c.in-Joins.d ≡ pair_edge (content (P)) c.args.v.0 (ends)) × (c.in-Joins.e ≡ ends)) = joins_whole (remove_faults (content (P)) c.args.n c.args.v.0) (pair_edge (content (P)) c.args.v.0 (ends)) (ends) (sym c.judge_removal-judged.ensures ∙ c.in-Joins.is) in
-    let p = P in
-    let g = good in
-    let e = joined in
-    let r = join_done p (remove_faults (content p) c.args.n c.args.v.0) (remove_content (content p) c.args.n c.args.v.0) g.ok e.0 in
-    let stored = c.write_removal.ensures.spans_after ∙ (λ i. pair_stored p c.args.v.0 (e.1.1 i) (e.1.0 i)) ∙ r.1 in λ fine. ap pattern_faults stored ∙ remove_pattern_accepted p g.full c.args.n c.args.v.0 fine
+pub returns-clause-spans_after_2 : goal.returns-clause-spans_after_2
+returns-clause-spans_after_2 c =
+    let s = good (goal.at.returns-clause-spans_after_2 c).In_ok-check in
+    λ fine. ap pattern_faults (returns-clause-spans_after c) ∙ remove_pattern_accepted _ s.full c.args.n c.args.v.0 fine

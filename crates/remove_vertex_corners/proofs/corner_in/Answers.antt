@@ -1,7 +1,6 @@
 use Prim.Native.Nat.{◌+◌, ◌-◌}
 use mathlib.Core.Path.{ap}
 use native.Mathlib.Omega.{arith}
-use lib.Ieee.{fits}
 use lib.ListN.{length}
 use Rattle.lists.proofs.Split.{walk_fits, walk_part}
 use Rattle.remove_vertex_corners.proofs.Places.{corner_whole, part_long}

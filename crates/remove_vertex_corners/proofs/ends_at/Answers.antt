@@ -1,9 +1,7 @@
-use mathlib.Core.Path.{◌∙◌, sym}
-use Rattle.remove_vertex_corners.proofs.Flagging.{ends_none, ends_some}
+use mathlib.Core.Path.{◌∙◌, ap, sym}
+use Rattle.std.specs.Prelude.{is_some}
+use Rattle.remove_vertex_corners.proofs.Flagging.{ends_found}
 use Rattle.remove_vertex_corners.proofs.ends_at.Goals as goal
 
-pub returns-in-At : goal.returns-in-At
-returns-in-At c = ends_some _ _ _ _ (sym c.find_end-found.ensures ∙ c.in-At.is)
-
-pub returns-in-Nothing : goal.returns-in-Nothing
-returns-in-Nothing c = ends_none _ _ _ _ (sym c.find_end-found.ensures ∙ c.in-Nothing.is)
+pub returns : goal.returns
+returns c = c.is_some.ensures ∙ ap is_some c.find_end.ensures ∙ sym (ends_found _ _ _ c.args.uses.now 0)

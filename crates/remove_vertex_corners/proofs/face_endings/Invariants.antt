@@ -1,10 +1,5 @@
-use Prim.Native.Nat.{◌-◌}
-use lib.ListN.{length}
 use Rattle.remove_vertex_corners.proofs.Endings.{Faces}
 use Rattle.remove_vertex_corners.proofs.face_endings.Given as goal
 
 abbrev pub invariant-loop-f : goal.invariant-loop-f
 invariant-loop-f l = Faces l.flags l.counts l.out l.f l.at
-
-abbrev pub decreases-loop-f : goal.decreases-loop-f
-decreases-loop-f l = length l.counts - l.f

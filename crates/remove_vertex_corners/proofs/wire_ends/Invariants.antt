@@ -1,11 +1,6 @@
-use Prim.Native.Nat.{◌-◌}
-use lib.ListN.{length}
 use Rattle.remove_vertex_corners.proofs.Flagging.{Flagging}
 use Rattle.remove_vertex_corners.specs.Endings.{ends_at}
 use Rattle.remove_vertex_corners.proofs.wire_ends.Given as goal
 
 abbrev pub invariant-loop-w : goal.invariant-loop-w
 invariant-loop-w l = Flagging (ends_at l.fronts l.backs l.v.0) l.wires l.uses l.out l.w l.at
-
-abbrev pub decreases-loop-w : goal.decreases-loop-w
-decreases-loop-w l = length l.wires - l.w

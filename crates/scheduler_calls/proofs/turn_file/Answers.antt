@@ -5,16 +5,17 @@ use native.Mathlib.Omega.{arith}
 use Prim.Native.Nat.{ℕ}
 use lib.ListN.{drop, length}
 use borrow.Author.Tests.{le-leb}
-use Rattle.scheduler_turn.specs.declared.TurnAnswer.{TurnAnswer}
-use Rattle.scheduler_turn.specs.declared.TurnAnswer.TheVariants.{Nobody, Served}
+use Rattle.std.specs.Prelude.{Option, None, Some}
+use Rattle.answers.specs.declared.Answer.{Answer}
+use Rattle.scheduler.specs.declared.Job.{Job}
 use Rattle.scheduler_calls.specs.SchedulerCalls.{TurnKept, turn_values}
 use Rattle.scheduler_calls.specs.declared.SchedulerAnswer.{SchedulerAnswer}
 use Rattle.scheduler_calls.proofs.turn_file.Goals as goal
 
 -- a state of 0 says that nobody was served
-kept : (a : TurnAnswer) (r : SchedulerAnswer) (before after : List ℕ) → r ≡ turn_values a → TurnKept a before after → r.state ≡ 0 → after ≡ before
-kept Nobody r before after e k z = k
-kept (Served d j x) r before after e k z =
+kept : (a : Option (ℕ × Job × Answer)) (r : SchedulerAnswer) (before after : List ℕ) → r ≡ turn_values a → TurnKept a before after → r.state ≡ 0 → after ≡ before
+kept None r before after e k z = k
+kept (Some (d, j, x)) r before after e k z =
     let one : 1 ≡ 0 = sym (ap (λ (s : SchedulerAnswer). s.state) e) ∙ z in absurd (omega (arith, one))
 
 pub returns-clause-out_after : goal.returns-clause-out_after

@@ -12,21 +12,3 @@ loop-k-preserved c = from_put (omega arith) c.loop-k.invariant c.put_slot-next.e
 
 pub returns : goal.returns
 returns c = from_all c.loop-k.invariant (omega arith)
-
-pub overflow_sub-k : goal.overflow_sub-k
-overflow_sub-k c = omega arith
-
-pub offset_bounds-slots-k : goal.offset_bounds-slots-k
-offset_bounds-slots-k c = omega arith
-
-pub bounds-slots-k : goal.bounds-slots-k
-bounds-slots-k c = omega arith
-
-pub overflow_mul-k : goal.overflow_mul-k
-overflow_mul-k c = omega arith
-
-pub overflow_add-k : goal.overflow_add-k
-overflow_add-k c = omega arith
-
-pub loop-k-smaller : goal.loop-k-smaller
-loop-k-smaller c = omega arith

@@ -3,6 +3,3 @@ use Rattle.scheduler_state.proofs.put_slots.Given as goal
 
 abbrev pub invariant-loop-k : goal.invariant-loop-k
 invariant-loop-k l = From l.k l.numbers l.slots
-
-abbrev pub decreases-loop-k : goal.decreases-loop-k
-decreases-loop-k l = l.k

@@ -1,4 +1,3 @@
-use Prim.Native.Nat.{◌-◌}
 use mathlib.Core.Path.{refl}
 use native.Mathlib.Omega.{arith}
 use Rattle.sequence.proofs.Loops.{following_end, following_less, following_long, following_next, following_out, following_room, following_start}

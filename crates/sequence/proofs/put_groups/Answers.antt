@@ -1,5 +1,3 @@
-use Prim.Native.Nat.{◌-◌}
-use mathlib.Core.Logic.{⊎_elim}
 use mathlib.Core.Path.{refl}
 use native.Mathlib.Omega.{arith}
 use Rattle.sequence.proofs.Loops.{placing_all, placing_count, placing_few, placing_first, placing_key, placing_lens, placing_other, placing_out, placing_small, placing_start, placing_writable}

@@ -1,16 +1,15 @@
-use Prim.Native.Nat.{◌-◌}
 use native.Mathlib.Omega.{arith}
 use Rattle.shell_wires.proofs.Laws.{flagging_all, flagging_next, flagging_start}
 use Rattle.shell_wires.proofs.face_flags.Goals as goal
 
-pub loop-k-init : goal.loop-k-init
-loop-k-init c = flagging_start _
+pub loop-l-init : goal.loop-l-init
+loop-l-init c = flagging_start _
 
 pub bounds-out-index : goal.bounds-out-index
-bounds-out-index c = omega (arith, c.index.ensures.0, c.requires c.loop-k.k (omega arith))
+bounds-out-index c = omega (arith, c.index.ensures.0, c.requires c.loop-l.l-index (omega arith))
 
-pub loop-k-preserved : goal.loop-k-preserved
-loop-k-preserved c = flagging_next _ _ _ c.loop-k.invariant _ (omega arith) c.index.ensures.0 (omega (arith, c.index.ensures.0, c.requires c.loop-k.k (omega arith)))
+pub loop-l-preserved : goal.loop-l-preserved
+loop-l-preserved c = flagging_next _ _ _ c.loop-l.invariant _ (omega arith) c.index.ensures.0 (omega (arith, c.index.ensures.0, c.requires c.loop-l.l-index (omega arith)))
 
 pub returns : goal.returns
-returns c = flagging_all _ _ _ c.loop-k.invariant (omega arith)
+returns c = flagging_all _ _ _ c.loop-l.invariant (omega arith)

@@ -1,19 +1,10 @@
-use Prim.Native.Nat.{◌-◌}
-use native.Mathlib.Omega.{arith}
-use Rattle.shell_wires.proofs.Laws.{putting_all, putting_long, putting_next, putting_start}
+use Rattle.std.proofs.Common.{◌≡◌, ◌+◌, ◌-◌, arith, length, take, drop, length-take, length-drop, ap, ◌∙◌, replicate}
+use Rattle.shell_wires.proofs.Laws.{put_all}
 use Rattle.shell_wires.proofs.put_flags.Goals as goal
 
-pub loop-k-init : goal.loop-k-init
-loop-k-init c = putting_start _ _ _ _ c.requires
-
-pub bounds-out-at : goal.bounds-out-at
-bounds-out-at c = omega (arith, putting_long _ _ _ _ _ _ c.loop-k.invariant, c.loop-k.invariant.room)
-
-pub loop-k-preserved : goal.loop-k-preserved
-loop-k-preserved c = putting_next _ _ _ _ _ _ c.loop-k.invariant (omega arith)
-
-pub shape_of-out : goal.shape_of-out
-shape_of-out c = putting_long _ _ _ _ _ _ c.loop-k.invariant
-
 pub returns : goal.returns
-returns c = putting_all _ _ _ _ _ _ c.loop-k.invariant (omega arith)
+returns c =
+    let args = c.args in
+    let m = args.at + args.n - args.at in
+    let long : length (take m (drop args.at args.out.now)) ≡ args.n = omega (arith, length-take m (drop args.at args.out.now), length-drop args.at args.out.now) in
+    put_all _ _ _ _ _ _ c.requires (omega arith) (c.fill.ensures.after (λ y e. e) ∙ ap (λ k. replicate k args.flag) long)

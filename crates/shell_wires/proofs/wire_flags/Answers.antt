@@ -1,4 +1,3 @@
-use Prim.Native.Nat.{◌-◌}
 use mathlib.Core.Path.{sym}
 use native.Mathlib.Omega.{arith}
 use Rattle.shell_wires.proofs.Laws.{spreading_all, spreading_long, spreading_next, spreading_room, spreading_start}

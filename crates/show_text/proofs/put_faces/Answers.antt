@@ -72,10 +72,6 @@ pub overflow_add-first-in-loop-k : goal.overflow_add-first-in-loop-k
 overflow_add-first-in-loop-k c =
     omega (arith, (fits_uses (goal.at.overflow_add-first-in-loop-k c).After-sum_of-m))
 
-pub overflow_add-k : goal.overflow_add-k
-overflow_add-k c =
-    omega (arith, c.requires.0.few)
-
 pub loop-k-preserved : goal.loop-k-preserved
 loop-k-preserved c =
     face_next c.tables_known.ensures c.requires.0 c.loop-k.invariant c.uses_in-uses.ensures c.wires_in-wires.ensures (omega arith) (read (goal.at.loop-k-preserved c).After-index) c.sum_of-m.ensures (ap (λ (f : Face). f.surface) c.face_in-face.ensures) _ _ (c.put_face-end.ensures.0, c.put_face-end.ensures.1) c.put_face-end.ensures.2

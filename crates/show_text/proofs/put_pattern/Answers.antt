@@ -1,6 +1,6 @@
 -- The line that says that there are none, or the lines of the points, the edges, the faces, the shells, one after the other.
 use native.Mathlib.Omega.{arith}
-use Prim.Native.Nat.{◌+◌, ◌-◌, ◌≤◌}
+use Prim.Native.Nat.{◌≤◌}
 use lib.ListN.{get_or, length}
 use mathlib.Core.Path.{◌∙◌, ◌≡◌, ap}
 use mathlib.Core.List.{◌++◌}

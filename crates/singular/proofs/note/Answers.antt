@@ -1,5 +1,4 @@
 -- The first root at the point, the same one, or another.
-use mathlib.Core.Bool.{true≢false}
 use mathlib.Core.Path.{refl}
 use Rattle.singular.proofs.Noting.{noted_first, noted_other, noted_same}
 use Rattle.singular.proofs.note.Goals as goal

@@ -1,4 +1,3 @@
-use Prim.Native.Nat.{◌-◌}
 use native.Mathlib.Omega.{arith}
 use Rattle.singular.proofs.Lists.{listed_all, listed_long, listed_next, listed_start}
 use Rattle.singular.proofs.put_points.Goals as goal

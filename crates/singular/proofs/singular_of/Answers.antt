@@ -1,6 +1,5 @@
 -- The points where several roots are met are the singular ones.
 use mathlib.Core.Path.{refl}
-use native.Mathlib.Omega.{arith}
 use Rattle.singular.proofs.Singular.{noteable, singular_marked, singular_none}
 use Rattle.singular.proofs.singular_of.Goals as goal
 

@@ -1,4 +1,3 @@
-use Prim.Native.Nat.{◌-◌}
 use Rattle.store.proofs.View.{counts_are}
 use Rattle.store.proofs.counts_in.Goals as goal
 

@@ -1,4 +1,3 @@
-use Prim.Native.Nat.{◌-◌}
 use lib.ListN.{take}
 use Rattle.edge.proofs.Laws.{no_edge}
 use Rattle.errors.proofs.Laws.{Passed}
@@ -9,6 +8,3 @@ use Rattle.store_check.proofs.check_edges.Given as goal
 
 abbrev pub invariant-loop-k : goal.invariant-loop-k
 invariant-loop-k l = Passed (edge_faults l.points) no_edge (take l.n (tabulate 1024 (edge_in l.t l.spans))) 0 l.k
-
-abbrev pub decreases-loop-k : goal.decreases-loop-k
-decreases-loop-k l = l.n - l.k

@@ -1,5 +1,5 @@
 use native.Mathlib.Omega.{arith}
-use Prim.Native.Nat.{ℕ, ◌≤◌, ◌<◌, ◌+◌, ◌-◌, ◌*◌}
+use Prim.Native.Nat.{ℕ, ◌≤◌, ◌<◌, ◌+◌, ◌*◌}
 use lib.ListN.{length, get_or}
 use mathlib.Core.Path.{◌∙◌}
 use Rattle.pattern_table.proofs.Laws.{body_inside, counts_of_content, records_are, table_counts, table_long}
@@ -9,6 +9,13 @@ use Rattle.store.specs.Store.{held}
 use Rattle.words.specs.Words.{le16, le32}
 use Rattle.store_read.proofs.Laws.{filled_view, listings_read, shells_read, uses_read, wires_read}
 use Rattle.store_read.proofs.read_content.Goals as goal
+use Rattle.store_read.proofs.read_content.Goals.{After-starts_of-starts}
+
+-- body b stands within the file, and fits its table
+room : (c : After-starts_of-starts) → (b : ℕ) → b < 7
+    → (get_or c.starts_of-starts.result b 0 + get_or layout.sizes b 0 * get_or c.counts_of-counts.result b 0 ≤ length c.args.s.now)
+    × (get_or c.counts_of-counts.result b 0 ≤ get_or layout.limits b 0)
+room c b h = body_inside c.args.s.now c.requires c.counts_of-counts.result c.starts_of-starts.result c.counts_of-counts.ensures c.starts_of-starts.ensures b h
 
 pub counts_of-counts-requires : goal.counts_of-counts-requires
 counts_of-counts-requires c = table_long c.args.s.now c.requires
@@ -20,51 +27,28 @@ pub read_counts-requires : goal.read_counts-requires
 read_counts-requires c = rw c.counts_of-counts.ensures (table_counts c.args.s.now c.requires)
 
 pub read_labels-requires : goal.read_labels-requires
-read_labels-requires c = let room : (b : ℕ) → b < 7
-    → (get_or c.starts_of-starts.result b 0 + get_or layout.sizes b 0 * get_or c.counts_of-counts.result b 0 ≤ length c.args.s.now)
-    × (get_or c.counts_of-counts.result b 0 ≤ get_or layout.limits b 0) = λ b h. body_inside c.args.s.now c.requires c.counts_of-counts.result c.starts_of-starts.result c.counts_of-counts.ensures c.starts_of-starts.ensures b h in
-    room 0 (omega arith)
+read_labels-requires c = room (goal.at.read_labels-requires c).After-starts_of-starts 0 (omega arith)
 
 pub read_edges-requires : goal.read_edges-requires
-read_edges-requires c = let room : (b : ℕ) → b < 7
-    → (get_or c.starts_of-starts.result b 0 + get_or layout.sizes b 0 * get_or c.counts_of-counts.result b 0 ≤ length c.args.s.now)
-    × (get_or c.counts_of-counts.result b 0 ≤ get_or layout.limits b 0) = λ b h. body_inside c.args.s.now c.requires c.counts_of-counts.result c.starts_of-starts.result c.counts_of-counts.ensures c.starts_of-starts.ensures b h in
-    room 1 (omega arith)
+read_edges-requires c = room (goal.at.read_edges-requires c).After-starts_of-starts 1 (omega arith)
 
 pub read_numbers-requires : goal.read_numbers-requires
-read_numbers-requires c = let room : (b : ℕ) → b < 7
-    → (get_or c.starts_of-starts.result b 0 + get_or layout.sizes b 0 * get_or c.counts_of-counts.result b 0 ≤ length c.args.s.now)
-    × (get_or c.counts_of-counts.result b 0 ≤ get_or layout.limits b 0) = λ b h. body_inside c.args.s.now c.requires c.counts_of-counts.result c.starts_of-starts.result c.counts_of-counts.ensures c.starts_of-starts.ensures b h in
-    let r = room 2 (omega arith) in (r.0, omega (arith, r.1))
+read_numbers-requires c = let r = room (goal.at.read_numbers-requires c).After-starts_of-starts 2 (omega arith) in (r.0, omega (arith, r.1))
 
 pub read_numbers-requires-2 : goal.read_numbers-requires-2
-read_numbers-requires-2 c = let room : (b : ℕ) → b < 7
-    → (get_or c.starts_of-starts.result b 0 + get_or layout.sizes b 0 * get_or c.counts_of-counts.result b 0 ≤ length c.args.s.now)
-    × (get_or c.counts_of-counts.result b 0 ≤ get_or layout.limits b 0) = λ b h. body_inside c.args.s.now c.requires c.counts_of-counts.result c.starts_of-starts.result c.counts_of-counts.ensures c.starts_of-starts.ensures b h in
-    let r = room 3 (omega arith) in (r.0, omega (arith, r.1))
+read_numbers-requires-2 c = let r = room (goal.at.read_numbers-requires-2 c).After-starts_of-starts 3 (omega arith) in (r.0, omega (arith, r.1))
 
 pub read_faces-requires : goal.read_faces-requires
-read_faces-requires c = let room : (b : ℕ) → b < 7
-    → (get_or c.starts_of-starts.result b 0 + get_or layout.sizes b 0 * get_or c.counts_of-counts.result b 0 ≤ length c.args.s.now)
-    × (get_or c.counts_of-counts.result b 0 ≤ get_or layout.limits b 0) = λ b h. body_inside c.args.s.now c.requires c.counts_of-counts.result c.starts_of-starts.result c.counts_of-counts.ensures c.starts_of-starts.ensures b h in
-    room 4 (omega arith)
+read_faces-requires c = room (goal.at.read_faces-requires c).After-starts_of-starts 4 (omega arith)
 
 pub read_numbers-requires-3 : goal.read_numbers-requires-3
-read_numbers-requires-3 c = let room : (b : ℕ) → b < 7
-    → (get_or c.starts_of-starts.result b 0 + get_or layout.sizes b 0 * get_or c.counts_of-counts.result b 0 ≤ length c.args.s.now)
-    × (get_or c.counts_of-counts.result b 0 ≤ get_or layout.limits b 0) = λ b h. body_inside c.args.s.now c.requires c.counts_of-counts.result c.starts_of-starts.result c.counts_of-counts.ensures c.starts_of-starts.ensures b h in
-    let r = room 5 (omega arith) in (r.0, omega (arith, r.1))
+read_numbers-requires-3 c = let r = room (goal.at.read_numbers-requires-3 c).After-starts_of-starts 5 (omega arith) in (r.0, omega (arith, r.1))
 
 pub read_numbers-requires-4 : goal.read_numbers-requires-4
-read_numbers-requires-4 c = let room : (b : ℕ) → b < 7
-    → (get_or c.starts_of-starts.result b 0 + get_or layout.sizes b 0 * get_or c.counts_of-counts.result b 0 ≤ length c.args.s.now)
-    × (get_or c.counts_of-counts.result b 0 ≤ get_or layout.limits b 0) = λ b h. body_inside c.args.s.now c.requires c.counts_of-counts.result c.starts_of-starts.result c.counts_of-counts.ensures c.starts_of-starts.ensures b h in
-    let r = room 6 (omega arith) in (r.0, omega (arith, r.1))
+read_numbers-requires-4 c = let r = room (goal.at.read_numbers-requires-4 c).After-starts_of-starts 6 (omega arith) in (r.0, omega (arith, r.1))
 
 pub returns : goal.returns
-returns c = let room : (b : ℕ) → b < 7
-    → (get_or c.starts_of-starts.result b 0 + get_or layout.sizes b 0 * get_or c.counts_of-counts.result b 0 ≤ length c.args.s.now)
-    × (get_or c.counts_of-counts.result b 0 ≤ get_or layout.limits b 0) = λ b h. body_inside c.args.s.now c.requires c.counts_of-counts.result c.starts_of-starts.result c.counts_of-counts.ensures c.starts_of-starts.ensures b h in
+returns c = let room = room (goal.at.returns c).After-starts_of-starts in
     let S = c.args.s.now in
     let ok = c.requires in
     let counts = c.counts_of-counts.result in

@@ -1,4 +1,3 @@
-use Prim.Native.Nat.{◌≤◌, ◌-◌}
 use lib.ListN.{take}
 use mathlib.Core.Path.{◌≡◌}
 use mathlib.Core.List.{List}
@@ -9,7 +8,4 @@ use Rattle.store.specs.Columns.{with_counts}
 use Rattle.store_read.proofs.read_counts.Given as goal
 
 abbrev pub invariant-loop-b : goal.invariant-loop-b
-invariant-loop-b l = (l.b ≤ 7) × ((spans : List Float) → held l.t spans ≡ with_counts (held l.initial.t spans) (sets (held l.initial.t spans).counts 0 (take l.b l.counts)))
-
-abbrev pub decreases-loop-b : goal.decreases-loop-b
-decreases-loop-b l = 7 - l.b
+invariant-loop-b l = (spans : List Float) → held l.t spans ≡ with_counts (held l.initial.t spans) (sets (held l.initial.t spans).counts 0 (take l.b l.count-items))

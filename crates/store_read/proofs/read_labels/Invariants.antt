@@ -1,4 +1,4 @@
-use Prim.Native.Nat.{ℕ, ◌≤◌, ◌+◌, ◌-◌, ◌*◌}
+use Prim.Native.Nat.{ℕ, ◌+◌, ◌*◌}
 use mathlib.Core.Path.{◌≡◌}
 use mathlib.Core.List.{List}
 use lib.Ieee.{Float}
@@ -10,7 +10,4 @@ use Rattle.store.specs.Columns.{with_points}
 use Rattle.store_read.proofs.read_labels.Given as goal
 
 abbrev pub invariant-loop-k : goal.invariant-loop-k
-invariant-loop-k l = (l.k ≤ l.n) × ((spans : List Float) → held l.t spans ≡ with_points (held l.initial.t spans) (sets (held l.initial.t spans).points 0 (tabulate l.k (λ (j : ℕ). le32 l.s (l.at + 4 * j)))))
-
-abbrev pub decreases-loop-k : goal.decreases-loop-k
-decreases-loop-k l = l.n - l.k
+invariant-loop-k l = (spans : List Float) → held l.t spans ≡ with_points (held l.initial.t spans) (sets (held l.initial.t spans).points 0 (tabulate l.k (λ (j : ℕ). le32 l.s (l.at + 4 * j))))

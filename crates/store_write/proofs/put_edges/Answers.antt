@@ -1,11 +1,10 @@
-use Prim.Native.Nat.{◌-◌}
 use mathlib.Core.Path.{refl}
 use native.Mathlib.Omega.{arith}
 use Rattle.edge.proofs.Laws.{no_edge}
 use Rattle.pattern_file.specs.File.{edge_bytes}
 use Rattle.lists.proofs.Flat.{get_d_tabulate}
 use Rattle.lists.proofs.Laws.{length_tabulate}
-use Rattle.lists.proofs.Sets.{laid_all, laid_long, laid_next, laid_room, laid_start}
+use Rattle.lists.proofs.Sets.{laid_all, laid_next, laid_room, laid_start}
 use Rattle.store.specs.Store.{edge_in}
 use Rattle.store_write.proofs.put_edges.Goals as goal
 
@@ -21,9 +20,6 @@ put_edge-requires c = (
 pub loop-k-preserved : goal.loop-k-preserved
 loop-k-preserved c = laid_next edge_bytes 20 _ _ _ _ _ _ c.loop-k.invariant _ no_edge c.loop-k-test.true
     (rw (get_d_tabulate 1024 (edge_in c.args.t.now c.args.spans.now) c.loop-k.k no_edge (omega arith)) (rw c.edge_in.ensures at c.put_edge.ensures))
-
-pub shape_of-out : goal.shape_of-out
-shape_of-out c = laid_long edge_bytes 20 _ _ _ _ _ _ c.loop-k.invariant
 
 pub returns : goal.returns
 returns c = laid_all edge_bytes 20 _ _ _ _ _ _ c.loop-k.invariant c.loop-k-test.false

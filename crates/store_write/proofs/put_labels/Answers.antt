@@ -1,10 +1,9 @@
-use Prim.Native.Nat.{◌-◌}
 use mathlib.Core.Path.{refl}
 use native.Mathlib.Omega.{arith}
 use Rattle.words.specs.Words.{bytes32}
 use Rattle.lists.proofs.Flat.{get_d_tabulate}
 use Rattle.lists.proofs.Laws.{length_tabulate}
-use Rattle.lists.proofs.Sets.{laid_all, laid_long, laid_next, laid_room, laid_start}
+use Rattle.lists.proofs.Sets.{laid_all, laid_next, laid_room, laid_start}
 use Rattle.store.specs.Store.{label_in}
 use Rattle.store_write.proofs.put_labels.Goals as goal
 
@@ -17,9 +16,6 @@ put_u32-requires c = laid_room bytes32 4 _ _ _ _ _ _ c.loop-k.invariant c.requir
 pub loop-k-preserved : goal.loop-k-preserved
 loop-k-preserved c = laid_next bytes32 4 _ _ _ _ _ _ c.loop-k.invariant _ 0 c.loop-k-test.true
     (rw (get_d_tabulate 2048 (label_in c.args.t.now) c.loop-k.k 0 (omega arith)) (rw c.label_in.ensures at c.put_u32.ensures))
-
-pub shape_of-out : goal.shape_of-out
-shape_of-out c = laid_long bytes32 4 _ _ _ _ _ _ c.loop-k.invariant
 
 pub returns : goal.returns
 returns c = laid_all bytes32 4 _ _ _ _ _ _ c.loop-k.invariant c.loop-k-test.false

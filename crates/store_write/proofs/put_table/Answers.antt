@@ -1,7 +1,4 @@
-use Prim.Native.Nat.{◌-◌}
 use native.Mathlib.Omega.{arith}
-use Rattle.lists.proofs.Sets.{laid_long}
-use Rattle.pattern_file.proofs.Records.{entry_bytes}
 use Rattle.store_write.proofs.Laws.{entries_all, entries_next, entries_room, entries_start, entry_fits}
 use borrow.Author.Rules.{rules}
 use Rattle.store_write.proofs.put_table.Goals as goal
@@ -15,9 +12,6 @@ put_entry-requires c = let fit = entry_fits c.args.counts c.args.starts c.loop-b
 
 pub loop-b-preserved : goal.loop-b-preserved
 loop-b-preserved c = (c.loop-b.invariant.0, entries_next _ _ _ _ c.loop-b.invariant.1 _ _ c.requires.2 (omega arith) c.put_entry.ensures)
-
-pub shape_of-out : goal.shape_of-out
-shape_of-out c = laid_long entry_bytes 8 _ _ _ _ _ _ c.loop-b.invariant.1
 
 pub returns : goal.returns
 returns c = entries_all _ _ _ _ c.loop-b.invariant.1 (omega arith)

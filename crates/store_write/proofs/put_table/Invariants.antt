@@ -1,5 +1,4 @@
 -- After b turns the first b entries are written.
-use Prim.Native.Nat.{◌-◌}
 use mathlib.Core.Path.{◌≡◌}
 use lib.ListN.{length}
 use Rattle.lists.proofs.Sets.{Laid}
@@ -9,6 +8,3 @@ use Rattle.store_write.proofs.put_table.Given as goal
 
 abbrev pub invariant-loop-b : goal.invariant-loop-b
 invariant-loop-b l = (length l.counts ≡ 7) × Laid entry_bytes 8 l.initial.out 0 (entries l.counts) 7 l.out l.b
-
-abbrev pub decreases-loop-b : goal.decreases-loop-b
-decreases-loop-b l = 7 - l.b

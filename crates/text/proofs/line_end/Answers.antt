@@ -1,17 +1,25 @@
-use borrow.Author.Tests.{eq-eqb, ne_eqb}
-use Rattle.text.proofs.Words.{scan_all, scan_next, scan_start, scan_stop}
-use Rattle.text.specs.Text.{is_feed}
+use mathlib.Core.Path.{◌∙◌, ◌≡◌}
+use native.Mathlib.Omega.{arith}
+use lib.ListN.{drop, length-drop}
 use borrow.Author.Rules.{rules}
+use borrow.Author.Tests.{tests}
+use Rattle.std.proofs.lemmas.Iterator.Search.{position_from_yields_List}
+use Rattle.std.proofs.lemmas.Iterator.{YieldsList-from_slice}
+use Rattle.std.specs.List.{position}
+use Rattle.text.proofs.Words.{found_at, found_none, rest_is}
+use Rattle.text.specs.Text.{is_feed}
 use Rattle.text.proofs.line_end.Goals as goal
+use Rattle.text.proofs.line_end.Goals.{After-position}
 
-pub loop-i-init : goal.loop-i-init
-loop-i-init c = scan_start is_feed _ _ (search rules)
+-- where the search ends
+place : (c : After-position) → c.position.result ≡ position is_feed (drop c.args.from c.args.text.now)
+place c =
+    position_from_yields_List is_feed _ _ _ c.position.ensures.ran (YieldsList-from_slice _ (c.iter.ensures.rest ∙ rest_is c.args.from c.args.text.now)) (λ x b q k. search (rules, tests))
 
-pub loop-i-preserved : goal.loop-i-preserved
-loop-i-preserved c = scan_next is_feed c.loop-i.invariant c.loop-i-test.true (ne_eqb _ _ c.if-text-i-eq10.false)
+pub returns-in-Some : goal.returns-in-Some
+returns-in-Some c =
+    omega (arith, found_at is_feed (drop c.args.from c.args.text.now) (place (goal.at.returns-in-Some c).After-position) c.in-Some.is, length-drop c.args.from c.args.text.now)
 
-pub returns-after-loop-i : goal.returns-after-loop-i
-returns-after-loop-i c = scan_all is_feed c.loop-i.invariant c.loop-i-test.false
-
-pub returns-then-text-i-eq10 : goal.returns-then-text-i-eq10
-returns-then-text-i-eq10 c = scan_stop is_feed c.loop-i.invariant c.loop-i-test.true (eq-eqb _ _ c.if-text-i-eq10.true)
+pub returns-in-None : goal.returns-in-None
+returns-in-None c =
+    omega (arith, found_none is_feed (drop c.args.from c.args.text.now) (place (goal.at.returns-in-None c).After-position) c.in-None.is, length-drop c.args.from c.args.text.now)

@@ -1,4 +1,6 @@
-use mathlib.Core.Path.{◌∙◌, sym}
+use native.Mathlib.Omega.{arith}
+use lib.ListN.{length}
+use mathlib.Core.Path.{◌∙◌, ◌≡◌, sym}
 use Rattle.text.proofs.Words.{scan_all, scan_next, scan_start, scan_stop}
 use Rattle.text.specs.Text.{is_blank}
 use borrow.Author.Rules.{rules}
@@ -10,8 +12,8 @@ loop-i-init c = scan_start is_blank _ _ (search rules)
 pub loop-i-preserved : goal.loop-i-preserved
 loop-i-preserved c = scan_next is_blank c.loop-i.invariant c.loop-i-test.true (sym c.is_blank.ensures ∙ c.if-is_blank.false)
 
-pub returns-after-loop-i : goal.returns-after-loop-i
-returns-after-loop-i c = scan_all is_blank c.loop-i.invariant c.loop-i-test.false
+pub returns : goal.returns
+returns c = let e : c.loop-i.i ≡ length c.args.line.now = omega arith in rw e at (scan_all is_blank c.loop-i.invariant c.loop-i-test.false)
 
 pub returns-then-is_blank : goal.returns-then-is_blank
 returns-then-is_blank c = scan_stop is_blank c.loop-i.invariant c.loop-i-test.true (sym c.is_blank.ensures ∙ c.if-is_blank.true)

@@ -1,5 +1,7 @@
+use native.Mathlib.Omega.{arith}
+use lib.ListN.{length}
 use mathlib.Core.Bool.{not}
-use mathlib.Core.Path.{◌∙◌, ap, sym}
+use mathlib.Core.Path.{◌∙◌, ◌≡◌, ap, sym}
 use Rattle.text.proofs.Words.{scan_all, scan_next, scan_start, scan_stop}
 use Rattle.text.specs.Text.{is_ink}
 use borrow.Author.Rules.{rules}
@@ -11,8 +13,8 @@ loop-i-init c = scan_start is_ink _ _ (search rules)
 pub loop-i-preserved : goal.loop-i-preserved
 loop-i-preserved c = scan_next is_ink c.loop-i.invariant c.loop-i-test.true (ap not ((sym c.is_blank.ensures) ∙ c.if-not-is_blank.false))
 
-pub returns-after-loop-i : goal.returns-after-loop-i
-returns-after-loop-i c = scan_all is_ink c.loop-i.invariant c.loop-i-test.false
+pub returns : goal.returns
+returns c = let e : c.loop-i.i ≡ length c.args.line.now = omega arith in rw e at (scan_all is_ink c.loop-i.invariant c.loop-i-test.false)
 
 pub returns-then-not-is_blank : goal.returns-then-not-is_blank
 returns-then-not-is_blank c = scan_stop is_ink c.loop-i.invariant c.loop-i-test.true (ap not ((sym c.is_blank.ensures) ∙ c.if-not-is_blank.true))

@@ -11,9 +11,9 @@ returns-then-n-gt11 c st f at = absurd (omega (arith, within_table f at, c.if-n-
 pub slice_bounds-corner_of-end : goal.slice_bounds-corner_of-end
 slice_bounds-corner_of-end c = let long : length c.args.self.word ≡ 11 = search rules in omega arith
 
-pub returns-in-Not : goal.returns-in-Not
-returns-in-Not c st f at = rw c.fault_number.ensures (end_not f at (sym c.corner_of-named.ensures ∙ c.in-Not.is))
+pub returns-in-Err : goal.returns-in-Err
+returns-in-Err c st f at = rw c.fault_number.ensures (end_not f at (sym c.corner_of-named.ensures ∙ c.in-Err.is))
 
-pub returns-in-At : goal.returns-in-At
-returns-in-At c st f at = let e = sym c.corner_of-named.ensures ∙ c.in-At.is in
+pub returns-in-Ok : goal.returns-in-Ok
+returns-in-Ok c st f at = let e = sym c.corner_of-named.ensures ∙ c.in-Ok.is in
     rw (end_at f at e) (c.corner.ensures st _ f at (λ few. c.saturated.ensures ∙ end_near f at e few))

@@ -1,7 +1,5 @@
 -- A byte after a slash, the slash, a byte past the table, and one more in it.
-use mathlib.Core.Logic.{⊎_elim}
-use Rattle.mesh_words.proofs.Spelling.{spell_next, spell_over, spell_past, spell_slash}
-use borrow.Author.Rules.{rules}
+use Rattle.mesh_words.proofs.Spelling.{spell_past, spell_slash}
 use Rattle.mesh_words.proofs.Reader.spell.Goals as goal
 
 pub returns-then-self : goal.returns-then-self

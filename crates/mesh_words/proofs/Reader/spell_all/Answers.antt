@@ -1,5 +1,3 @@
-use Prim.Native.Nat.{◌-◌}
-use mathlib.Core.Logic.{⊎_elim}
 use mathlib.Core.Path.{◌∙◌, ◌≡◌, sym}
 use lib.ListN.{get_or}
 use Rattle.mesh_words.proofs.Runs.{inks_past, run_all, run_next, run_over, run_slash, run_start}
@@ -10,25 +8,25 @@ use Rattle.mesh_words.proofs.Reader.spell_all.Goals.{then-place-eq-WORD+else-b-e
 pub returns-then-self : goal.returns-then-self
 returns-then-self c st p index f start gap = inks_past _ f (record { no_start = start; no_gap = gap }) c.if-self.true
 
-pub loop-i-init : goal.loop-i-init
-loop-i-init c = run_start _ _ c.if-self.false (search rules)
+pub loop-b-init : goal.loop-b-init
+loop-b-init c = run_start _ _ c.if-self.false (search rules)
 
 pub returns-then-b-eq47 : goal.returns-then-b-eq47
-returns-then-b-eq47 c st p index f start gap = let u = c.loop-i.invariant in
-    run_slash u c.loop-i-test.true (u.place ∙ c.if-place-eq-WORD.true) c.if-b-eq47.true st p index f (record { no_start = start; no_gap = gap })
+returns-then-b-eq47 c st p index f start gap = let u = c.loop-b.invariant in
+    run_slash u c.loop-b-test.true (u.place ∙ c.if-place-eq-WORD.true) c.if-b-eq47.true st p index f (record { no_start = start; no_gap = gap })
 
 pub returns : goal.returns
-returns c st p index f start gap = run_all c.loop-i.invariant c.loop-i-test.false st p index f (record { no_start = start; no_gap = gap })
+returns c st p index f start gap = run_all c.loop-b.invariant c.loop-b-test.false st p index f (record { no_start = start; no_gap = gap })
 
-pub loop-i-preserved : goal.loop-i-preserved
-loop-i-preserved c =
-    let plain : c.loop-i.self.place ≡ 4 → get_or c.args.bytes.now c.loop-i.i 0 ≡ 47 → ⊥ = λ at is.
+pub loop-b-preserved : goal.loop-b-preserved
+loop-b-preserved c =
+    let plain : c.loop-b.self.place ≡ 4 → get_or c.args.bytes.now c.loop-b.b-index 0 ≡ 47 → ⊥ = λ at is.
     elim c.if-place-eq-WORD.branch [
       | then-place-eq-WORD+else-b-eq47 w ↦ w.if-b-eq47.false is
-      | else-place-eq-WORD w ↦ w.if-place-eq-WORD.false (sym c.loop-i.invariant.place ∙ at)
+      | else-place-eq-WORD w ↦ w.if-place-eq-WORD.false (sym c.loop-b.invariant.place ∙ at)
     ] in
-    let u = c.loop-i.invariant in
-    let h = c.loop-i-test.true in
+    let u = c.loop-b.invariant in
+    let h = c.loop-b-test.true in
     elim c.if-n-lt11.branch [
       | then-n-lt11 w ↦ rw (w.word-is, w.n-is) (run_next u h plain w.if-n-lt11.true)
       | else-n-lt11 w ↦ rw (w.word-is, w.n-is) (run_over u h plain w.if-n-lt11.false)

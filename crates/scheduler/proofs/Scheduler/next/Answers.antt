@@ -1,13 +1,16 @@
-use mathlib.Core.Path.{◌∙◌}
+use Prim.Native.Nat.{◌-◌, ◌+◌}
+use mathlib.Core.Path.{◌∙◌, ◌≡◌}
 use native.Mathlib.Omega.{arith}
 use Rattle.scheduler.proofs.Laws.{found, looked_at_all, passed}
 use Rattle.scheduler.proofs.Scheduler.next.Goals as goal
 
-pub loop-n-preserved : goal.loop-n-preserved
-loop-n-preserved c = (omega arith, passed _ c.loop-n.n c.loop-n.d _ (omega arith) (omega arith) c.in-Nothing.is ∙ c.loop-n.invariant.1)
+pub loop-preserved : goal.loop-preserved
+loop-preserved c =
+    let e : 8 - (c.loop.counter + 1) ≡ 8 - c.loop.counter - 1 = omega arith in
+    rw e (passed _ (8 - c.loop.counter) c.loop.d _ (omega arith) (omega arith) c.in_default.is ∙ c.loop.invariant)
 
-pub returns-in-Keyed : goal.returns-in-Keyed
-returns-in-Keyed c = found _ c.loop-n.n c.loop-n.d _ (omega arith) (omega arith) c.in-Keyed.is ∙ c.loop-n.invariant.1
+pub returns-in-Some : goal.returns-in-Some
+returns-in-Some c = found _ (8 - c.loop.counter) c.loop.d _ (omega arith) (omega arith) c.in-Some.is ∙ c.loop.invariant
 
 pub returns : goal.returns
-returns c = looked_at_all _ c.loop-n.n c.loop-n.d (omega arith) ∙ c.loop-n.invariant.1
+returns c = looked_at_all _ (8 - c.loop.counter) c.loop.d (omega arith) ∙ c.loop.invariant
