@@ -5,7 +5,7 @@
 ghost use Rattle.std.specs.Prelude.{◌≡◌, ℕ, List, [], ◌∷◌, Err};
 ghost use Rattle.answers.specs.Values.{answer, check_values, done, refused as refusedAnswer, unread as unreadAnswer, with_file};
 ghost use Rattle.calls.specs.Calls.{figure_of};
-ghost use Rattle.edit_answers.specs.Answers.{edit_number, face_edit_number};
+ghost use Rattle.edit_answers.specs.Answers.{edit_reply, face_edit_number};
 ghost use Rattle.errors.specs.Numbers.{Reply, call_reply, done as doneReply, not_there_reply, refused as refusedReply};
 ghost use Rattle.solid.specs.Solid.{solid_reply};
 ghost use Rattle.store_write.specs.Writing.{written_reply};
@@ -220,7 +220,7 @@ impl Reason for SolidError {
 }
 
 impl Reason for EditError {
-    ghost reply = { λ e. refusedReply (edit_number e) [] };
+    ghost reply = { edit_reply };
 
     fn refused(self) -> Answer {
         refused(self.number(), 0)
