@@ -21,6 +21,8 @@ use Rattle.lists.specs.Lists.{disjoint, no_dup, unless}
 use Rattle.lists.specs.Marks.{Below, met, stamped}
 use Rattle.wire.proofs.Laws.{faultless_no_dup, points_below}
 use Rattle.wire.specs.Named.{Named}
+use Rattle.wire.specs.OfWire.{of_wire}
+use Rattle.wire.specs.declared.Wire.{Wire as Uses}
 use Rattle.wire.specs.Wires.{points, wire_faults}
 use Rattle.add_boundary.specs.Boundary.{first_of, new_faults, stored_as}
 use Rattle.std.specs.Prelude.{Err, Ok}
@@ -33,16 +35,15 @@ flip a true e = rw e
 flip a false e = rw e
 
 -- the uses `own` are stamped, then the wire: whether a point of the wire has the stamp
-pub apart_says : (fronts backs wire own marks marks' : List ℕ) (s : ℕ) (again : Bool) → Named fronts backs wire → Named fronts backs own
-    → no_dup (points fronts backs wire) ≡ true → length marks ≡ 2048 → Below s marks → marks' ≡ stamped s (points fronts backs own) marks
-    → again ≡ met s (points fronts backs wire) marks' → not again ≡ disjoint (points fronts backs wire) (points fronts backs own)
-apart_says fronts backs wire own marks marks' s again nw own-named once long low is says =
-    let seen = points fronts backs own in
-    let ps = points fronts backs wire in
+pub apart_says : (wire own : Uses) (marks marks' : List ℕ) (s : ℕ) (again : Bool) → no_dup (of_wire points wire) ≡ true → length marks ≡ 2048 → Below s marks
+    → marks' ≡ stamped s (of_wire points own) marks → again ≡ met s (of_wire points wire) marks' → not again ≡ disjoint (of_wire points wire) (of_wire points own)
+apart_says wire own marks marks' s again once long low is says =
+    let seen = of_wire points own in
+    let ps = of_wire points wire in
     flip again (disjoint ps seen)
     (says ∙ rw is
     (met_seen 2048 s ps (stamped s seen marks) seen
-    (holds_stamped 2048 s seen marks [] (holds_fresh 2048 s marks long low) (points_below fronts backs own own-named)) (points_below fronts backs wire nw) once))
+    (holds_stamped 2048 s seen marks [] (holds_fresh 2048 s marks long low) (points_below own.ends.fronts.now own.ends.backs.now own.uses.now own.named)) (points_below wire.ends.fronts.now wire.ends.backs.now wire.uses.now wire.named) once))
 
 -- ---- the first fault
 

@@ -5,8 +5,7 @@
 ghost use Rattle.std.specs.Prelude.{◌≡◌, true, [], ◌∷◌, ◌++◌, map, ◌+◌, ◌<◌, ◌≤◌, suc, length};
 ghost use Rattle.std.proofs.lemmas.List.Edits.{sets};
 ghost use Rattle.lists.specs.Lists.{disjoint, flat, no_dup};
-ghost use Rattle.lists.specs.Marks.{Below};
-ghost use Rattle.wire.specs.Named.{Named};
+ghost use Rattle.wire.specs.OfWire.{of_wire};
 ghost use Rattle.wire.specs.Wires.{points};
 ghost use Rattle.store.specs.Store.{held};
 ghost use Rattle.face_edits.specs.FaceAnswers.{add_answer, add_out};
@@ -14,58 +13,39 @@ ghost use Rattle.add_boundary.specs.Boundary.{boundary_answer, first_of, new_fau
 
 use edit_answers::FaceEditError;
 use errors::CallError;
-use face_parts::{are_uses, face_part, first_backs, first_fronts, sizes_of, uses_of};
+use face_parts::{are_uses, face_wires};
 use listing::put_turned;
-use store::{Spans, Tables, counts_in, tables_known};
+use store::{Spans, Tables, lists_in, tables_known};
 use store_check::check;
-use wire::{check_wire, stamp_points};
-use words::{copy_u16s, index};
+use wire::{Marks, Wire};
+use words::copy_to;
 
-// Whether a wire that meets no point twice shares none with the uses `own`. The stamp is above all
-// marks.
-fn disjoint_from(
-    wire: &[u16],
-    own: &[u16],
-    fronts: &[u16],
-    backs: &[u16],
-    marks: &mut [u16],
-    stamp: u16,
-) -> bool
-    requires named { Named fronts.now backs.now wire.now }
-    requires named_2 { Named fronts.now backs.now own.now }
-    requires wire_value { no_dup (points fronts.now backs.now wire.now) ≡ true }
-    requires marks_len { length marks.old ≡ 2048 }
-    requires below { Below stamp marks.old }
-    ensures { result ≡ disjoint (points fronts.now backs.now wire.now) (points fronts.now backs.now own.now) }
+// Whether a wire that meets no point twice shares none with other uses.
+fn disjoint_from(wire: &Wire, own: &Wire, marks: &mut Marks) -> bool
+    requires wire_value { no_dup (of_wire points wire.now) ≡ true }
+    requires stamps { marks.old.stamp < 65535 }
+    ensures { result ≡ disjoint (of_wire points wire.now) (of_wire points own.now) }
 {
-    stamp_points(own, fronts, backs, marks, stamp);
-    !stamp_points(wire, fronts, backs, marks, stamp)
+    marks.next();
+    marks.stamp_points(own);
+    !marks.stamp_points(wire)
 }
 
 // Judges a wire for a face with the uses `own` and n wires, and lent lists of lengths m and k: 6, 7,
 // 8, 9, 17.
-fn judge_wire(
-    wire: &[u16],
-    own: &[u16],
-    n: usize,
-    fronts: &[u16],
-    backs: &[u16],
-    m: usize,
-    k: usize,
-) -> Result<(), FaceEditError>
-    requires named { Named fronts.now backs.now wire.now }
-    requires named_2 { Named fronts.now backs.now own.now }
-    requires own_len_bound { (length own.now ≤ 4096) × (n ≤ 1024) }
-    ensures { result ≡ first_of (new_faults fronts.now backs.now own.now n wire.now m k) }
+fn judge_wire(wire: &Wire, own: &Wire, n: usize, m: usize, k: usize) -> Result<(), FaceEditError>
+    requires same_ends { own.now.ends ≡ wire.now.ends }
+    requires own_len_bound { (length own.now.uses.now ≤ 4096) × (n ≤ 1024) }
+    ensures { result ≡ first_of (new_faults wire.now.ends.fronts.now wire.now.ends.backs.now own.now.uses.now n wire.now.uses.now m k) }
 {
-    let mut marks = [0u16; 2048];
-    if let Err(e) = check_wire(wire, fronts, backs, &mut marks, 1) {
+    let mut marks = Marks::new();
+    if let Err(e) = wire.check(&mut marks) {
         return Err(FaceEditError::Wire(e));
     }
-    if !disjoint_from(wire, own, fronts, backs, &mut marks, 2) {
+    if !disjoint_from(wire, own, &mut marks) {
         return Err(FaceEditError::NotDisjointWires);
     }
-    if own.len() + wire.len() > m {
+    if own.uses.len() + wire.uses.len() > m {
         return Err(FaceEditError::NoSpace);
     }
     if n + 1 > k {
@@ -82,7 +62,7 @@ fn put_stored(wire: &[u16], reversed: bool, out: &mut [u16], at: usize)
     if reversed {
         put_turned(out, at, wire);
     } else {
-        copy_u16s(wire, out, at);
+        copy_to(wire, out, at);
     }
 }
 
@@ -91,7 +71,7 @@ fn put_boundary(own: &[u16], wire: &[u16], reversed: bool, out: &mut [u16])
     requires { length own.now + length wire.now ≤ length out.old }
     ensures { out.new ≡ sets out.old 0 (own.now ++ stored_as reversed wire.now) }
 {
-    copy_u16s(own, out, 0);
+    copy_to(own, out, 0);
     put_stored(wire, reversed, out, own.len());
 }
 
@@ -100,33 +80,30 @@ fn put_length(sizes: &[u16], n: usize, out: &mut [u16])
     requires { (suc (length sizes.now) ≤ length out.old) × (n < 65536) }
     ensures { out.new ≡ sets out.old 0 (sizes.now ++ (n ∷ [])) }
 {
-    copy_u16s(sizes, out, 0);
+    copy_to(sizes, out, 0);
     out[sizes.len()] = n as u16;
 }
 
 // Adds a wire to a face that has the uses `own` and wires of the lengths `sizes`.
 fn add_wire(
-    wire: &[u16],
+    wire: &Wire,
     reversed: bool,
-    own: &[u16],
+    own: &Wire,
     sizes: &[u16],
-    fronts: &[u16],
-    backs: &[u16],
     uses: &mut [u16],
     lens: &mut [u16],
 ) -> Result<(usize, usize), FaceEditError>
-    requires named { Named fronts.now backs.now wire.now }
-    requires named_2 { Named fronts.now backs.now own.now }
-    requires own_len_bound { (length own.now ≤ 4096) × (length sizes.now ≤ 1024) }
-    ensures value { result ≡ boundary_answer fronts.now backs.now own.now (length sizes.now) wire.now (length uses.old) (length lens.old) }
-    ensures uses_after { uses.new ≡ sets uses.old 0 (written_of fronts.now backs.now own.now (length sizes.now) wire.now (length uses.old) (length lens.old) (own.now ++ stored_as reversed wire.now)) }
-    ensures lens_after { lens.new ≡ sets lens.old 0 (written_of fronts.now backs.now own.now (length sizes.now) wire.now (length uses.old) (length lens.old) (sizes.now ++ (length wire.now ∷ []))) }
+    requires same_ends { own.now.ends ≡ wire.now.ends }
+    requires own_len_bound { (length own.now.uses.now ≤ 4096) × (length sizes.now ≤ 1024) }
+    ensures value { result ≡ boundary_answer wire.now.ends.fronts.now wire.now.ends.backs.now own.now.uses.now (length sizes.now) wire.now.uses.now (length uses.old) (length lens.old) }
+    ensures uses_after { uses.new ≡ sets uses.old 0 (written_of wire.now.ends.fronts.now wire.now.ends.backs.now own.now.uses.now (length sizes.now) wire.now.uses.now (length uses.old) (length lens.old) (own.now.uses.now ++ stored_as reversed wire.now.uses.now)) }
+    ensures lens_after { lens.new ≡ sets lens.old 0 (written_of wire.now.ends.fronts.now wire.now.ends.backs.now own.now.uses.now (length sizes.now) wire.now.uses.now (length uses.old) (length lens.old) (sizes.now ++ (length wire.now.uses.now ∷ []))) }
 {
     let n = sizes.len();
-    judge_wire(wire, own, n, fronts, backs, uses.len(), lens.len())?;
-    put_boundary(own, wire, reversed, uses);
-    put_length(sizes, wire.len(), lens);
-    Ok((own.len() + wire.len(), n + 1))
+    judge_wire(wire, own, n, uses.len(), lens.len())?;
+    put_boundary(own.uses, wire.uses, reversed, uses);
+    put_length(sizes, wire.uses.len(), lens);
+    Ok((own.uses.len() + wire.uses.len(), n + 1))
 }
 
 // Writes the wires of face f of a pattern, given with a sign, and one more; refused, it writes
@@ -145,25 +122,22 @@ pub fn try_add_boundary(
 {
     tables_known(t);
     check(t, spans)?;
-    let counts = counts_in(t);
-    let face = index(f % 32768);
-    if face >= counts[4] {
+    let lists = lists_in(t);
+    let face = usize::from(f % 32768);
+    if face >= lists.faces.len() {
         return Err(CallError::Refused(FaceEditError::Unnamed));
     }
-    let edges = counts[1];
-    if !are_uses(wire, edges) {
+    if !are_uses(wire, lists.ends.fronts.len()) {
         return Err(CallError::Refused(FaceEditError::Unnamed));
     }
-    let part = face_part(t, face);
-    add_wire(
-        wire,
-        32768 <= f,
-        uses_of(t, part),
-        sizes_of(t, part),
-        first_fronts(t, edges),
-        first_backs(t, edges),
-        uses,
-        lens,
-    )
-    .map_err(CallError::Refused)
+    let part = face_wires(&lists, face);
+    let own = Wire {
+        uses: part.uses,
+        ends: lists.ends,
+    };
+    let new = Wire {
+        uses: wire,
+        ends: lists.ends,
+    };
+    add_wire(&new, 32768 <= f, &own, part.lengths, uses, lens).map_err(CallError::Refused)
 }

@@ -9,7 +9,6 @@ ghost use Rattle.answer_lines.specs.AnswerLines.{refused_text, wire_text, wires_
 
 use lines::{put_items, put_number};
 use output::{put_field, put_text};
-use words::index;
 
 // Writes a wire: the word, and its uses.
 fn put_wire(out: &mut [u8], at: usize, us: &[u16]) -> usize
@@ -28,7 +27,7 @@ pub fn put_wires(out: &mut [u8], at: usize, us: &[u16], lens: &[u16]) -> usize
     let mut end = at;
     let mut start: usize = 0;
     for len in lens {
-        let n = index(*len);
+        let n = usize::from(*len);
         end = put_wire(out, end, &us[start..start + n]);
         start += n;
     }

@@ -2,22 +2,27 @@
 // refusal, and the values (docs/FORMAT.md 6.2).
 #![tactic(auto)]
 
-ghost use Rattle.std.specs.Prelude.{◌≡◌, ℕ, List, [], ◌∷◌, Err};
+ghost use Rattle.std.specs.Prelude.{◌≡◌, ℕ, List, [], ◌∷◌, Ok};
+ghost use Rattle.answers.specs.OnFile.{OnFile};
 ghost use Rattle.answers.specs.Values.{answer, check_values, done, refused as refusedAnswer, unread as unreadAnswer, with_file};
 ghost use Rattle.calls.specs.Calls.{figure_of};
-ghost use Rattle.edit_answers.specs.Answers.{edit_reply, face_edit_number};
-ghost use Rattle.errors.specs.Numbers.{Reply, call_reply, done as doneReply, not_there_reply, refused as refusedReply};
-ghost use Rattle.solid.specs.Solid.{solid_reply};
-ghost use Rattle.store_write.specs.Writing.{written_reply};
+ghost use Rattle.edit_answers.specs.Answers.{edit_reply, face_edit_reply};
+ghost use Rattle.errors.specs.Numbers.{Reply, call_reply, done as doneReply, not_there_reply};
+ghost use Rattle.answers.specs.Read.{edited_bytes};
+ghost use Rattle.pattern.specs.Checks.{pattern_faults};
+ghost use Rattle.store.specs.Store.{held};
+ghost use Rattle.solid.specs.Solid.{solid_error_reply};
+ghost use Rattle.store_write.specs.Writing.{no_space_reply, written, written_reply};
 
 use calls::ShellFigure;
 use edge::EdgeID;
 use edit_answers::{EditError, FaceEditError};
 use errors::{CallError, NotThere, Refusal};
 use solid::SolidError;
-use store_write::NoSpace;
+use store::{SPANS, Spans, TABLES, Tables};
+use store_read::load;
+use store_write::{NoSpace, put_file};
 use vertex::VertexID;
-use words::index;
 
 // An answer. `outcome` is 0 done, 1 refused by the reading checks, 2 refused by the call. `fourth` is
 // 0: room for one number more.
@@ -130,6 +135,41 @@ pub fn edit_values<T: Values, E: Reason>(
     done_with(edit.first, edit.second, written.first)
 }
 
+// What an edit of a shell answers; if it was done, the pattern's file is written. Each such edit loads its file itself:
+// by `on_file` its closure would have to promise that it leaves no fault, and the contract would say more than the three lines.
+pub fn put_edited<T: Values>(
+    edit: Result<T, CallError<EditError>>,
+    t: &Tables,
+    spans: &Spans,
+    out: &mut [u8],
+) -> Answer
+    requires { (x : T) → edit ≡ Ok x → pattern_faults (held t.now spans.now) ≡ [] }
+    ensures value { result ≡ answer (with_file (call_reply T.values edit_reply edit) (written_reply (written (held t.now spans.now) out.old))) }
+    ensures out_after { out.new ≡ edited_bytes edit (held t.now spans.now) out.old }
+{
+    match edit {
+        Err(_) => call_values(edit),
+        Ok(_) => edit_values(edit, put_file(t, spans, out)),
+    }
+}
+
+// The answer of a call on the pattern of a file, in a store of its own: length and contents table are judged first, the
+// rest by the call. It is lent, and not taken, since what a closure that is taken wrote to a lent list is not known after.
+pub fn on_file<T: Values, E: Reason, F: FnMut(&mut Tables, &mut Spans) -> Result<T, CallError<E>>>(
+    file: &[u8],
+    call: &mut F,
+) -> Answer
+    requires { F.IsAlwaysCallable call.old }
+    ensures { OnFile F.FnMut (λ r. answer (call_reply T.values E.reply r)) call.old file.now result call.new }
+{
+    let mut t = [0; TABLES];
+    let mut spans = [0.0; SPANS];
+    match load(file, &mut t, &mut spans) {
+        Err(f) => unread(f),
+        Ok(()) => call_values(call(&mut t, &mut spans)),
+    }
+}
+
 impl Values for () {
     ghost values = { λ x. [] };
 
@@ -158,7 +198,7 @@ impl Values for EdgeID {
     ghost values = { λ a. a.0 ∷ [] };
 
     fn done(self) -> Answer {
-        done_with(index(self.0), 0, 0)
+        done_with(usize::from(self.0), 0, 0)
     }
 }
 
@@ -167,7 +207,7 @@ impl Values for (EdgeID, EdgeID) {
 
     fn done(self) -> Answer {
         let (a, b) = self;
-        done_with(index(a.0), index(b.0), 0)
+        done_with(usize::from(a.0), usize::from(b.0), 0)
     }
 }
 
@@ -175,7 +215,7 @@ impl Values for VertexID {
     ghost values = { λ v. v.0 ∷ [] };
 
     fn done(self) -> Answer {
-        done_with(index(self.0), 0, 0)
+        done_with(usize::from(self.0), 0, 0)
     }
 }
 
@@ -203,7 +243,7 @@ impl Reason for NotThere {
 
 // With the length that the file needs.
 impl Reason for NoSpace {
-    ghost reply = { λ e. refusedReply 17 (e.needed ∷ []) };
+    ghost reply = { no_space_reply };
 
     fn refused(self) -> Answer {
         refused(17, self.needed)
@@ -212,7 +252,7 @@ impl Reason for NoSpace {
 
 // The shell's own reason, and the shell.
 impl Reason for SolidError {
-    ghost reply = { λ e. solid_reply (Err e) };
+    ghost reply = { solid_error_reply };
 
     fn refused(self) -> Answer {
         refused(self.reason.number(), self.shell)
@@ -228,7 +268,7 @@ impl Reason for EditError {
 }
 
 impl Reason for FaceEditError {
-    ghost reply = { λ e. refusedReply (face_edit_number e) [] };
+    ghost reply = { face_edit_reply };
 
     fn refused(self) -> Answer {
         refused(self.number(), 0)

@@ -13,40 +13,37 @@ use Rattle.lists.specs.Lists.{padded, sum, tabulate}
 abbrev pub sum_to : List ℕ → ℕ → ℕ
 sum_to counts f = sum (take f counts)
 
-pub record Firsting (counts : List ℕ) (n : ℕ) (out : List ℕ) (k at : ℕ) : Type 0 where
-  pub few : n ≤ 256
-  pub counted : n ≤ length counts
-  pub walk : Walk (take n counts) k at
+pub record Firsting (counts out : List ℕ) (k at : ℕ) : Type 0 where
+  pub few : length counts ≤ 256
+  pub walk : Walk counts k at
   pub low : at ≤ 65536 * k
-  pub filling : Filling (sum_to (take n counts)) (replicate 257 0) out k
+  pub filling : Filling (sum_to counts) (replicate 257 0) out k
 
-pub firsting_start : (counts : List ℕ) (n : ℕ) → n ≤ 256 → n ≤ length counts → (out : List ℕ) → out ≡ replicate 257 0 → Firsting counts n out 0 0
-firsting_start counts n h l out z = record {
+pub firsting_start : (counts out : List ℕ) → length counts ≤ 256 → out ≡ replicate 257 0 → Firsting counts out 0 0
+firsting_start counts out h z = record {
   few = h;
-  counted = l;
-  walk = walk_start (take n counts);
+  walk = walk_start counts;
   low = omega arith;
-  filling = rw z (filling_start (sum_to (take n counts)) (replicate 257 0));
+  filling = rw z (filling_start (sum_to counts) (replicate 257 0));
 }
 
-module _ {counts : List ℕ} {n : ℕ} {out : List ℕ} {k at : ℕ} (s : Firsting counts n out k at) where
+module _ {counts out : List ℕ} {k at : ℕ} (s : Firsting counts out k at) where
   pub firsting_long : length out ≡ 257
-  firsting_long = filling_long (sum_to (take n counts)) (replicate 257 0) out k s.filling ∙ length-replicate {A = ℕ} 257 0
+  firsting_long = filling_long (sum_to counts) (replicate 257 0) out k s.filling ∙ length-replicate {A = ℕ} 257 0
 
-  written : k < 257 → Filling (sum_to (take n counts)) (replicate 257 0) (set out k at) (k + 1)
+  written : k < 257 → Filling (sum_to counts) (replicate 257 0) (set out k at) (k + 1)
   written h =
-      filling_next (sum_to (take n counts)) 0 (replicate 257 0) out k at s.filling (omega (arith, length-replicate {A = ℕ} 257 0)) s.walk.here
+      filling_next (sum_to counts) 0 (replicate 257 0) out k at s.filling (omega (arith, length-replicate {A = ℕ} 257 0)) s.walk.here
 
-  pub firsting_next : {m : ℕ} → k < n → m ≡ get_or counts k 0 → m < 65536 → Firsting counts n (set out k at) (k + 1) (at + m)
+  pub firsting_next : {m : ℕ} → k < length counts → m ≡ get_or counts k 0 → m < 65536 → Firsting counts (set out k at) (k + 1) (at + m)
   firsting_next {m} h is small = record {
     few = s.few;
-    counted = s.counted;
-    walk = walk_next (take n counts) k at m s.walk (omega (arith, length-take-le n counts s.counted)) (is ∙ sym (get_or-take n counts k 0 h));
+    walk = walk_next counts k at m s.walk h is;
     low = omega (arith, s.low);
     filling = written (omega (arith, s.few));
   }
 
-  pub firsting_all : n ≤ k → set out n at ≡ padded 257 0 (tabulate (suc n) (sum_to (take n counts)))
+  pub firsting_all : length counts ≤ k → set out (length counts) at ≡ padded 257 0 (tabulate (suc (length counts)) (sum_to counts))
   firsting_all h =
-      let e : k ≡ n = omega (arith, s.walk.low, length-take-le n counts s.counted) in
-      filling_padded (sum_to (take n counts)) 0 257 (set out n at) (suc n) (rw (e, add-one) at (written (omega (arith, s.few))))
+      let e : k ≡ length counts = omega (arith, s.walk.low) in
+      filling_padded (sum_to counts) 0 257 (set out (length counts) at) (suc (length counts)) (rw (e, add-one) at (written (omega (arith, s.few))))

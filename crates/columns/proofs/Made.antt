@@ -1,8 +1,7 @@
 -- The columns that the code makes are those of the definition.
-use Prim.Native.Nat.{ℕ, ◌-◌, ◌<◌, ◌≤◌, suc}
+use Prim.Native.Nat.{ℕ, ◌<◌, ◌≤◌, suc}
 use mathlib.Core.List.{List, [], map}
 use mathlib.Core.Path.{◌≡◌, ◌∙◌, ap, sym}
-use native.Mathlib.Nat.{sub-zero}
 use native.Mathlib.Omega.{arith}
 use lib.Ieee.{Float}
 use lib.ListN.{get_or, length, take}
@@ -16,7 +15,7 @@ use Rattle.lists.specs.Lists.{padded, sum, tabulate}
 use Rattle.pattern.proofs.Counts.{Limited, limited}
 use Rattle.pattern.proofs.Named.{tables_faces, tables_wires}
 use Rattle.pattern.proofs.Passed.{content_passed, pattern_passed}
-use Rattle.pattern.specs.Checks.{pattern_faults, record_faults}
+use Rattle.pattern.specs.Checks.{count_faults, pattern_faults, record_faults}
 use Rattle.pattern.specs.Contents.{Pattern, content}
 use Rattle.store.proofs.Parts.{part_long}
 use Rattle.store.proofs.View.{held_backs, held_fronts, held_full, held_seven, held_wire_counts}
@@ -27,9 +26,9 @@ module _ (t : List ℕ) (long : length t ≡ 12312) where
   abbrev counted : ℕ → ℕ
   counted b = get_or (count_table t) b 0
 
-  -- the records from 0 to their count
+  -- a table as long as its count
   abbrev part : ℕ → List ℕ → List ℕ
-  part b xs = take (counted b - 0) xs
+  part b xs = take (counted b) xs
 
   module _ (spans : List Float) (ok : pattern_faults (held t spans) ≡ []) where
     abbrev P : Pattern
@@ -48,48 +47,53 @@ module _ (t : List ℕ) (long : length t ≡ 12312) where
     few : Limited (count_table t)
     few = limits f.spans f.ok
 
-    -- what the parts ask of the tables
-    pub tables_inside : (counted 2 ≤ length (use_table t)) × (counted 3 ≤ length (wire_table t))
-    tables_inside = (omega (arith, few.uses, part_long t 2056 4096 (omega arith)), omega (arith, few.wires, part_long t 6152 1024 (omega arith)))
+    pub counts_fine : count_faults (count_table t) ≡ []
+    counts_fine = (pattern_passed (P f.spans f.ok) f.ok).counts
 
-    uses_long : length (take (counted 2) (use_table t)) ≡ counted 2
-    uses_long = length-take-le (counted 2) (use_table t) tables_inside.0
+    uses_long : length (part 2 (use_table t)) ≡ counted 2
+    uses_long = length-take-le (counted 2) (use_table t) (omega (arith, few.uses, part_long t 2056 4096 (omega arith)))
 
-    wires_long : length (take (counted 3) (wire_table t)) ≡ counted 3
-    wires_long = length-take-le (counted 3) (wire_table t) tables_inside.1
+    wires_long : length (part 3 (wire_table t)) ≡ counted 3
+    wires_long = length-take-le (counted 3) (wire_table t) (omega (arith, few.wires, part_long t 6152 1024 (omega arith)))
 
+    faces_long : length (part 4 (face_table t)) ≡ counted 4
+    faces_long = length-take-le (counted 4) (face_table t) (omega (arith, few.faces, part_long t 7176 256 (omega arith)))
+
+    shells_long : length (part 5 (shell_table t)) ≡ counted 5
+    shells_long = length-take-le (counted 5) (shell_table t) (omega (arith, few.shells, part_long t 7688 16 (omega arith)))
+
+    -- what the parts ask of the lists
     pub turned_ready : (length (part 2 (use_table t)) ≤ 4096) × (length (part 3 (wire_table t)) ≤ 1024) × (sum (part 3 (wire_table t)) ≡ length (part 2 (use_table t)))
-    turned_ready = rw (sub-zero (counted 2), sub-zero (counted 3)) (
+    turned_ready = (
       omega (arith, uses_long, few.uses),
       omega (arith, wires_long, few.wires),
       tables_wires (P f.spans f.ok) few (held_full t f.spans long) (fine f.spans f.ok) ∙ sym uses_long,
     )
 
-    pub starts_ready : (counted 4 ≤ 256) × (counted 4 ≤ length (face_table t)) × (sum (take (counted 4) (face_table t)) ≡ length (part 3 (wire_table t))) × (length (part 3 (wire_table t)) ≤ 1024)
-    starts_ready = rw (sub-zero (counted 3)) (
-      few.faces,
-      omega (arith, few.faces, part_long t 7176 256 (omega arith)),
+    pub starts_ready : (length (part 4 (face_table t)) ≤ 256) × (sum (part 4 (face_table t)) ≡ length (part 3 (wire_table t))) × (length (part 3 (wire_table t)) ≤ 1024)
+    starts_ready = (
+      omega (arith, faces_long, few.faces),
       rw (wire_numbers f.spans f.ok) (tables_faces (P f.spans f.ok) few (held_full t f.spans long) (fine f.spans f.ok) ∙ sym wires_long),
       omega (arith, wires_long, few.wires),
     )
 
-    pub firsts_ready : (counted 4 ≤ 256) × (counted 4 ≤ length (face_table t))
-    firsts_ready = (few.faces, omega (arith, few.faces, part_long t 7176 256 (omega arith)))
+    pub firsts_ready : length (part 4 (face_table t)) ≤ 256
+    firsts_ready = omega (arith, faces_long, few.faces)
 
-    pub places_ready : (counted 5 ≤ 256) × (counted 5 ≤ length (shell_table t))
-    places_ready = (omega (arith, few.shells), omega (arith, few.shells, part_long t 7688 16 (omega arith)))
+    pub places_ready : length (part 5 (shell_table t)) ≤ 256
+    places_ready = omega (arith, shells_long, few.shells)
 
     -- what they make
     module _ (turned starts firsts places : List ℕ) (uses : (k : ℕ) → get_or (use_table t) k 0 < 65536) (listings : (k : ℕ) → get_or (listing_table t) k 0 < 65536)
         (a : turned ≡ padded 4096 0 (turned_uses (part 3 (wire_table t)) (part 2 (use_table t))))
-        (b : starts ≡ padded 257 0 (tabulate (suc (counted 4)) (face_start (take (counted 4) (face_table t)) (part 3 (wire_table t)))))
-        (c : firsts ≡ padded 257 0 (tabulate (suc (counted 4)) (λ (n : ℕ). sum (take n (take (counted 4) (face_table t))))))
-        (d : places ≡ padded 257 0 (tabulate (suc (counted 5)) (λ (n : ℕ). sum (take n (take (counted 5) (shell_table t)))))) where
+        (b : starts ≡ padded 257 0 (tabulate (suc (length (part 4 (face_table t)))) (face_start (part 4 (face_table t)) (part 3 (wire_table t)))))
+        (c : firsts ≡ padded 257 0 (tabulate (suc (length (part 4 (face_table t)))) (λ (n : ℕ). sum (take n (part 4 (face_table t))))))
+        (d : places ≡ padded 257 0 (tabulate (suc (length (part 5 (shell_table t)))) (λ (n : ℕ). sum (take n (part 5 (shell_table t)))))) where
       derived : OfTables t (λ p. lent t turned starts firsts places ≡ columns_in p)
       derived spans ok =
-          let same : take (counted 4) (face_table t) ≡ map wire_count (content (held t spans)).faces =
+          let same : part 4 (face_table t) ≡ map wire_count (content (held t spans)).faces =
           ap (take (counted 4)) (wire_numbers spans ok) ∙ sym (map_take wire_count (counted 4) (held t spans).faces) in
-          rw (a, b, c, d, sub-zero (counted 2), sub-zero (counted 3), same, held_fronts t spans long, held_backs t spans long)
+          rw (a, b, c, d, faces_long, shells_long, same, held_fronts t spans long, held_backs t spans long)
 
       pub made : Made t turned starts firsts places
       made = record {

@@ -7,10 +7,11 @@ ghost use Rattle.std.specs.Prelude.{◌≡◌, ◌<◌, ◌≤◌, suc, ℕ, get
 ghost use Rattle.lists.specs.Lists.{padded, sum, tabulate};
 ghost use Rattle.columns.specs.Columns.{Made};
 ghost use Rattle.columns.specs.Sound.{Faultless};
+ghost use Rattle.columns.specs.Underived.{underived};
+ghost use Rattle.store.specs.Store.{use_table};
 
-use listing::{put_face_starts, put_turned_uses};
-use store::{Tables, counts_in, faces_in, listings_in, shells_in, tables_known, uses_in, wires_in};
-use words::index;
+use listing::{Parts, put_face_starts, put_turned_uses};
+use store::{Tables, listings_in, lists_in, tables_known, uses_in};
 
 // The numbers of a slice have 16 bits, which a read of one tells.
 fn short_known(s: &[u16]) -> u16
@@ -20,63 +21,77 @@ fn short_known(s: &[u16]) -> u16
     s[0]
 }
 
-// Writes where the wires of each of the first n faces begin, and where the last one's end; or the
-// listings of shells.
-fn put_firsts(counts: &[u16], n: usize, out: &mut [usize])
-    requires { (n ≤ 256) × (n ≤ length counts.now) × (out.old ≡ replicate 257 0) }
-    ensures { out.new ≡ padded 257 0 (tabulate (suc n) (λ (f : ℕ). sum (take f (take n counts.now)))) }
+// Writes where the wires of each face begin, and where the last one's end; or the listings of shells.
+fn put_firsts(counts: &[u16], out: &mut [usize])
+    requires { (length counts.now ≤ 256) × (out.old ≡ replicate 257 0) }
+    ensures { out.new ≡ padded 257 0 (tabulate (suc (length counts.now)) (λ (f : ℕ). sum (take f counts.now))) }
 {
     let mut at: usize = 0;
-    for k in 0..n {
+    for (k, &n) in counts.iter().enumerate() {
         out[k] = at;
-        at += index(counts[k]);
+        at += usize::from(n);
     }
-    out[n] = at;
+    out[counts.len()] = at;
 }
 
-// The columns that are derived of a pattern without fault in the store.
-#[derive(Drop)]
-pub struct Columns<'a> {
-    pub t: &'a Tables,
+// The lists that are derived of a pattern: its uses turned, where the uses and the wires of each face
+// begin, and the listings of each shell.
+#[derive(Clone, Copy)]
+pub struct Derived {
     pub turned: [u16; 4096],
     pub starts: [usize; 257],
     pub firsts: [usize; 257],
     pub places: [usize; 257],
-    ghost made: { Made t.now turned starts firsts places },
+}
+
+impl Derived {
+    // Room for them.
+    pub fn new() -> Derived
+        ensures { result ≡ underived }
+    {
+        Derived {
+            turned: [0; 4096],
+            starts: [0; 257],
+            firsts: [0; 257],
+            places: [0; 257],
+        }
+    }
+
+    // Derives them of a pattern.
+    pub fn put(&mut self, t: &Tables)
+        requires faultless { Faultless t.now }
+        requires self_underived { self.old ≡ underived }
+        ensures { Made t.now self.new.turned self.new.starts self.new.firsts self.new.places }
+    {
+        tables_known(t);
+        short_known(uses_in(t));
+        short_known(listings_in(t));
+        let lists = lists_in(t);
+        put_turned_uses(lists.uses, lists.wires, &mut self.turned);
+        put_face_starts(lists.wires, lists.faces, &mut self.starts);
+        put_firsts(lists.faces, &mut self.firsts);
+        put_firsts(lists.shells, &mut self.places);
+    }
+}
+
+// The columns of a pattern without fault in the store: its tables, and what is derived of them. These lists
+// are lent: moved into the struct they were copied twice, a sixth of a small report's time.
+#[derive(Clone, Copy)]
+pub struct Columns<'a> {
+    pub t: &'a Tables,
+    pub derived: &'a Derived,
+    ghost made: { Made t.now derived.now.turned derived.now.starts derived.now.firsts derived.now.places },
 }
 
 impl<'a> Columns<'a> {
-    // The columns of a pattern: its uses turned, where the uses and the wires of each face begin, and the
-    // listings of each shell.
-    pub fn new(t: &'a Tables) -> Columns<'a>
-        requires { Faultless t.now }
-        ensures { result.t.now ≡ t.now }
+    // What listings show of the uses.
+    pub fn parts(&self) -> Parts<'a>
+        ensures { (result.along.now ≡ use_table self.now.t.now) × (result.back.now ≡ self.now.derived.now.turned) × (result.starts.now ≡ self.now.derived.now.starts) }
     {
-        tables_known(t);
-        let counts = counts_in(t);
-        let uses = uses_in(t);
-        let wires = wires_in(t);
-        let faces = faces_in(t);
-        let shells = shells_in(t);
-        short_known(uses);
-        short_known(listings_in(t));
-        let ucount = counts[2];
-        let wcount = counts[3];
-        let fcount = counts[4];
-        let mut turned = [0u16; 4096];
-        let mut starts = [0usize; 257];
-        let mut firsts = [0usize; 257];
-        let mut places = [0usize; 257];
-        put_turned_uses(&uses[0..ucount], &wires[0..wcount], &mut turned);
-        put_face_starts(&wires[0..wcount], faces, fcount, &mut starts);
-        put_firsts(faces, fcount, &mut firsts);
-        put_firsts(shells, counts[5], &mut places);
-        Columns {
-            t,
-            turned,
-            starts,
-            firsts,
-            places,
+        Parts {
+            along: uses_in(self.t),
+            back: &self.derived.turned,
+            starts: &self.derived.starts,
         }
     }
 }

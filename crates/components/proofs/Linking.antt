@@ -8,12 +8,12 @@ use lib.ListN.{get_or-map, drop, get_or, get_or-replicate, length, length-drop, 
 use lib.Seq.{get_or-drop, get_or-take, length-take-le, take-add, take_all}
 use Rattle.components.proofs.Loops.{length_owners, owners_next}
 use Rattle.components.proofs.Members.{all_replicate, links_append}
-use Rattle.components.specs.Pairs.{Linkable, Within, member_links, owners, use_trees}
+use Rattle.components.specs.Pairs.{Linkable, Within, member_links, owners, use_links}
 use Rattle.edge.specs.Uses.{edge_number}
 use Rattle.groups.proofs.All.{Joins, Pairs, forest_all, joined_all_long, joined_append, joins_end, joins_next}
-use Rattle.groups.proofs.Laws.{grouped_start, inside_links}
+use Rattle.groups.proofs.Laws.{inside_links}
 use Rattle.groups.proofs.Members.{all_member}
-use Rattle.groups.specs.Forest.{Forest, Trees, joined, joined_all, started, trees}
+use Rattle.groups.specs.Forest.{Forest, Trees, joined, joined_all, trees}
 use Rattle.groups.specs.Groups.{Inside, links}
 use Rattle.lists.proofs.Count.{all_each, all_map}
 use Rattle.lists.proofs.Split.{Walk, walk_fits, walk_next, walk_start}
@@ -58,11 +58,11 @@ module _ (edges : ℕ) (spans uses : List ℕ) (u : Linkable spans uses edges) w
   abbrev n : ℕ
   n = edges + length spans
 
-  pub linking_start : (ps ss ps₀ ss₀ : List ℕ) → (ps₀ ≡ (started n ps ss).parents) × (ss₀ ≡ (started n ps ss).sizes) → Linking edges spans uses ps₀ ss₀ ps₀ ss₀ 0 0
+  pub linking_start : (ps₀ ss₀ : List ℕ) → Forest (edges + length spans) ps₀ ss₀ → Linking edges spans uses ps₀ ss₀ ps₀ ss₀ 0 0
   unfolding owners joined_all links
-  linking_start ps ss ps₀ ss₀ begun = record {
+  linking_start ps₀ ss₀ f = record {
     walk = walk_start spans;
-    forest = rw (begun.0, begun.1) (grouped_start n ps ss (omega (arith, u.low, u.few))).forest;
+    forest = f;
     parents_long = refl;
     sizes_long = refl;
     is = refl;
@@ -107,10 +107,10 @@ module _ (edges : ℕ) (spans uses : List ℕ) (u : Linkable spans uses edges) w
                 ∙ ap (joined_all (trees ps₀ ss₀)) (sym more);
           }
 
-    pub linking_all : length spans ≤ k → (ps₁ ss₁ : List ℕ) → (ps₀ ≡ (started n ps₁ ss₁).parents) × (ss₀ ≡ (started n ps₁ ss₁).sizes)
-        → (ps ≡ (use_trees edges spans uses ps₁ ss₁).parents) × (ss ≡ (use_trees edges spans uses ps₁ ss₁).sizes)
-    linking_all h ps₁ ss₁ begun =
+    pub linking_all : length spans ≤ k
+        → (ps ≡ (joined_all (trees ps₀ ss₀) (use_links edges spans uses)).parents) × (ss ≡ (joined_all (trees ps₀ ss₀) (use_links edges spans uses)).sizes)
+    linking_all h =
         let every : take k spans ≡ spans = take_all k spans h in
         let last : take at uses ≡ uses = take_all at uses (omega (arith, s.walk.here ∙ ap sum every, u.summed)) in
-        let done : trees ps ss ≡ use_trees edges spans uses ps₁ ss₁ = rw (every, last, begun.0, begun.1) at s.is in
+        let done : trees ps ss ≡ joined_all (trees ps₀ ss₀) (use_links edges spans uses) = rw (every, last) at s.is in
         (ap (λ (t : Trees). t.parents) done, ap (λ (t : Trees). t.sizes) done)

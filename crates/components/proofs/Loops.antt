@@ -6,8 +6,7 @@ use native.Mathlib.Nat.{le_of_suc-le-suc, not-suc-le-zero}
 use native.Mathlib.Omega.{arith}
 use lib.ListN.{drop, get_or, length, length-append, length-replicate, replicate, set, take}
 use lib.Seq.{length-sets, sets, take_all}
-use Rattle.components.specs.Pairs.{Rooted, owners, roots_of}
-use Rattle.groups.proofs.Climbing.{climbs_in}
+use Rattle.components.specs.Pairs.{owners, roots_of}
 use Rattle.groups.specs.Forest.{root_of}
 use Rattle.lists.proofs.Flat.{get_d_tabulate}
 use Rattle.lists.proofs.Laws.{length_tabulate}
@@ -52,19 +51,12 @@ owners_next b (n ∷ ns) (suc k) h =
     ∙ sym (append_assoc (replicate n b) (owners (suc b) (take k ns)) (replicate (get_or ns k 0) (suc b + k))))
 
 -- ---- the roots
-module _ (parents : List ℕ) (first n : ℕ) (out : List ℕ) (r : Rooted parents first n out) where
-  pub roots_room : 0 + length (roots_of parents first n) ≤ length out
-  roots_room = omega (arith, r.room, length_tabulate n (λ (k : ℕ). root_of parents (first + k)))
+module _ (parents : List ℕ) (first n : ℕ) where
+  pub roots_room : (out : List ℕ) → n ≤ length out → 0 + length (roots_of parents first n) ≤ length out
+  roots_room out h = omega (arith, length_tabulate n (λ (k : ℕ). root_of parents (first + k)))
 
-  module _ (k : ℕ) (h : k < n) where
-    pub roots_in : first + k < 1536
-    roots_in = omega (arith, climbs_in parents (first + k) (r.climbs k h), r.long)
-
-    pub roots_low : root_of parents (first + k) < 1536
-    roots_low = omega (arith, (r.climbs k h).inside (length parents), r.long)
-
-    pub root_at : (v : ℕ) → v ≡ root_of parents (first + k) → v ≡ get_or (roots_of parents first n) k 0
-    root_at v e = e ∙ sym (get_d_tabulate n (λ (j : ℕ). root_of parents (first + j)) k 0 h)
+  pub root_at : (k : ℕ) → k < n → (v : ℕ) → v ≡ root_of parents (first + k) → v ≡ get_or (roots_of parents first n) k 0
+  root_at k h v e = e ∙ sym (get_d_tabulate n (λ (j : ℕ). root_of parents (first + j)) k 0 h)
 
 pub roots_long : (parents : List ℕ) (first n : ℕ) → length (roots_of parents first n) ≡ n
 roots_long parents first n = length_tabulate n (λ (k : ℕ). root_of parents (first + k))

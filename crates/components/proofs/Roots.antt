@@ -3,24 +3,23 @@ use Prim.Native.Nat.{◌+◌, ◌<◌, ◌≤◌, ℕ}
 use mathlib.Core.List.{List, Memᴰ, [], map}
 use mathlib.Core.Path.{◌∙◌, ◌≡◌, ap, sym}
 use native.Mathlib.Omega.{arith}
-use lib.ListN.{drop, get_or, length, length-append, length-drop, length-replicate, replicate, take}
+use lib.ListN.{get_or, length, length-replicate, replicate, take}
 use lib.Seq.{length-sets, sets}
 use Rattle.components.proofs.Loops.{roots_long}
 use Rattle.components.proofs.Members.{of_use_links}
 use Rattle.components.proofs.Theorem.{roots_same}
-use Rattle.components.specs.Pairs.{Linkable, Paired, Rooted, pair_roots, use_links, use_trees}
+use Rattle.components.specs.Pairs.{Linkable, Paired, pair_roots, use_links, use_trees}
 use Rattle.edge.specs.Uses.{edge_number}
-use Rattle.groups.proofs.All.{joined_all_long}
 use Rattle.groups.proofs.Climbing.{root_below}
-use Rattle.groups.proofs.Laws.{grouped_all, grouped_climbs, grouped_start}
+use Rattle.groups.proofs.Laws.{grouped_all, grouped_start}
 use Rattle.groups.proofs.Members.{all_member}
 use Rattle.groups.specs.Forest.{Grouped, root_of, started}
 use Rattle.groups.specs.Groups.{Inside, same_group}
 use Rattle.lists.proofs.Count.{All, all_at, all_each, all_map, all_split}
 use Rattle.lists.proofs.Flat.{get_d_tabulate}
-use Rattle.lists.proofs.Laws.{length_split, length_tabulate}
+use Rattle.lists.proofs.Laws.{length_split}
 use Rattle.lists.proofs.Sets.{take_sets}
-use Rattle.lists.specs.Lists.{flat, split, tabulate}
+use Rattle.lists.specs.Lists.{flat, split}
 use Rattle.sequence.proofs.Loops.{key_groups_few, key_groups_long}
 use Rattle.sequence.proofs.Only.{groups_same}
 use Rattle.sequence.specs.Keys.{Keyed, key_groups, named, same_key}
@@ -52,28 +51,17 @@ module _ (spans uses : List ℕ) (edges : ℕ) (u : Linkable spans uses edges) w
   use_grouped ps ss = grouped_all n [] (use_links edges spans uses) (started n ps ss) (grouped_start n ps ss few) inside
 
   -- ---- the roots
-  module _ (ps ss ps' : List ℕ) (made : ps' ≡ (use_trees edges spans uses ps ss).parents) where
-    pub roots_ready : length ps ≡ 1536 → (keys : List ℕ) → length spans ≤ length keys → Rooted ps' edges (length spans) keys
-    roots_ready l keys h = record {
-      long = ap length made ∙ (joined_all_long (started n ps ss) (use_links edges spans uses)).0 ∙ started_long;
-      room = h;
-      climbs = λ k o. rw made (grouped_climbs n (use_links edges spans uses) _ _ (use_grouped ps ss) (edges + k) (omega arith));
-    }
-      where
-        started_long : length (started n ps ss).parents ≡ 1536
-        started_long = omega (arith, l, u.low, u.few, length-append (tabulate n (λ (k : ℕ). k)) (drop n ps), length_tabulate n (λ (k : ℕ). k), length-drop n ps)
-
   abbrev keys : List ℕ
   keys = pair_roots edges spans uses
 
   abbrev top : List ℕ
-  top = (use_trees edges spans uses (replicate 1536 0) (replicate 1536 0)).parents
+  top = (use_trees edges spans uses (replicate 2048 0) (replicate 2048 0)).parents
 
   abbrev weights : List ℕ
-  weights = (use_trees edges spans uses (replicate 1536 0) (replicate 1536 0)).sizes
+  weights = (use_trees edges spans uses (replicate 2048 0) (replicate 2048 0)).sizes
 
   grouped : Grouped n (use_links edges spans uses) top weights
-  grouped = use_grouped (replicate 1536 0) (replicate 1536 0)
+  grouped = use_grouped (replicate 2048 0) (replicate 2048 0)
 
   keys_long : length keys ≡ length spans
   keys_long = roots_long top edges (length spans)

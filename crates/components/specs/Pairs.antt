@@ -1,7 +1,7 @@
 -- Pairs and edges as members of one forest: edge e is member e, pair k is member `edges` + k, and a pair is linked with each edge that it uses.
 use Rattle.std.specs.Prelude.{◌+◌, ◌<◌, ◌≤◌, suc, ℕ, List, [], ◌++◌, ◌∷◌, map, ◌≡◌, get_or, length, replicate}
 use Rattle.edge.specs.Uses.{edge_number}
-use Rattle.groups.specs.Forest.{Climbs, Trees, joined_all, root_of, started}
+use Rattle.groups.specs.Forest.{Trees, joined_all, root_of, started}
 use Rattle.groups.specs.Groups.{Link, links}
 use Rattle.lists.specs.Lists.{sum, tabulate}
 
@@ -32,13 +32,7 @@ roots_of parents first n = tabulate n (λ (k : ℕ). root_of parents (first + k)
 
 -- the root of each pair
 abbrev pub pair_roots : ℕ → List ℕ → List ℕ → List ℕ
-pair_roots edges spans uses = roots_of (use_trees edges spans uses (replicate 1536 0) (replicate 1536 0)).parents edges (length spans)
-
--- members whose roots can be written
-pub record Rooted (parents : List ℕ) (first n : ℕ) (out : List ℕ) : Type 0 where
-  pub long : length parents ≡ 1536
-  pub room : n ≤ length out
-  pub climbs : (k : ℕ) → k < n → Climbs parents (first + k)
+pair_roots edges spans uses = roots_of (use_trees edges spans uses (replicate 2048 0) (replicate 2048 0)).parents edges (length spans)
 
 -- at most 512 pairs, the number of uses that each shows, and these uses one after the other, of at most 1,024 edges
 pub record Linkable (spans uses : List ℕ) (edges : ℕ) : Type 0 where

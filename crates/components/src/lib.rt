@@ -3,52 +3,47 @@
 // pair; pairs with the same root are a component.
 #![tactic(auto)]
 
-ghost use Rattle.std.specs.Prelude.{◌≡◌, map, ◌<◌, ◌≤◌, length, take};
+ghost use Rattle.std.specs.Prelude.{◌≡◌, map, ◌+◌, ◌<◌, ◌≤◌, length, take};
 ghost use Rattle.std.proofs.lemmas.List.Edits.{sets};
 ghost use Rattle.lists.specs.Lists.{flat, split};
-ghost use Rattle.groups.specs.Forest.{Forest, joined_all, trees};
+ghost use Rattle.groups.specs.OfGroups.{Joined};
 ghost use Rattle.sequence.specs.Keys.{Keyed, key_groups};
 ghost use Rattle.shell.specs.Components.{components_of};
-ghost use Rattle.components.specs.Pairs.{Linkable, member_links, Paired, pair_roots, Rooted, roots_of, use_trees, Within};
+ghost use Rattle.components.specs.Pairs.{Linkable, member_links, Paired, pair_roots, roots_of, use_links, Within};
 
-use groups::{find, join, start};
+use groups::Groups;
 use sequence::groups_by;
-use words::index;
 
 // Joins the edge of each use of a part with a member.
-fn join_part(parents: &mut [u16], sizes: &mut [u16], n: usize, part: &[u16], member: usize)
-    requires { Forest n parents.old sizes.old × Within n part.now × (member < n) }
-    ensures parents_after { parents.new ≡ (joined_all (trees parents.old sizes.old) (member_links member part.now)).parents }
-    ensures sizes_after { sizes.new ≡ (joined_all (trees parents.old sizes.old) (member_links member part.now)).sizes }
+fn join_part(groups: &mut Groups, part: &[u16], member: usize)
+    requires { Within groups.old.count part.now × (member < groups.old.count) }
+    ensures { Joined (member_links member part.now) groups.old groups.new }
 {
     for &u in part {
-        join(parents, sizes, index(u % 32768), member);
+        groups.join(usize::from(u % 32768), member);
     }
 }
 
-// Makes the forest of the edges and the pairs, where each use joins its edge and its pair.
-fn link_uses(parents: &mut [u16], sizes: &mut [u16], spans: &[u16], uses: &[u16], edges: usize)
-    requires { Linkable spans.now uses.now edges × ((length parents.old ≡ 1536) × (length sizes.old ≡ 1536)) }
-    ensures parents_after { parents.new ≡ (use_trees edges spans.now uses.now parents.old sizes.old).parents }
-    ensures sizes_after { sizes.new ≡ (use_trees edges spans.now uses.now parents.old sizes.old).sizes }
+// Joins the edge of each use with its pair.
+fn link_uses(groups: &mut Groups, spans: &[u16], uses: &[u16], edges: usize)
+    requires { Linkable spans.now uses.now edges × (groups.old.count ≡ edges + length spans.now) }
+    ensures { Joined (use_links edges spans.now uses.now) groups.old groups.new }
 {
-    let n = edges + spans.len();
-    start(parents, sizes, n);
     let mut at: usize = 0;
     for (k, &m) in spans.iter().enumerate() {
-        let m = index(m);
-        join_part(parents, sizes, n, &uses[at..at + m], edges + k);
+        let m = usize::from(m);
+        join_part(groups, &uses[at..at + m], edges + k);
         at += m;
     }
 }
 
 // Writes the roots of n members, from member `first` on.
-fn put_roots(out: &mut [u16], parents: &[u16], first: usize, n: usize)
-    requires { Rooted parents.now first n out.old }
-    ensures { out.new ≡ sets out.old 0 (roots_of parents.now first n) }
+fn put_roots(out: &mut [u16], groups: &Groups, first: usize, n: usize)
+    requires { (first + n ≤ groups.now.count) × (n ≤ length out.old) }
+    ensures { out.new ≡ sets out.old 0 (roots_of groups.now.parents first n) }
 {
     for k in 0..n {
-        out[k] = find(parents, first + k) as u16;
+        out[k] = groups.root(first + k) as u16;
     }
 }
 
@@ -57,10 +52,10 @@ fn put_keys(keys: &mut [u16], spans: &[u16], uses: &[u16], edges: usize)
     requires { Linkable spans.now uses.now edges × (length spans.now ≤ length keys.old) }
     ensures { keys.new ≡ sets keys.old 0 (pair_roots edges spans.now uses.now) }
 {
-    let mut parents = [0u16; 1536];
-    let mut sizes = [0u16; 1536];
-    link_uses(&mut parents, &mut sizes, spans, uses, edges);
-    put_roots(keys, &parents, edges, spans.len());
+    let mut groups = Groups::new();
+    groups.start(edges + spans.len());
+    link_uses(&mut groups, spans, uses, edges);
+    put_roots(keys, &groups, edges, spans.len());
 }
 
 // The groups of the names by as many keys.

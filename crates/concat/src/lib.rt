@@ -17,7 +17,6 @@ use errors::CallError;
 use store::{Spans, Tables, counts_in, edge_in, store_count, store_edge, tables_known};
 use store_check::check;
 use vertex::VertexID;
-use words::index;
 
 // The vertex that use u of an edge begins at.
 fn use_front(d: Edge, u: u16) -> VertexID
@@ -75,8 +74,8 @@ fn concat_uses(t: &Tables, spans: &Spans, u: u16, v: u16) -> Result<Edge, EditEr
     tables_known(t);
     let counts = counts_in(t);
     let edges = counts[1];
-    let i = index(u % 32768);
-    let j = index(v % 32768);
+    let i = usize::from(u % 32768);
+    let j = usize::from(v % 32768);
     if i >= edges {
         return Err(EditError::Unnamed);
     }

@@ -28,19 +28,16 @@ four_at (suc k) (suc i) xs h =
 
 -- the fours of a part
 module _ (part : List ℕ) (fours : List (List ℕ)) (i : ℕ) (front : fours ≡ first_chunks 4 (length part / 4) part) (long : length fours ≡ length part / 4) (here : i < length fours) where
-  here_is : get_or fours i [] ≡ take 4 (drop (4 * i) part)
-  here_is = rw front (four_at (length part / 4) i part (omega arith))
+  pub four_is : get_or fours i [] ≡ take 4 (drop (4 * i) part)
+  four_is = rw front (four_at (length part / 4) i part (omega arith))
 
-  pub four_long : length (get_or fours i []) ≡ 4
-  four_long = omega (arith, ap length here_is, length-take 4 (drop (4 * i) part), length-drop (4 * i) part)
-
-  pub four_is : take 4 (get_or fours i []) ≡ take 4 (drop (4 * i) part)
-  four_is = take_all 4 (get_or fours i []) (omega (arith, four_long)) ∙ here_is
+  four_long : length (get_or fours i []) ≡ 4
+  four_long = omega (arith, ap length four_is, length-take 4 (drop (4 * i) part), length-drop (4 * i) part)
 
   pub four_below : EdgesBelow 1024 part → EdgesBelow 1024 (get_or fours i [])
   four_below below j h =
       let h' : j < 4 = omega (arith, four_long) in
-      let e : get_or (get_or fours i []) j 0 ≡ get_or part (4 * i + j) 0 = rw (here_is, get_or-take 4 (drop (4 * i) part) j 0 h') (get_or-drop (4 * i) part j 0) in
+      let e : get_or (get_or fours i []) j 0 ≡ get_or part (4 * i + j) 0 = rw (four_is, get_or-take 4 (drop (4 * i) part) j 0 h') (get_or-drop (4 * i) part j 0) in
       rw e (below (4 * i + j) (omega arith))
 
 module _ (part : List ℕ) where
@@ -52,11 +49,15 @@ module _ (part : List ℕ) where
   unfolding inserted_all
   next_one t i l = rw (from_on i (i + 1) l refl)
 
-  pub next_four : (t a b c d : Tally) (i : ℕ) → i + 4 ≤ length part → a ≡ inserted t (get_or part i 0) → b ≡ inserted a (get_or part (i + 1) 0) → c ≡ inserted b (get_or part (i + 2) 0)
+  next_four : (t a b c d : Tally) (i : ℕ) → i + 4 ≤ length part → a ≡ inserted t (get_or part i 0) → b ≡ inserted a (get_or part (i + 1) 0) → c ≡ inserted b (get_or part (i + 2) 0)
       → d ≡ inserted c (get_or part (i + 3) 0) → d ≡ inserted_all t (take 4 (drop i part))
   unfolding inserted_all
   next_four t a b c d i l p q r s =
       rw (s, r, q, p, from_on i (i + 1) (omega arith) refl, from_on (i + 1) (i + 2) (omega arith) (omega arith), from_on (i + 2) (i + 3) (omega arith) (omega arith), from_on (i + 3) (i + 4) (omega arith) (omega arith))
+
+  pub all_four : (t a b c d : Tally) → length part ≡ 4 → a ≡ inserted t (get_or part 0 0) → b ≡ inserted a (get_or part 1 0) → c ≡ inserted b (get_or part 2 0)
+      → d ≡ inserted c (get_or part 3 0) → d ≡ inserted_all t part
+  all_four t a b c d l p q r s = next_four t a b c d 0 (omega (arith, l)) p q r s ∙ ap (inserted_all t) (take_all 4 part (omega (arith, l)))
 
   -- the tally t₀ after the part is the tally t after the uses from place i on
   pub record Inserting (t₀ t : Tally) (i : ℕ) : Type 0 where

@@ -1,7 +1,7 @@
 // The condition of a shell, and the tally of its uses (shell.rs: ShellCondition, Boundaries).
 #![tactic(auto)]
 
-ghost use Rattle.std.specs.Prelude.{◌≡◌, ℕ, ◌%◌, ◌+◌, ◌-◌, ◌<◌, ◌≤◌, min, eqb, drop, length, replicate, take};
+ghost use Rattle.std.specs.Prelude.{◌≡◌, ℕ, ◌%◌, ◌+◌, ◌-◌, ◌<◌, ◌≤◌, min, replicate};
 ghost use Rattle.edge.specs.Uses.{edge_number};
 ghost use Rattle.condition.specs.Tallies.{condition_in, digit, inserted, inserted_all, least, next_state, odds_in, use_condition, with_digit};
 ghost use Rattle.edge.specs.Below.{EdgesBelow};
@@ -63,16 +63,16 @@ impl Tally {
     }
 }
 
-// The tally after the four uses of a part from place i on, in sequence. Compiled, the tally is moved
-// once for the four: use by use it took more than twice as long.
-fn insert_four(t: Tally, part: &[u16], i: usize) -> Tally
-    requires { (i + 4 ≤ length part.now) × EdgesBelow 1024 part.now }
-    ensures { result ≡ inserted_all t (take 4 (drop i part.now)) }
+// The tally after four uses, in sequence. Compiled, the tally is moved once for the four: use by use it
+// took more than twice as long.
+fn insert_four(t: Tally, four: &[u16; 4]) -> Tally
+    requires { EdgesBelow 1024 four.now }
+    ensures { result ≡ inserted_all t four.now }
 {
-    t.insert(part[i])
-        .insert(part[i + 1])
-        .insert(part[i + 2])
-        .insert(part[i + 3])
+    t.insert(four[0])
+        .insert(four[1])
+        .insert(four[2])
+        .insert(four[3])
 }
 
 // The tally after the uses of a part, in sequence.
@@ -82,7 +82,7 @@ pub fn tally_part(mut t: Tally, part: &[u16]) -> Tally
 {
     let (fours, rest) = part.as_chunks::<4>();
     for four in fours {
-        t = insert_four(t, four, 0);
+        t = insert_four(t, four);
     }
     for &u in rest {
         t = t.insert(u);

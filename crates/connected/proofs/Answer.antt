@@ -13,15 +13,15 @@ use Rattle.lists.specs.Lists.{flat, padded, split, sum}
 use Rattle.edge.specs.Uses.{back_of, front_of}
 use Rattle.groups.proofs.All.{Pairs}
 use Rattle.groups.proofs.Alike.{Under, member_at, of_flat_map}
-use Rattle.groups.proofs.Laws.{grouped_begin, grouped_climbs, grouped_links, grouped_more}
+use Rattle.groups.proofs.Laws.{grouped_begin, grouped_links, grouped_more}
 use Rattle.groups.proofs.Meaning.{of_each}
 use Rattle.groups.proofs.Rooting.{one_root_is}
-use Rattle.groups.specs.Forest.{Climbs, Grouped, joined_all, one_root, started, trees}
+use Rattle.groups.specs.Forest.{Grouped, joined_all, one_root, started, trees}
 use Rattle.groups.specs.Groups.{Inside, Link, links, one_group}
 use Rattle.shell.specs.Connected.{connected_of, first_points}
 use Rattle.connected.proofs.Loops.{below_part, ended_pairs, inside_neighbours}
 use Rattle.connected.proofs.Theorem.{Placed, connected_apart, under_firsts}
-use Rattle.connected.specs.Wired.{Begins, Ends, Linkable, Wired, neighbours}
+use Rattle.connected.specs.Wired.{Started, Linkable, Wired, neighbours}
 
 -- ---- lists
 module _ {A : Type 0} where
@@ -77,11 +77,6 @@ module _ {n : ℕ} {uses fronts backs firsts counts : List ℕ} (l : Linkable n 
       → one_root ps (map (front_of fronts backs) uses) ≡ one_group n (links (map (front_of fronts backs) uses) (map (back_of fronts backs) uses) ++ flat (map neighbours (split counts firsts))) (map (front_of fronts backs) uses)
   tree_answer {ps} {ss} g = one_root_is n (links (map (front_of fronts backs) uses) (map (back_of fronts backs) uses) ++ face_neighbours) ps ss g fs (λ k h. (pairs.1 k h).0)
 
-  -- every use begins at a point, and the way up from it comes to a root
-  pub tree_roots : {L : List Link} {ps ss : List ℕ} → Grouped n L ps ss → (k : ℕ) → k < length uses
-      → Begins fronts backs (get_or uses k 0) × Climbs ps (front_of fronts backs (get_or uses k 0))
-  tree_roots g k h = (l.ended.each k h, grouped_climbs _ _ _ _ g _ (l.ended.starts k h))
-
 -- ---- what `connected_of` calls ask, and its answer
 module _ {uses lens counts fronts backs : List ℕ} {points : ℕ} (w : Wired uses lens counts fronts backs points) where
   abbrev front : ℕ → ℕ
@@ -96,7 +91,7 @@ module _ {uses lens counts fronts backs : List ℕ} {points : ℕ} (w : Wired us
   abbrev faces : List (List (List ℕ))
   faces = split counts wires
 
-  pub wired_fronts : Ends uses fronts backs
+  pub wired_fronts : Started uses fronts backs
   wired_fronts = record {
     few = w.few;
     each = λ k h. record { front = w.edges k h; back = omega (arith, w.edges k h, w.paired); low = omega (arith, w.starts k h, w.low) };

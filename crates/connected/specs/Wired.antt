@@ -11,7 +11,7 @@ pub record Begins (fronts backs : List ℕ) (u : ℕ) : Type 0 where
   pub low : front_of fronts backs u < 65536
 
 -- every use begins at a point
-pub record Ends (uses fronts backs : List ℕ) : Type 0 where
+pub record Started (uses fronts backs : List ℕ) : Type 0 where
   pub few : length uses ≤ 8192
   pub each : (k : ℕ) → k < length uses → Begins fronts backs (get_or uses k 0)
 

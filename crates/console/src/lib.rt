@@ -153,28 +153,19 @@ pub fn read_input(rt: &HostRuntime, input: &[u8], bytes: &mut [u8]) -> io::Resul
 }
 
 // The first n bytes, or nothing where there are fewer. Whether all was written.
+// A length beside the bytes: what writes a text says that its length is n, and not that the list holds it; so that is looked at here.
 pub fn print_first(to: &impl Print, bytes: &[u8], n: usize) -> io::Result<()> {
-    if n > bytes.len() {
-        return Err(io::Error::from(io::ErrorKind::InvalidInput));
+    match bytes.get(..n) {
+        Some(first) => to.write_all(first),
+        None => Err(io::Error::from(io::ErrorKind::InvalidInput)),
     }
-    to.write_all(&bytes[0..n])
 }
 
 // The line of a refusal, `output::refusal_line`. Whether all of it was written.
 pub fn print_refusal(to: &impl Print, f: Refusal) -> io::Result<()> {
     let mut line = [0u8; 96];
     let length = output::refusal_line(f, &mut line);
-    to.write_all(&line[0..length])
-}
-
-// The first n bytes of a report, or nothing where there are fewer. Whether all was written.
-pub fn print_report(to: &impl Print, text: &[u8; 1126400], n: usize) -> io::Result<()> {
-    print_first(to, text, n)
-}
-
-// The first n bytes of an answer to a job, or nothing where there are fewer. Whether all was written.
-pub fn print_answer(to: &impl Print, text: &[u8; 65536], n: usize) -> io::Result<()> {
-    print_first(to, text, n)
+    to.write_all(&line[..length])
 }
 
 // Argument k, of at most 64 bytes.
@@ -210,4 +201,59 @@ pub fn read_argument(rt: &HostRuntime, k: usize, bytes: &mut [u8]) -> usize
         Ok(mut file) => read_full(&mut file, bytes),
         Err(_) => 0,
     }
+}
+
+// A line without the line feed at its end.
+pub fn without_feed(line: &[u8]) -> &[u8] {
+    line.strip_suffix(b"\n").unwrap_or(line)
+}
+
+// For each argument prints a line with its name, and then what `tell` prints of the file that it names.
+pub fn each_file<F: FnMut(&mut File) -> io::Result<()>>(
+    rt: &HostRuntime,
+    mut tell: F,
+) -> io::Result<()>
+    requires { (f : _) (x : _) → F.pre f x }
+{
+    for k in 1..arg_count(rt) {
+        print_file_line(rt, k)?;
+        match open_argument(rt, k) {
+            Ok(mut file) => tell(&mut file)?,
+            Err(_) => rt.write_all(b"not found\n")?,
+        }
+    }
+    Ok(())
+}
+
+// The same of the bytes of each file, as many as the lent list takes.
+pub fn each_content<F: FnMut(&[u8]) -> io::Result<()>>(
+    rt: &HostRuntime,
+    bytes: &mut [u8],
+    mut tell: F,
+) -> io::Result<()>
+    requires { (f : _) (x : _) → F.pre f x }
+{
+    each_file(rt, |file| {
+        let n = read_full(file, bytes);
+        tell(&bytes[..n])
+    })
+}
+
+// For each pair of arguments prints a line with the name of the first, and then what `tell` prints of the bytes of the file
+// that it names, as many as the lent list takes, and of the lines of the file that the second names.
+pub fn each_pair<F: FnMut(&[u8], &[u8]) -> io::Result<()>>(
+    rt: &HostRuntime,
+    bytes: &mut [u8],
+    mut tell: F,
+) -> io::Result<()>
+    requires { F.IsAlwaysCallable tell }
+{
+    let mut lines = [0u8; 16384];
+    for k in (2..arg_count(rt)).step_by(2) {
+        print_file_line(rt, k - 1)?;
+        let n = read_argument(rt, k - 1, bytes);
+        let m = read_argument(rt, k, &mut lines);
+        tell(&bytes[..n], &lines[..m])?;
+    }
+    Ok(())
 }

@@ -9,7 +9,7 @@ use mathlib.Core.List.{List, [], ◌++◌, ◌∷◌, map}
 use mathlib.Core.Path.{◌∙◌, ◌≡◌, ap, refl, sym}
 use native.Mathlib.Omega.{arith}
 use lib.Dec.{leb, ltb}
-use lib.ListN.{get_or-append, get_or, length, length-map, replicate, take}
+use lib.ListN.{get_or-append, get_or, length, length-map, replicate}
 use borrow.Author.Tests.{leb-true, ltb-true}
 use Rattle.curve.specs.Curves.{cut_curve}
 use Rattle.curve.specs.declared.Parameter.{Parameter}
@@ -28,7 +28,7 @@ use Rattle.errors.proofs.Laws.{none_left, none_right, unless_passes}
 use Rattle.errors.specs.Faults.{first}
 use Rattle.errors.specs.declared.Refusal.{Refusal}
 use Rattle.lists.proofs.Flat.{get_d_tabulate}
-use Rattle.lists.proofs.Laws.{left_true, length_split, length_tabulate, map_tabulate, map_take, right_true}
+use Rattle.lists.proofs.Laws.{left_true, length_split, length_tabulate, map_tabulate, right_true}
 use Rattle.lists.proofs.Parts.{flat_split}
 use Rattle.lists.specs.Lists.{flat, has, numbers, pick, unless}
 use Rattle.pattern.proofs.Counts.{edges_counted, points_counted, shells_counted, uses_counted}
@@ -124,12 +124,10 @@ module _ (p : Pattern) (s : Fine p) (n e v : ℕ) (at : Parameter) where
       ∙ rw (map_tabulate f m (λ (k : ℕ). k)) (get_d_tabulate m f w false h)
 
   abbrev met : Bool
-  met = has v (points (take a (map front_number p.edges)) (take a (map back_number p.edges)) (uses_where flags 0 wires))
+  met = has v (points (map front_number (content p).edges) (map back_number (content p).edges) (uses_where flags 0 wires))
 
   met_is : has v (map (front_in (content p)) (uses_in (content p) n)) ≡ met
-  met_is =
-      uses_flagged flags (front_in (content p)) v (wires_of (content p) n) wires flag_is
-      ∙ rw (map_take front_number a p.edges, map_take back_number a p.edges)
+  met_is = uses_flagged flags (front_in (content p)) v (wires_of (content p) n) wires flag_is
 
   edge_is : has e (map edge_number (uses_in (content p) n)) ≡ ltb 0 (cuts_where flags e 0 wires)
   edge_is = uses_flagged flags edge_number e (wires_of (content p) n) wires flag_is ∙ cuts_has flags e 0 wires

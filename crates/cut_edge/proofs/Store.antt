@@ -1,7 +1,7 @@
 -- The cut of a pattern that is in the store.
 use Rattle.errors.specs.declared.CallError.TheVariants.{Refused}
 use Rattle.std.specs.Prelude.{Err, Ok, Option, Result, Some}
-use Prim.Native.Nat.{ℕ, suc, zero, ◌+◌, ◌-◌, ◌<◌, ◌≤◌}
+use Prim.Native.Nat.{ℕ, suc, zero, ◌+◌, ◌<◌, ◌≤◌}
 use mathlib.Core.Bool.{Bool, ◌&&◌, true}
 use mathlib.Core.List.{List, [], ◌∷◌, map}
 use mathlib.Core.Path.{◌≡◌, ◌∙◌, ap, refl, sym}
@@ -10,7 +10,7 @@ use native.Mathlib.Omega.{arith}
 use lib.Dec.{ltb}
 use lib.Ieee.{Float}
 use lib.ListN.{get_or, length, length-map, length-replicate, replicate, set, take}
-use lib.Seq.{length-sets, length-take-le, sets}
+use lib.Seq.{length-sets, sets}
 use borrow.Author.Tests.{lt-ltb}
 use Rattle.curve.specs.Curves.{cut_curve}
 use Rattle.curve.specs.declared.Parameter.{Parameter}
@@ -29,25 +29,29 @@ use Rattle.lists.proofs.Flat.{get_d_tabulate}
 use Rattle.lists.proofs.Laws.{length_split}
 use Rattle.lists.proofs.Sets.{take_sets}
 use Rattle.lists.specs.Lists.{flat, has, split, sum}
-use Rattle.pattern.specs.Checks.{pattern_faults}
+use Rattle.pattern.proofs.Counts.{edges_counted, uses_counted, wires_counted}
+use Rattle.pattern.proofs.Named.{wires_summed}
+use Rattle.pattern.specs.Checks.{count_faults, pattern_faults}
+use Rattle.pattern.specs.declared.Lists.{Lists}
 use Rattle.pattern.specs.Contents.{Pattern, content}
 use Rattle.shell_edits.proofs.CutTheorem.{cut_pattern_accepted}
 use Rattle.shell_edits.proofs.Wires.{each_long}
 use Rattle.shell_edits.specs.Answers.{after_cut, cut_answer}
 use Rattle.shell_edits.specs.Edits.{cut_faults, cut_wires, each_wire, edge_at}
 use Rattle.shell_edits.specs.NewEdges.{half_edges}
-use Rattle.shell_wires.proofs.Facts.{Fine, uses_named, wires_sum}
-use Rattle.shell_wires.proofs.Held.{held_fine, held_listed}
-use Rattle.shell_wires.specs.Lent.{Listed}
+use Rattle.shell_wires.proofs.Facts.{Fine, records_fine, uses_named}
+use Rattle.shell_wires.proofs.Held.{held_counts, held_fine}
+use Rattle.shell_wires.proofs.Made.{edges_few}
+use Rattle.shell_wires.specs.Lent.{Lent}
 use Rattle.shell_wires.specs.ShellWires.{marks_of}
 use Rattle.shell_wires.specs.declared.Marks.{Marks}
 use Rattle.store.proofs.Parts.{part_at, part_long}
 use Rattle.store.proofs.View.{held_backs, held_fronts}
-use Rattle.store.specs.Store.{count_table, edge_in, held, listing_table, shell_table, use_table, wire_table}
+use Rattle.store.specs.Store.{count_table, edge_in, held, use_table, wire_table}
 use Rattle.vertex.specs.declared.VertexID.{VertexID}
 use Rattle.wire.specs.Named.{Named}
 use Rattle.wire.specs.Wires.{points}
-use Rattle.store.specs.Columns.{back_table, face_table, front_table, with_counts, with_edges, with_uses, with_wires}
+use Rattle.store.specs.Columns.{back_table, counted, front_table, with_counts, with_edges, with_uses, with_wires}
 
 map_set {ℓ} : {A B : Type ℓ} (f : A → B) (l : List A) (i : ℕ) (x : A) → map f (set l i x) ≡ set (map f l) i (f x)
 map_set f [] i x = refl
@@ -79,16 +83,14 @@ pub record Written (ws : List (List ℕ)) (wired total : ℕ) (out sizes : List 
   pub wide : length sizes ≡ 1024
   pub size : total ≡ length (flat ws)
   pub wired_all : length (map length ws) ≡ wired
-  pub uses : take (total - 0) out ≡ flat ws
-  pub wires : take (wired - 0) sizes ≡ map length ws
+  pub uses : take total out ≡ flat ws
+  pub wires : take wired sizes ≡ map length ws
 
 written : (ws : List (List ℕ)) (wired total : ℕ) (out sizes : List ℕ) → length (map length ws) ≡ wired → wired ≤ 1024 → length (flat ws) ≤ 4096
     → total ≡ length (flat ws) → out ≡ sets (replicate 4096 0) 0 (flat ws) → sizes ≡ sets (replicate 1024 0) 0 (map length ws) → Written ws wired total out sizes
 written ws wired total out sizes hw few₁ few₂ ht ho hs =
     let zeros = length-replicate {A = ℕ} 4096 0 in
     let zeros' = length-replicate {A = ℕ} 1024 0 in
-    let z : total - 0 ≡ total = omega arith in
-    let z' : wired - 0 ≡ wired = omega arith in
     record {
       few = omega arith;
       long = ap length ho ∙ length-sets {A = ℕ} (replicate 4096 0) 0 (flat ws) ∙ zeros;
@@ -96,8 +98,8 @@ written ws wired total out sizes hw few₁ few₂ ht ho hs =
       wide = ap length hs ∙ length-sets {A = ℕ} (replicate 1024 0) 0 (map length ws) ∙ zeros';
       size = ht;
       wired_all = hw;
-      uses = rw (z, ho) (take_sets (replicate 4096 0) (flat ws) total (sym ht) (omega arith));
-      wires = rw (z', hs) (take_sets (replicate 1024 0) (map length ws) wired hw (omega arith));
+      uses = rw ho (take_sets (replicate 4096 0) (flat ws) total (sym ht) (omega arith));
+      wires = rw hs (take_sets (replicate 1024 0) (map length ws) wired hw (omega arith));
     }
 
 -- a store that holds a pattern without fault
@@ -118,34 +120,17 @@ module _ {t : List ℕ} {spans : List Float} (sound : Sound t spans) where
   abbrev a : ℕ
   a = get_or (count_table t) 1 0
 
-  abbrev u : ℕ
-  u = get_or (count_table t) 2 0
-
-  abbrev w : ℕ
-  w = get_or (count_table t) 3 0
-
   pub sound_fine : Fine P
   sound_fine = held_fine t spans sound.long sound.ok
 
-  pub sound_listed : Listed P (count_table t) (face_table t) (shell_table t) (listing_table t)
-  sound_listed = held_listed t spans sound.long sound.ok
+  pub sound_counts : count_faults (count_table t) ≡ []
+  sound_counts = held_counts t spans sound.long sound.ok
 
   pub held_edge_at : (e : ℕ) → e < a → edge_in t spans e ≡ edge_at (content P) e
   held_edge_at e h = sym (edge_at_lem P sound_fine e h ∙ get_d_tabulate 1024 (edge_in t spans) e no_edge (omega (arith, h, sound_fine.limits.edges)))
 
-  -- what the counts are at most
-  pub held_rooms : (u ≤ length (use_table t)) × (u ≤ 4096) × (w ≤ length (wire_table t)) × (w ≤ 1024) × (a ≤ length (front_table t)) × (a ≤ length (back_table t)) × (a ≤ 1024)
-  held_rooms =
-      let s = sound_fine in
-      let fronts = part_long t 8 1024 (omega (arith, sound.long)) in
-      let backs = part_long t 1032 1024 (omega (arith, sound.long)) in
-      (omega (arith, s.limits.uses, s.full.uses), s.limits.uses, omega (arith, s.limits.wires, s.full.wires), s.limits.wires, omega (arith, s.limits.edges, fronts), omega (arith, s.limits.edges, backs), s.limits.edges)
-
-  held_named : Named (take a (front_table t)) (take a (back_table t)) (take u (use_table t))
+  held_named : Named (take a (front_table t)) (take a (back_table t)) (counted 2 use_table t)
   held_named = rw (held_fronts t spans sound.long, held_backs t spans sound.long) (uses_named P sound_fine)
-
-  held_sum : sum (take w (wire_table t)) ≡ u
-  held_sum = wires_sum P sound_fine
 
   module _ {n e v : ℕ} (at : Parameter) (here : Here t n e v) where
     held_here : (ltb n (get_or (count_table t) 5 0) && ltb e a && ltb v (get_or (count_table t) 0 0)) ≡ true
@@ -165,19 +150,18 @@ module _ {t : List ℕ} {spans : List Float} (sound : Sound t spans) where
     held_after = cut_pattern_accepted P n e v at sound.ok sound_fine.full
 
     module _ {m : Marks} (marked : m ≡ marks_of P n) where
-      -- the tables as they are lent
-      module _ {counts uses wires fronts backs : List ℕ} (hc : counts ≡ count_table t) (hu : uses ≡ use_table t) (hw : wires ≡ wire_table t) (hf : fronts ≡ front_table t) (hb : backs ≡ back_table t) where
-        pub judge_ready : length m.wires ≡ 1024
-            → ((get_or counts 2 0 ≤ length uses) × (get_or counts 2 0 ≤ 4096) × (get_or counts 3 0 ≤ length wires) × (get_or counts 3 0 ≤ length m.wires) × (get_or counts 3 0 ≤ 1024) × (get_or counts 1 0 ≤ length fronts) × (get_or counts 1 0 ≤ length backs) × (get_or counts 1 0 ≤ 1024))
-            × (Named (take (get_or counts 1 0) fronts) (take (get_or counts 1 0) backs) (take (get_or counts 2 0) uses) × (sum (take (get_or counts 3 0) wires) ≡ get_or counts 2 0))
-        judge_ready lf =
-            let r = held_rooms in
-            rw (hc, hu, hw, hf, hb) ((r.0, r.1, r.2, omega (arith, r.3), r.3, r.4, r.5, r.6), (held_named, held_sum))
+      -- the lists as they are lent
+      module _ {lists : Lists} (lent : Lent P lists) where
+        edges_long : length lists.ends.fronts.now ≡ a
+        edges_long = (edges_few P lent).0 ∙ edges_counted P sound_fine.limits sound_fine.full
+
+        uses_long : length lists.uses.now ≡ get_or (count_table t) 2 0
+        uses_long = rw lent.uses_are (uses_counted P sound_fine.limits sound_fine.full)
 
         pub held_judged : {h : Option (Curve × Curve)} {d : Edge} → d ≡ edge_at (content P) e → h ≡ cut_curve d.curve at → {r : Result (Curve × Curve) EditError}
-            → r ≡ judgement (found_faults m.shared (has v (points (take (get_or counts 1 0) fronts) (take (get_or counts 1 0) backs) (uses_where m.wires 0 (split (take (get_or counts 3 0) wires) (take (get_or counts 2 0) uses))))) (cuts_where m.wires e 0 (split (take (get_or counts 3 0) wires) (take (get_or counts 2 0) uses))) h (get_or counts 1 0) (get_or counts 2 0)) h
+            → r ≡ judgement (found_faults m.shared (has v (points lists.ends.fronts.now lists.ends.backs.now (uses_where m.wires 0 (split lists.wires.now lists.uses.now)))) (cuts_where m.wires e 0 (split lists.wires.now lists.uses.now)) h (length lists.ends.fronts.now) (length lists.uses.now)) h
             → r ≡ judgement faults halves
-        held_judged is cut j = j ∙ rw (marked, cut, is, hc, hu, hw, hf, hb, held_fronts t spans sound.long, held_backs t spans sound.long, faults_are P sound_fine n e v at held_here)
+        held_judged is cut j = j ∙ rw (edges_long, uses_long, marked, cut, is, lent.uses_are, lent.wires_are, lent.fronts_are, lent.backs_are, faults_are P sound_fine n e v at held_here)
 
       held_cut : cut_in m.wires e t ≡ cut_wires (content P) n e
       held_cut = rw (marked, wires_are P sound_fine n e v at)
@@ -220,47 +204,51 @@ module _ {t : List ℕ} {spans : List Float} (sound : Sound t spans) where
         held_backs t₂ spans₂ long₂ ∙ ap (λ (q : Pattern). map back_number q.edges) is
         ∙ map_set back_number (set P.edges a h₁) (a + 1) h₂ ∙ rw (map_set back_number P.edges a h₁, ← part_at t 1032 1024 e (omega arith), held_backs t spans sound.long)
 
-    uses_then : use_table t₂ ≡ use_table t
-    uses_then = ap (λ (q : Pattern). q.uses) is
+    uses_then : counted 2 use_table t₂ ≡ counted 2 use_table t
+    uses_then = ap (λ (q : Pattern). (content q).uses) is
 
-    wires_then : wire_table t₂ ≡ wire_table t
-    wires_then = ap (λ (q : Pattern). q.wires) is
+    wires_then : counted 3 wire_table t₂ ≡ counted 3 wire_table t
+    wires_then = ap (λ (q : Pattern). (content q).wires) is
 
-    halves_named : Named (front_table t₂) (back_table t₂) (take u (use_table t₂))
+    pub counts_then : count_faults (count_table t₂) ≡ []
+    counts_then = ap (λ (q : Pattern). count_faults q.counts) is ∙ sound_counts
+
+    halves_named : Named (front_table t₂) (back_table t₂) (counted 2 use_table t₂)
     halves_named =
         rw (fronts_then, backs_then, uses_then)
-        (new_named (front_table t) (back_table t) a e v.0 here room (part_long t 8 1024 (omega (arith, sound.long))) (part_long t 1032 1024 (omega (arith, sound.long))) (take u (use_table t)) held_named)
+        (new_named (front_table t) (back_table t) a e v.0 here room (part_long t 8 1024 (omega (arith, sound.long))) (part_long t 1032 1024 (omega (arith, sound.long))) (counted 2 use_table t) held_named)
 
     halves_are : Halved (front_table t₂) (back_table t₂) e a
     halves_are =
         rw (fronts_then, backs_then)
         (new_halved (front_table t) (back_table t) a e v.0 here room (part_long t 8 1024 (omega (arith, sound.long))) (part_long t 1032 1024 (omega (arith, sound.long))) (omega (arith, sound_fine.limits.points)) (rw (held_fronts t spans sound.long) (front_low P sound_fine e here)) (rw (held_backs t spans sound.long) (back_low P sound_fine e here)))
 
-    -- what writing the wires asks, of the tables as they are lent then
-    module _ (flags : List Bool) {uses wires : List ℕ} (hu : uses ≡ use_table t₂) (hw : wires ≡ wire_table t₂) where
+    -- what writing the wires asks, of the lists as they are lent then
+    module _ (flags : List Bool) {uses wires : List ℕ} (hu : uses ≡ counted 2 use_table t₂) (hw : wires ≡ counted 3 wire_table t₂) where
       abbrev made : List (List ℕ)
-      made = each_wire (cut_flagged flags e (get_or counts 1 0)) 0 (split (take (get_or counts 3 0) wires) (take (get_or counts 2 0) uses))
+      made = each_wire (cut_flagged flags e (get_or counts 1 0)) 0 (split wires uses)
 
       wires_cut : made ≡ cut_in flags e t
       wires_cut = rw (hc, hu, hw, uses_then, wires_then)
 
-      pub wires_ready : {fronts backs : List ℕ} → fronts ≡ front_table t₂ → backs ≡ back_table t₂ → (out sizes : List ℕ) → length flags ≡ 1024 → length out ≡ 4096 → length sizes ≡ 1024 → length (flat (cut_in flags e t)) ≤ 4096
-          → ((get_or counts 2 0 ≤ length uses) × (get_or counts 2 0 ≤ 4096) × (get_or counts 3 0 ≤ length wires) × (get_or counts 3 0 ≤ length flags) × (get_or counts 3 0 ≤ length sizes) × (length out ≤ 4096))
-          × (Named fronts backs (take (get_or counts 2 0) uses) × (Halved fronts backs e (get_or counts 1 0) × ((sum (take (get_or counts 3 0) wires) ≡ get_or counts 2 0) × (length (flat made) ≤ length out))))
-      wires_ready hf hb out sizes lf lo ls few =
-          let r = held_rooms in
-          let us : length uses ≡ length (use_table t) = rw (hu, uses_then) in
-          let ws : length wires ≡ length (wire_table t) = rw (hw, wires_then) in
-          let k2 : get_or counts 2 0 ≡ u = rw hc in
-          let k3 : get_or counts 3 0 ≡ w = rw hc in (
-            (omega (arith, r.0, us, k2), omega (arith, r.1, k2), omega (arith, r.2, ws, k3), omega (arith, r.3, k3), omega (arith, r.3, k3), omega arith),
-            (rw (hf, hb, hu, hc) halves_named, (rw (hf, hb, hc) halves_are, (rw (hw, hc, wires_then) held_sum, rw wires_cut (omega arith)))),
-          )
+      pub ends_ready : {fronts backs : List ℕ} → fronts ≡ front_table t₂ → backs ≡ back_table t₂ → Named fronts backs uses × Halved fronts backs e (get_or counts 1 0)
+      ends_ready hf hb = (rw (hf, hb, hu) halves_named, rw (hf, hb, hc) halves_are)
+
+      pub wires_ready : (out sizes : List ℕ) → length flags ≡ 1024 → length out ≡ 4096 → length sizes ≡ 1024 → length (flat (cut_in flags e t)) ≤ 4096
+          → ((sum wires ≤ length uses) × (length wires ≤ length flags) × (length wires ≤ length sizes)) × ((length (flat made) ≤ length out) × (length uses ≤ 4096) × (length out ≤ 4096))
+      wires_ready out sizes lf lo ls few =
+          let s = sound_fine in
+          let summed : sum wires ≡ length uses = rw (hu, hw, uses_then, wires_then) (wires_summed (content P) (records_fine P s)) in
+          let us : length uses ≤ 4096 = rw (hu, uses_then) (omega (arith, uses_counted P s.limits s.full, s.limits.uses)) in
+          let ws : length wires ≤ 1024 = rw (hw, wires_then) (omega (arith, wires_counted P s.limits s.full, s.limits.wires)) in
+          ((omega arith, omega arith, omega arith), (rw wires_cut (omega arith), us, omega arith))
 
       pub wires_written : {total : ℕ} {out sizes : List ℕ} → length (flat (cut_in flags e t)) ≤ 4096 → total ≡ length (flat made) → out ≡ sets (replicate 4096 0) 0 (flat made) → sizes ≡ sets (replicate 1024 0) 0 (map length made)
           → Written (cut_in flags e t) (get_or counts 3 0) total out sizes
       wires_written {total} {out} {sizes} few ht ho hs =
+          let s = sound_fine in
+          let w = get_or (count_table t) 3 0 in
           let k3 : get_or counts 3 0 ≡ w = rw hc in
           let wired : length (map length (cut_in flags e t)) ≡ w =
-          length-map (cut_in flags e t) length ∙ each_long _ 0 (split (take w (wire_table t)) (take u (use_table t))) ∙ length_split (take w (wire_table t)) (take u (use_table t)) ∙ length-take-le w (wire_table t) held_rooms.2 in
-          written (cut_in flags e t) (get_or counts 3 0) total out sizes (wired ∙ sym k3) (omega (arith, held_rooms.3, k3)) few (ht ∙ rw wires_cut) (ho ∙ rw wires_cut) (hs ∙ rw wires_cut)
+          length-map (cut_in flags e t) length ∙ each_long _ 0 (split (counted 3 wire_table t) (counted 2 use_table t)) ∙ length_split (counted 3 wire_table t) (counted 2 use_table t) ∙ wires_counted P s.limits s.full in
+          written (cut_in flags e t) (get_or counts 3 0) total out sizes (wired ∙ sym k3) (omega (arith, s.limits.wires, k3)) few (ht ∙ rw wires_cut) (ho ∙ rw wires_cut) (hs ∙ rw wires_cut)

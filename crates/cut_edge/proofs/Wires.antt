@@ -1,5 +1,5 @@
 -- The flags and the wires of a shell: what is said by flags is what the definitions say.
-use Rattle.std.specs.Prelude.{None, Option, Some}
+use Rattle.std.specs.Prelude.{None, Option, Some, is_some}
 use Prim.Native.Nat.{◌+◌, ◌<◌, suc, zero, ℕ}
 use mathlib.Core.Bool.{Bool, ◌&&◌, ◌||◌, false, or-true, true, true≢false}
 use mathlib.Core.List.{List, [], ◌++◌, ◌∷◌, map, map-append}
@@ -10,7 +10,7 @@ use native.Mathlib.Omega.{arith}
 use lib.Dec.{eqb, ltb}
 use lib.ListN.{get_or-eq_default, drop, get_or, length, length-append, length-drop, length-take, take}
 use borrow.Author.Tests.{eq-eqb, eqb-true, lt-ltb, ltb-false, ltb-true}
-use Rattle.cut_edge_faults.proofs.Flags.{cuts_next, cuts_none, found_at, found_has, has_next, has_none, is_at}
+use Rattle.cut_edge_faults.proofs.Flags.{cuts_next, cuts_none, found_at, found_has, has_next, has_none}
 use Rattle.cut_edge_wires.proofs.Halves.{halves_long}
 use Rattle.cut_edge_wires.specs.Halves.{cut_flagged}
 use Rattle.cut_edge_faults.specs.Flags.{cuts_where, uses_where}
@@ -99,7 +99,7 @@ module _ (flags : List Bool) (f : ℕ → ℕ) (v : ℕ) where
 -- ---- what the cut does to the number of uses
 
 module _ (e a : ℕ) (us : List ℕ) where
-  swapped_long : (f : Option ℕ) → f ≡ find_from 0 e us → length (swap_found a us f) ≡ length us + bit (is_at f)
+  swapped_long : (f : Option ℕ) → f ≡ find_from 0 e us → length (swap_found a us f) ≡ length us + bit (is_some f)
   swapped_long None h = omega arith
   swapped_long (Some j) h =
       let new = halves_of a (get_or us j 0) in

@@ -17,12 +17,12 @@ use edit_answers::EditError;
 use errors::CallError;
 use shell_wires::mark_wires;
 use store::{
-    Spans, Tables, backs_in, counts_in, edge_in, faces_in, fronts_in, listings_in, shells_in,
-    store_count, store_edge, store_uses, store_wires, tables_known, uses_in, wires_in,
+    Spans, Tables, counts_in, edge_in, ends_in, lists_in, store_count, store_edge, store_uses,
+    store_wires, tables_known,
 };
 use store_check::check;
 use vertex::VertexID;
-use words::index;
+use wire::Wire;
 
 // Stores the halves k and l of edge e, parted at v, as edges a and a + 1.
 fn store_halves(
@@ -37,7 +37,7 @@ fn store_halves(
     requires { (a + 2 ≤ 1024) × (e.0 < 1024) }
     ensures { held t.new spans.new ≡ with_halves (held t.old spans.old) a (half_edges (edge_in t.old spans.old e.0) v.0 (Some (k, l))) }
 {
-    let d = edge_in(t, spans, index(e.0));
+    let d = edge_in(t, spans, usize::from(e.0));
     let front = d.front;
     let back = d.back;
     store_edge(t, spans, a, Edge::new_unchecked(front, v, k));
@@ -65,23 +65,24 @@ fn store_cut(
     let a = counts[1];
     store_halves(t, spans, a, e, v, k, l);
     tables_known(t);
+    let lists = lists_in(t);
+    let wires = Wire {
+        uses: lists.uses,
+        ends: ends_in(t),
+    };
     let mut uses = [0u16; 4096];
-    let mut wires = [0u16; 1024];
+    let mut sizes = [0u16; 1024];
     let total = put_cut_wires(
-        uses_in(t),
-        counts[2],
-        wires_in(t),
-        counts[3],
+        &wires,
+        lists.wires,
         flags,
         e,
         a as u16,
-        fronts_in(t),
-        backs_in(t),
         &mut uses,
-        &mut wires,
+        &mut sizes,
     );
-    store_uses(t, 0, &uses[0..total]);
-    store_wires(t, 0, &wires[0..counts[3]]);
+    store_uses(t, 0, &uses[..total]);
+    store_wires(t, 0, &sizes[..counts[3]]);
     store_count(t, 1, (a + 2) as u16);
     store_count(t, 2, total as u16);
     let first = a as u16;
@@ -104,23 +105,21 @@ fn cut_named(
     ensures spans_after_2 { pattern_faults (held t.new spans.new) ≡ [] }
 {
     tables_known(t);
-    let counts = counts_in(t);
-    let marks = mark_wires(counts, faces_in(t), shells_in(t), listings_in(t), n);
-    let d = edge_in(t, spans, index(e.0));
-    let curve = d.curve;
+    let lists = lists_in(t);
+    let marks = mark_wires(&lists, n);
+    let wires = Wire {
+        uses: lists.uses,
+        ends: lists.ends,
+    };
+    let d = edge_in(t, spans, usize::from(e.0));
     let (k, l) = judge_cut(
-        uses_in(t),
-        counts[2],
-        wires_in(t),
-        counts[3],
+        &wires,
+        lists.wires,
         marks.shared,
         &marks.wires,
-        fronts_in(t),
-        backs_in(t),
-        counts[1],
         e,
         v,
-        cut_curve(curve, at),
+        cut_curve(d.curve, at),
     )?;
     Ok(store_cut(t, spans, &marks.wires, e, v, k, l))
 }

@@ -1,5 +1,6 @@
 -- Loops over the wires: what is left to do, wire by wire.
-use Rattle.std.specs.Prelude.{None, Option, Some}
+use Rattle.std.specs.Int.{from_bool}
+use Rattle.std.specs.Prelude.{Some, is_some}
 use Prim.Native.Nat.{◌+◌, ◌-◌, ◌<◌, ◌≤◌, suc, ℕ}
 use mathlib.Core.Bool.{Bool, ◌&&◌, ◌||◌, false, not, true, true≢false}
 use mathlib.Core.List.{List, [], ◌++◌, ◌∷◌, map, map-append}
@@ -59,12 +60,8 @@ module _ (f : ℕ → ℕ) (p : ℕ) (us : List ℕ) (i : ℕ) where
   unfolding has
   scan_next h e = rw (drop-cons {A = ℕ} us i 0 h, ne_eqb p (f (get_or us i 0)) e, add-one)
 
--- whether a search found a use
-abbrev pub is_at : Option ℕ → Bool
-is_at None = false
-is_at (Some i) = true
-
-pub found_has : (i e : ℕ) (us : List ℕ) → is_at (find_from i e us) ≡ has e (map edge_number us)
+-- a search finds a use exactly if there is one
+pub found_has : (i e : ℕ) (us : List ℕ) → is_some (find_from i e us) ≡ has e (map edge_number us)
 unfolding find_from has
 found_has i e [] = refl
 found_has i e (u ∷ us) =
@@ -81,7 +78,7 @@ pub record FoundAt (i e : ℕ) (us : List ℕ) (j : ℕ) : Type 0 where
 
 pub found_at : (i e : ℕ) (us : List ℕ) (j : ℕ) → find_from i e us ≡ Some j → FoundAt i e us j
 unfolding find_from
-found_at i e [] j h = absurd (true≢false (sym (ap is_at h)))
+found_at i e [] j h = absurd (true≢false (sym (ap is_some h)))
 found_at i e (u ∷ us) j h =
     ⊎_elim
     (λ (t : eqb (edge_number u) e ≡ true).
@@ -172,12 +169,7 @@ module _ (b : Bool) where
   pub meets_on : (f : ℕ → ℕ) (us : List ℕ) {p v : ℕ} {x : Bool} → not b ≡ false → p ≡ v → has p (map f us) ≡ x → x ≡ (b && has v (map f us))
   meets_on f us h e is = sym (rw (not-false b h, ← e) is)
 
-  pub cuts_off : (x : Bool) → not b ≡ true → (0 ≡ bit (b && x)) × (0 ≤ 1)
-  cuts_off x h = (sym (rw (not-true b h)), omega arith)
-
-  module _ (e : ℕ) (us : List ℕ) {f : Option ℕ} (h : not b ≡ false) (found : f ≡ find_from 0 e us) where
-    pub cuts_at : {j : ℕ} → f ≡ Some j → (1 ≡ bit (b && has e (map edge_number us))) × (1 ≤ 1)
-    cuts_at a = (sym (rw (not-false b h, ← found_has 0 e us, ← found, a)), omega arith)
-
-    pub cuts_nothing : f ≡ None → (0 ≡ bit (b && has e (map edge_number us))) × (0 ≤ 1)
-    cuts_nothing a = (sym (rw (not-false b h, ← found_has 0 e us, ← found, a)), omega arith)
+-- one wire gives way to one use or to none
+pub one_if : (b : Bool) → (from_bool b ≡ bit b) × (from_bool b ≤ 1)
+one_if true = (refl, omega arith)
+one_if false = (refl, omega arith)

@@ -2,31 +2,29 @@
 // pattern.
 #![tactic(auto)]
 
-ghost use Rattle.std.specs.Prelude.{◌&&◌, map, ◌≡◌, ◌≤◌, ltb, length, take};
+ghost use Rattle.std.specs.Prelude.{◌&&◌, map, ◌≡◌, ◌≤◌, ltb, length};
 ghost use Rattle.lists.specs.Lists.{has, pick, split, sum};
 ghost use Rattle.edge.specs.Uses.{edge_number};
-ghost use Rattle.wire.specs.Named.{Named};
+ghost use Rattle.wire.specs.OfWire.{of_wire};
 ghost use Rattle.wire.specs.Wires.{points};
 ghost use Rattle.cut_edge_faults.specs.Flags.{cuts_where, uses_where};
 ghost use Rattle.cut_edge_faults.specs.Judgement.{found_faults, judgement};
 
-use edge::{Curve, EdgeID, front_of};
+use edge::{Curve, EdgeID};
 use edit_answers::EditError;
 use vertex::VertexID;
-use wire::find_use;
-use words::index;
+use wire::{Wire, find_use};
 
 // Whether a wire is flagged and meets a vertex.
-fn wire_meets(uses: &[u16], flag: bool, fronts: &[u16], backs: &[u16], v: VertexID) -> bool
-    requires { Named fronts.now backs.now uses.now }
-    ensures { result ≡ (flag && has v.0 (points fronts.now backs.now uses.now)) }
+fn wire_meets(wire: &Wire, flag: bool, v: VertexID) -> bool
+    ensures { result ≡ (flag && has v.0 (of_wire points wire.now)) }
 {
     if !flag {
         return false;
     }
-    let p = index(v.0);
-    for u in uses {
-        if p == front_of(*u, fronts, backs) {
+    let p = usize::from(v.0);
+    for u in wire.uses {
+        if p == wire.ends.front_of(*u) {
             return true;
         }
     }
@@ -34,22 +32,14 @@ fn wire_meets(uses: &[u16], flag: bool, fronts: &[u16], backs: &[u16], v: Vertex
 }
 
 // Whether a flagged wire meets a vertex.
-fn meets_vertex(
-    uses: &[u16],
-    lens: &[u16],
-    flags: &[bool],
-    fronts: &[u16],
-    backs: &[u16],
-    v: VertexID,
-) -> bool
-    requires named { Named fronts.now backs.now uses.now }
-    requires lens_in_bounds { (sum lens.now ≤ length uses.now) × (length lens.now ≤ length flags.now) × (length uses.now ≤ 4096) }
-    ensures { result ≡ has v.0 (points fronts.now backs.now (uses_where flags.now 0 (split lens.now uses.now))) }
+fn meets_vertex(wires: &Wire, lens: &[u16], flags: &[bool], v: VertexID) -> bool
+    requires { (sum lens.now ≤ length wires.now.uses.now) × (length lens.now ≤ length flags.now) × (length wires.now.uses.now ≤ 4096) }
+    ensures { result ≡ has v.0 (points wires.now.ends.fronts.now wires.now.ends.backs.now (uses_where flags.now 0 (split lens.now wires.now.uses.now))) }
 {
     let mut at: usize = 0;
     for (k, len) in lens.iter().enumerate() {
-        let n = index(*len);
-        if wire_meets(&uses[at..at + n], flags[k], fronts, backs, v) {
+        let n = usize::from(*len);
+        if wire_meets(&wires.part(at, n), flags[k], v) {
             return true;
         }
         at += n;
@@ -61,13 +51,7 @@ fn meets_vertex(
 fn wire_cuts(uses: &[u16], flag: bool, e: EdgeID) -> usize
     ensures { (result ≡ pick (flag && has e.0 (map edge_number uses.now)) 1 0) × (result ≤ 1) }
 {
-    if !flag {
-        return 0;
-    }
-    match find_use(uses, e) {
-        Some(_) => 1,
-        None => 0,
-    }
+    usize::from(flag && find_use(uses, e).is_some())
 }
 
 // How many flagged wires have a use of an edge.
@@ -78,7 +62,7 @@ fn count_cuts(uses: &[u16], lens: &[u16], flags: &[bool], e: EdgeID) -> usize
     let mut count: usize = 0;
     let mut at: usize = 0;
     for (k, len) in lens.iter().enumerate() {
-        let n = index(*len);
+        let n = usize::from(*len);
         count += wire_cuts(&uses[at..at + n], flags[k], e);
         at += n;
     }
@@ -116,36 +100,30 @@ fn judge(
     Ok(both)
 }
 
-// Judges a cut over the first records of the tables: the halves of the edge's curve, or the refusal.
-pub fn judge_cut<'a, 'b>(
-    uses: &'a [u16],
-    ucount: usize,
-    wires: &'a [u16],
-    wcount: usize,
+// Judges a cut of the wires, which have the lengths `lens`: the halves of the edge's curve, or the refusal.
+pub fn judge_cut(
+    wires: &Wire,
+    lens: &[u16],
     shared: bool,
-    flags: &'b [bool],
-    fronts: &'b [u16],
-    backs: &'b [u16],
-    ecount: usize,
+    flags: &[bool],
     e: EdgeID,
     v: VertexID,
     halves: Option<(Curve, Curve)>,
 ) -> Result<(Curve, Curve), EditError>
-    requires ucount_in_bounds { (ucount ≤ length uses.now) × (ucount ≤ 4096) × (wcount ≤ length wires.now) × (wcount ≤ length flags.now) × (wcount ≤ 1024) × (ecount ≤ length fronts.now) × (ecount ≤ length backs.now) × (ecount ≤ 1024) }
-    requires named { Named (take ecount fronts.now) (take ecount backs.now) (take ucount uses.now) }
-    requires wires_value { sum (take wcount wires.now) ≡ ucount }
-    ensures { result ≡ judgement (found_faults shared (has v.0 (points (take ecount fronts.now) (take ecount backs.now) (uses_where flags.now 0 (split (take wcount wires.now) (take ucount uses.now))))) (cuts_where flags.now e.0 0 (split (take wcount wires.now) (take ucount uses.now))) halves ecount ucount) halves }
+    requires lens_value { (sum lens.now ≡ length wires.now.uses.now) × (length lens.now ≤ length flags.now) }
+    requires in_bounds { (length lens.now ≤ 1024) × (length wires.now.uses.now ≤ 4096) × (length wires.now.ends.fronts.now ≤ 1024) }
+    ensures { result ≡ judgement (found_faults shared (has v.0 (points wires.now.ends.fronts.now wires.now.ends.backs.now (uses_where flags.now 0 (split lens.now wires.now.uses.now)))) (cuts_where flags.now e.0 0 (split lens.now wires.now.uses.now)) halves (length wires.now.ends.fronts.now) (length wires.now.uses.now)) halves }
 {
-    let met = meets_vertex(
-        &uses[0..ucount],
-        &wires[0..wcount],
-        flags,
-        &fronts[0..ecount],
-        &backs[0..ecount],
-        v,
-    );
-    let cuts = count_cuts(&uses[0..ucount], &wires[0..wcount], flags, e);
-    judge(shared, met, cuts, halves, ecount, ucount)
+    let met = meets_vertex(wires, lens, flags, v);
+    let cuts = count_cuts(wires.uses, lens, flags, e);
+    judge(
+        shared,
+        met,
+        cuts,
+        halves,
+        wires.ends.fronts.len(),
+        wires.uses.len(),
+    )
 }
 
 // Whether the shell, the edge and the vertex are there.
@@ -159,11 +137,5 @@ pub fn all_named(
 ) -> bool
     ensures { result ≡ (ltb n scount && ltb e.0 ecount && ltb v.0 pcount) }
 {
-    if n >= scount {
-        return false;
-    }
-    if index(e.0) >= ecount {
-        return false;
-    }
-    index(v.0) < pcount
+    n < scount && usize::from(e.0) < ecount && usize::from(v.0) < pcount
 }

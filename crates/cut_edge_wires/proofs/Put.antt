@@ -1,5 +1,5 @@
 -- The loop that writes the wires after the cut.
-use Rattle.std.specs.Prelude.{None, Option, Some}
+use Rattle.std.specs.Prelude.{None, Option, Some, is_some}
 use Prim.Native.Nat.{◌+◌, ◌-◌, ◌<◌, ◌≤◌, suc, ℕ}
 use mathlib.Core.Bool.{Bool, false, true, true≢false}
 use mathlib.Core.List.{List, [], ◌++◌, ◌∷◌, map}
@@ -8,7 +8,7 @@ use native.Mathlib.Numerals.{add-one}
 use native.Mathlib.Omega.{arith}
 use lib.ListN.{drop, get_or, length, length-append, length-drop, length-set, length-take, set, take}
 use lib.Seq.{length-sets, sets}
-use Rattle.cut_edge_faults.proofs.Flags.{FoundAt, found_at, is_at, rest_next, rest_none}
+use Rattle.cut_edge_faults.proofs.Flags.{FoundAt, found_at, rest_next, rest_none}
 use Rattle.cut_edge_wires.proofs.Halves.{halves_end, halves_long}
 use Rattle.cut_edge_wires.specs.Halves.{Halved}
 use Rattle.edge.specs.Uses.{edge_number}
@@ -30,7 +30,7 @@ found_flagged b f t e = e ∙ sym (rw t)
 
 at_found : (b : Bool) (e : ℕ) (us : List ℕ) (i : ℕ) → pick b (find_from 0 e us) None ≡ Some i → find_from 0 e us ≡ Some i
 at_found true e us i h = h
-at_found false e us i h = absurd (true≢false (sym (ap is_at h)))
+at_found false e us i h = absurd (true≢false (sym (ap is_some h)))
 
 module _ (b : Bool) (e a : ℕ) (us : List ℕ) (f : Option ℕ) (is : f ≡ pick b (find_from 0 e us) None) where
   pub wire_kept : f ≡ None → pick b (cut_wire e a us) us ≡ us

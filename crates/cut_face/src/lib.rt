@@ -8,12 +8,12 @@ ghost use Rattle.store.specs.Store.{held};
 ghost use Rattle.face_edits.specs.FaceAnswers.{cut_face_answer, cut_face_out};
 
 use cut_face_outline::cut_outline;
+use cut_face_results::Cutting;
 use edit_answers::FaceEditError;
 use errors::CallError;
-use face_parts::{are_uses, face_part, first_backs, first_fronts, uses_of};
-use store::{Spans, Tables, counts_in, tables_known};
+use face_parts::{are_uses, face_wires};
+use store::{Spans, Tables, lists_in, tables_known};
 use store_check::check;
-use words::index;
 
 // Cuts a face by a wire: 3, 18, 19, 28, 17 after the reading checks. The face is given as a listing;
 // its sign changes nothing. Writes the two results and their lengths, or, refused, nothing.
@@ -31,28 +31,24 @@ pub fn cut_by_wire(
 {
     tables_known(t);
     check(t, spans)?;
-    let counts = counts_in(t);
-    let face = index(f % 32768);
-    if face >= counts[4] {
+    let lists = lists_in(t);
+    let face = usize::from(f % 32768);
+    if face >= lists.faces.len() {
         return Err(CallError::Refused(FaceEditError::Unnamed));
     }
-    let edges = counts[1];
-    if !are_uses(wire, edges) {
+    if !are_uses(wire, lists.ends.fronts.len()) {
         return Err(CallError::Refused(FaceEditError::Unnamed));
     }
-    let part = face_part(t, face);
-    if part.wires != 1 {
+    let part = face_wires(&lists, face);
+    if part.lengths.len() != 1 {
         return Err(CallError::Refused(FaceEditError::NotOneWire));
     }
-    cut_outline(
-        uses_of(t, part),
+    let cut = Cutting {
+        outline: part.uses,
         wire,
-        first_fronts(t, edges),
-        first_backs(t, edges),
-        uses,
-        lens,
-    )
-    .map_err(CallError::Refused)
+        ends: lists.ends,
+    };
+    cut_outline(&cut, uses, lens).map_err(CallError::Refused)
 }
 
 // The same by one use.

@@ -10,9 +10,8 @@ use lib.Dec.{eqb}
 use lib.ListN.{drop, get_or, length, length-append, length-drop, take}
 use lib.Seq.{length-take-le, sets, take_all}
 use borrow.Author.Tests.{lt-ltb}
-use Rattle.cut_face_results.specs.Results.{PointEnds, cut_after, cut_two, outcome}
+use Rattle.cut_face_results.specs.Results.{cut_after, cut_two, outcome}
 use Rattle.cut_face_outline.specs.Cuts.{cut_along, cut_outline}
-use Rattle.cut_face_results.proofs.Few.{named_of}
 use Rattle.edge.specs.Uses.{back, back_of, front, front_of, use_of}
 use Rattle.edge.specs.declared.EdgeUse.{EdgeUse}
 use Rattle.edit_answers.specs.declared.FaceEditError.TheVariants.{EndsNotOnWire}
@@ -24,10 +23,8 @@ use Rattle.lists.proofs.Sets.{sets_then}
 use Rattle.lists.specs.Lists.{flat, has}
 use Rattle.shell_edits.specs.Edits.{place_in}
 use Rattle.std.specs.Prelude.{Err, None, Some}
-use Rattle.wire.specs.Named.{Named}
 use Rattle.wire.specs.Wires.{end_from}
 use Rattle.cut_face_results.proofs.Results.{Owes, stored_all}
-use Rattle.edge.specs.Below.{EdgesBelow}
 
 -- ---- what is stored
 module _ (os out : List ℕ) (i : ℕ) (h : i ≤ length os) {out₁ out₂ : List ℕ} where
@@ -75,19 +72,6 @@ module _ (fronts backs : List ℕ) where
   unfolding cut_along
   along_some along us m n j e = let z : j + 1 ≡ suc j = omega arith in rw ((end_some 0 (first_point fronts backs us) along j e).0, e, z)
 
--- ---- the first n uses of a list, as the code takes them
-module _ (fronts backs list us : List ℕ) (n : ℕ) where
-  pub part_named : PointEnds fronts backs → EdgesBelow (length fronts) (take n list) → Named fronts backs (take (n - 0) list)
-  part_named s h = rw (sub-zero n) (named_of fronts backs (take n list) s h)
-
-  pub part_none : (uses lens : List ℕ) → end_from fronts backs 0 (first_point fronts backs us) (take (n - 0) list) ≡ None
-      → Owes (cut_along fronts backs (take n list) us (length uses) (length lens)) (Err EndsNotOnWire) uses uses lens lens
-  part_none uses lens e = along_none fronts backs (take n list) us uses lens (rw (sub-zero n) at e)
-
-  pub part_some : (m k j : ℕ) → end_from fronts backs 0 (first_point fronts backs us) (take (n - 0) list) ≡ Some j
-      → cut_after fronts backs (take (n - 0) list) (j + 1) us m k ≡ cut_along fronts backs (take n list) us m k
-  part_some m k j e = let z : end_from fronts backs 0 (first_point fronts backs us) (take n list) ≡ Some j = rw (sub-zero n) at e in rw (sub-zero n) (along_some fronts backs (take n list) us m k j z)
-
 -- ---- the ends of a wire
 module _ (fronts backs us : List ℕ) (some : 0 < length us) (u : EdgeUse) (r : ℕ) where
   pub first_is : u ≡ use_of (get_or us 0 0) → r ≡ front fronts backs u → r ≡ first_point fronts backs us
@@ -112,7 +96,7 @@ module _ (fronts backs os us : List ℕ) where
     unfolding cut_outline outcome flat
     outline_none uses lens e = rw (lt-ltb 0 (length us) some, end_none backs fronts 0 (last_point fronts backs us) os e) (refl, (refl, refl))
 
-    rotated_long : (i : ℕ) → i ≤ length os → length (from_place i os) ≡ length os
+    pub rotated_long : (i : ℕ) → i ≤ length os → length (from_place i os) ≡ length os
     rotated_long i h = omega (arith, length-append (drop i os) (take i os), length-drop i os, length-take-le i os h)
 
     pub rotated_part : (l along : List ℕ) (i : ℕ) → end_from backs fronts 0 (last_point fronts backs us) os ≡ Some i → length os ≤ length l

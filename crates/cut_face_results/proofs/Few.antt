@@ -1,15 +1,14 @@
 -- Uses of edges whose ends are among 2,048 points: they are named; a wire that meets no point twice has at most 2,048.
-use Prim.Native.Nat.{◌-◌, ◌<◌, ◌≤◌, ℕ}
-use mathlib.Core.Bool.{Bool, ◌&&◌, false, true}
+use Prim.Native.Nat.{◌<◌, ◌≤◌, ℕ}
+use mathlib.Core.Bool.{Bool, false, true}
 use mathlib.Core.List.{List, [], ◌++◌, ◌∷◌, map, reverse}
 use mathlib.Core.Logic.{⊎_elim}
-use mathlib.Core.Path.{◌∙◌, ◌≡◌, refl, sym}
-use native.Mathlib.Nat.{sub-zero}
+use mathlib.Core.Path.{◌≡◌, refl, sym}
 use native.Mathlib.Omega.{arith}
 use lib.Dec.{leb, ltb}
 use lib.ListN.{drop, get_or, length, length-append, take}
 use borrow.Author.Tests.{le-leb, lt-leb, ltb-false, ltb-true}
-use Rattle.cut_face_results.specs.Results.{PointEnds}
+use Rattle.cut_face_results.specs.Results.{PointEnds, keeps}
 use Rattle.edge.specs.Uses.{edge_number, front_of, turned}
 use Rattle.errors.specs.Faults.{each}
 use Rattle.errors.specs.declared.WireError.{WireError}
@@ -21,10 +20,9 @@ use Rattle.lists.proofs.Count.{All, all_append, all_drop, all_each, all_map, all
 use Rattle.lists.proofs.Laws.{cases}
 use Rattle.lists.proofs.Marks.{disjoint_nil}
 use Rattle.lists.proofs.Parts.{all_place}
-use Rattle.lists.proofs.Split.{drop_take}
 use Rattle.lists.specs.Lists.{pick}
 use Rattle.std.specs.Prelude.{Ok, is_ok}
-use Rattle.wire.proofs.Laws.{named_drop, simple_sound}
+use Rattle.wire.proofs.Laws.{simple_sound}
 use Rattle.wire.specs.Named.{Named}
 use Rattle.wire.specs.Wires.{points, wire_faults}
 use Rattle.edge.specs.Below.{EdgesBelow}
@@ -87,18 +85,13 @@ module _ (n : ℕ) (along us : List ℕ) (h : EdgesBelow n along) (g : EdgesBelo
   pub first_uses : EdgesBelow n (first_of along k us)
   first_uses = all_uses n (first_of along k us) first_all
 
-  pub both_uses : EdgesBelow n (first_of along k us ++ second_of along k us)
-  both_uses = all_uses n (first_of along k us ++ second_of along k us) (all_append (Of n) (first_of along k us) (second_of along k us) first_all second_all)
+  pub second_uses : EdgesBelow n (second_of along k us)
+  second_uses = all_uses n (second_of along k us) second_all
 
 -- ---- the face rule of one wire
 module _ (fronts backs : List ℕ) where
-  -- the two parts of named uses
-  module _ (both : List ℕ) (n all : ℕ) (h : n ≤ all) (d : Named fronts backs (take all both)) where
-    pub named_second : Named fronts backs (take (all - n) (drop n both))
-    named_second = rw (drop_take n all both h) at (named_drop fronts backs (take all both) d n)
-
   -- the judgement of a wire is the rule of it alone
-  judged_rule : (us : List ℕ) → is_ok (first_of_wire (wire_faults fronts backs us)) ≡ keeps_rule fronts backs (us ∷ [])
+  pub judged_rule : (us : List ℕ) → is_ok (first_of_wire (wire_faults fronts backs us)) ≡ keeps fronts backs us
   unfolding each shared_faults
   judged_rule us = rw (disjoint_nil (points fronts backs us)) (go (wire_faults fronts backs us))
     where
@@ -127,15 +120,3 @@ module _ (fronts backs : List ℕ) where
       absurd (omega (arith, l, length-append (take k along) us, kept_few (first_of along k us) (named_of fronts backs (first_of along k us) s (first_uses (length fronts) along us h g k)) b)))
       (λ (b : keeps_rule fronts backs (first_of along k us ∷ []) ≡ false). b)
       (cases (keeps_rule fronts backs (first_of along k us ∷ [])))
-
-  -- the answer on two wires: the first is judged, then the second
-  module _ (both : List ℕ) (n all : ℕ) (r : Bool) (e : r ≡ is_ok (first_of_wire (wire_faults fronts backs (take (n - 0) both)))) where
-    first_is : r ≡ keeps_rule fronts backs (take n both ∷ [])
-    first_is = rw (sub-zero n) at (e ∙ judged_rule (take (n - 0) both))
-
-    pub rule_first : r ≡ false → r ≡ (keeps_rule fronts backs (take n both ∷ []) && keeps_rule fronts backs (take (all - n) (drop n both) ∷ []))
-    rule_first f = rw (← first_is, f) refl
-
-    pub rule_second : r ≡ true → (s : Bool) → s ≡ is_ok (first_of_wire (wire_faults fronts backs (take (all - n) (drop n both))))
-        → s ≡ (keeps_rule fronts backs (take n both ∷ []) && keeps_rule fronts backs (take (all - n) (drop n both) ∷ []))
-    rule_second f s g = rw (← first_is, f) (g ∙ judged_rule (take (all - n) (drop n both)))

@@ -2,15 +2,14 @@
 use Prim.Native.Nat.{◌*◌, ◌+◌, ◌-◌, ◌<◌, ◌≤◌, ℕ}
 use mathlib.Core.Bool.{◌&&◌, false, true}
 use mathlib.Core.List.{List, [], ◌++◌, ◌∷◌, append_assoc, append-nil, map, reverse}
-use mathlib.Core.Path.{◌∙◌, ◌≡◌, ap, refl, sym}
+use mathlib.Core.Path.{◌∙◌, ◌≡◌, ap, refl}
 use native.Mathlib.Nat.{sub-zero}
 use native.Mathlib.Omega.{arith}
 use lib.Dec.{leb}
 use lib.ListN.{drop, length, length-append, length-drop, set, take}
-use lib.Seq.{drop_at, length-take-le, sets, sets-eq, take-add, take_all, take_at}
+use lib.Seq.{drop_at, length-take-le, sets, sets-eq, take_all, take_at}
 use borrow.Author.Tests.{le-leb, lt-leb}
-use Rattle.cut_face_results.specs.Results.{Cut, PointEnds, cut_after, cut_two, outcome}
-use Rattle.cut_face_results.proofs.Few.{both_uses, named_of}
+use Rattle.cut_face_results.specs.Results.{Cut, cut_after, cut_two, keeps, outcome}
 use Rattle.edge.specs.Uses.{turned}
 use Rattle.edit_answers.specs.declared.FaceEditError.{FaceEditError}
 use Rattle.edit_answers.specs.declared.FaceEditError.TheVariants.{FaceRule, NoSpace}
@@ -19,8 +18,6 @@ use Rattle.listing.proofs.Laws.{turned_keeps}
 use Rattle.lists.proofs.Sets.{sets_then}
 use Rattle.lists.specs.Lists.{flat}
 use Rattle.std.specs.Prelude.{Err, Ok, Result}
-use Rattle.wire.specs.Named.{Named}
-use Rattle.edge.specs.Below.{EdgesBelow}
 
 -- ---- what is stored
 module _ (along us out : List ℕ) (k : ℕ) (h : k ≤ length along) where
@@ -76,48 +73,38 @@ abbrev pub Owes : Cut → Result (ℕ × ℕ) FaceEditError → List ℕ → Lis
 Owes c r uses uses' lens lens' = (r ≡ c.answer) × ((uses' ≡ sets uses 0 (flat c.out)) × (lens' ≡ sets lens 0 (map length c.out)))
 
 module _ (fronts backs : List ℕ) where
-  module _ (both uses lens : List ℕ) (n all : ℕ) (h : n ≤ all) (k : all ≤ length both) where
-    abbrev first : List ℕ
-    first = take n both
-
-    abbrev second : List ℕ
-    second = take (all - n) (drop n both)
-
+  module _ (first second uses lens : List ℕ) where
     abbrev two : Cut
     two = cut_two fronts backs first second (length uses) (length lens)
 
-    first_part : length first ≡ n
-    first_part = length-take-le n both (omega arith)
-
-    second_part : length second ≡ all - n
-    second_part = length-take-le (all - n) (drop n both) (omega (arith, length-drop n both))
-
-    flat_is : flat (first ∷ second ∷ []) ≡ take all both
+    flat_is : flat (first ∷ second ∷ []) ≡ first ++ second
     unfolding flat
-    flat_is = let z : n + (all - n) ≡ all = omega arith in rw (append-nil second) (sym (take-add n (all - n) both) ∙ rw z)
+    flat_is = rw (append-nil second) refl
 
-    split_long : length (flat (first ∷ second ∷ [])) ≡ all
-    split_long = ap length flat_is ∙ length-take-le all both k
+    flat_long : length (flat (first ∷ second ∷ [])) ≡ length first + length second
+    flat_long = ap length flat_is ∙ length-append first second
 
-    pub two_broken : false ≡ (keeps_rule fronts backs (first ∷ []) && keeps_rule fronts backs (second ∷ [])) → Owes two (Err FaceRule) uses uses lens lens
+    pub two_broken : false ≡ (keeps fronts backs first && keeps fronts backs second) → Owes two (Err FaceRule) uses uses lens lens
     unfolding cut_two outcome flat
     two_broken e = rw (← e) (refl, (refl, refl))
 
-    module _ (e : true ≡ (keeps_rule fronts backs (first ∷ []) && keeps_rule fronts backs (second ∷ []))) where
-      pub two_long : length uses < all → Owes two (Err NoSpace) uses uses lens lens
+    module _ (e : true ≡ (keeps fronts backs first && keeps fronts backs second)) where
+      pub two_long : length uses < length first + length second → Owes two (Err NoSpace) uses uses lens lens
       unfolding cut_two outcome flat
-      two_long l = rw (← e, lt-leb (length (flat (first ∷ second ∷ []))) (length uses) (omega (arith, split_long, l))) (refl, (refl, refl))
+      two_long l = rw (← e, lt-leb (length (flat (first ∷ second ∷ []))) (length uses) (omega (arith, flat_long, l))) (refl, (refl, refl))
 
-      pub two_few : all ≤ length uses → length lens < 2 → Owes two (Err NoSpace) uses uses lens lens
-      unfolding cut_two outcome flat
-      two_few g l = rw (← e, le-leb (length (flat (first ∷ second ∷ []))) (length uses) (omega (arith, split_long, g)), lt-leb 2 (length lens) l) (refl, (refl, refl))
+      module _ (g : length first + length second ≤ length uses) where
+        fit : leb (length (flat (first ∷ second ∷ []))) (length uses) ≡ true
+        fit = le-leb (length (flat (first ∷ second ∷ []))) (length uses) (omega (arith, flat_long, g))
 
-      pub two_written : all ≤ length uses → 2 ≤ length lens → (uses' : List ℕ) → uses' ≡ sets uses 0 (take (all - 0) both)
-          → Owes two (Ok (all, 2)) uses uses' lens (set (set lens 0 n) 1 (all - n))
-      unfolding cut_two outcome
-      two_written g l uses' u =
-          let fit : leb (length (flat (first ∷ second ∷ []))) (length uses) ≡ true = le-leb (length (flat (first ∷ second ∷ []))) (length uses) (omega (arith, split_long, g)) in
-          rw (← e, fit, le-leb 2 (length lens) l, split_long, flat_is, first_part, second_part) (refl, (u ∙ rw (sub-zero all), refl))
+        pub two_few : length lens < 2 → Owes two (Err NoSpace) uses uses lens lens
+        unfolding cut_two outcome flat
+        two_few l = rw (← e, fit, lt-leb 2 (length lens) l) (refl, (refl, refl))
+
+        pub two_written : 2 ≤ length lens → (uses₁ uses₂ : List ℕ) → uses₁ ≡ sets uses 0 first → uses₂ ≡ sets uses₁ (length first) second
+            → Owes two (Ok (length first + length second, 2)) uses uses₂ lens (set (set lens 0 (length first)) 1 (length second))
+        unfolding cut_two outcome
+        two_written l uses₁ uses₂ u v = rw (← e, fit, le-leb 2 (length lens) l, flat_long, flat_is) (refl, (sets_then uses 0 first second (length first) (omega arith) u v, refl))
 
   -- ---- an outline that begins at the wire's back
   module _ (along us uses lens : List ℕ) where
@@ -126,25 +113,18 @@ module _ (fronts backs : List ℕ) where
     unfolding cut_after cut_two outcome flat
     after_long k e = rw e (refl, (refl, refl))
 
-  pub after_made : (along us l : List ℕ) (k m n : ℕ) → k ≤ length along → length along + 2 * length us ≤ length l → (both : List ℕ)
-      → both ≡ sets l 0 (first_of along k us ++ second_of along k us)
-      → cut_two fronts backs (take (k + length us) both) (take (length along + 2 * length us - (k + length us)) (drop (k + length us) both)) m n
-      ≡ cut_after fronts backs along k us m n
-  unfolding cut_after
-  after_made along us l k m n h g both e =
-      let a = first_of along k us in
-      let b = second_of along k us in
-      let i = k + length us in
-      let j = length along + 2 * length us - (k + length us) in
-      let fit : length (a ++ b) ≤ length l = omega (arith, both_long along us l k h) in
-      let x : length a ≡ i = first_long along us l k h in
-      let y : length b ≡ j = omega (arith, second_long along us l k h) in
-      rw (e, stored_first l a b fit i j x y, stored_second l a b fit i j x y)
+-- ---- the results as they stand in an array
+module _ (along us l : List ℕ) (k : ℕ) (h : k ≤ length along) (g : length along + 2 * length us ≤ length l) (both : List ℕ)
+    (e : both ≡ sets l 0 (first_of along k us ++ second_of along k us)) where
+  fits : length (first_of along k us ++ second_of along k us) ≤ length l
+  fits = omega (arith, both_long along us l k h)
 
-  pub made_named : (along us l : List ℕ) (k : ℕ) → PointEnds fronts backs → EdgesBelow (length fronts) along → EdgesBelow (length fronts) us → k ≤ length along
-      → length along + 2 * length us ≤ length l → (both : List ℕ) → both ≡ sets l 0 (first_of along k us ++ second_of along k us)
-      → Named fronts backs (take (length along + 2 * length us) both)
-  made_named along us l k s x y h g both e =
-      let long = both_long along us l k h in
-      rw (e, stored_all l (first_of along k us ++ second_of along k us) (omega (arith, long)) (length along + 2 * length us) long)
-      (named_of fronts backs (first_of along k us ++ second_of along k us) s (both_uses (length fronts) along us x y k))
+  pub first_made : take (k + length us) both ≡ first_of along k us
+  first_made =
+      let m = length along + 2 * length us - (k + length us) in
+      rw e (stored_first l (first_of along k us) (second_of along k us) fits (k + length us) m (first_long along us l k h) (omega (arith, second_long along us l k h)))
+
+  pub second_made : take (length along + 2 * length us - (k + length us)) (drop (k + length us) both) ≡ second_of along k us
+  second_made =
+      let m = length along + 2 * length us - (k + length us) in
+      rw e (stored_second l (first_of along k us) (second_of along k us) fits (k + length us) m (first_long along us l k h) (omega (arith, second_long along us l k h)))

@@ -1,11 +1,11 @@
 -- The two results of a cut, as the code makes them: on lists of uses, with the ends of the edges in two columns.
-use Rattle.std.specs.Prelude.{ℕ, ◌<◌, List, [], ◌∷◌, ◌≡◌, get_or, length, Result}
+use Rattle.std.specs.Prelude.{ℕ, ◌<◌, Bool, List, [], ◌∷◌, ◌≡◌, get_or, length, Result}
 use Rattle.lists.specs.Lists.{flat}
 use Rattle.edit_answers.specs.Answers.{judged}
 use Rattle.edit_answers.specs.declared.FaceEditError.{FaceEditError}
 use Rattle.errors.specs.declared.Refusal.{Refusal}
 use Rattle.face_edits.specs.FaceAnswers.{own_answer}
-use Rattle.face_edits.specs.FaceEdits.{first_of, second_of, two_faults}
+use Rattle.face_edits.specs.FaceEdits.{first_of, keeps_rule, second_of, two_faults}
 
 -- the answer, and the wires that are written
 pub record Cut : Type 0 where
@@ -26,6 +26,10 @@ pub record PointEnds (fronts backs : List ℕ) : Type 0 where
   pub back : (e : ℕ) → e < length fronts → get_or backs e 0 < 2048
 
 module _ (fronts backs : List ℕ) where
+  -- whether a wire alone keeps the face rule
+  abbrev pub keeps : List ℕ → Bool
+  keeps us = keeps_rule fronts backs (us ∷ [])
+
   -- two wires, for lists of m uses and n lengths: 28, 17
   unfoldable pub cut_two : List ℕ → List ℕ → ℕ → ℕ → Cut
   cut_two a b m n = outcome (two_faults fronts backs a b m n) (a ∷ b ∷ [])

@@ -4,15 +4,16 @@
 ghost use Rattle.std.specs.Prelude.{◌≡◌, ◌&&◌, [], ◌++◌, ◌∷◌, map, ◌+◌, ◌-◌, ◌*◌, ◌≤◌, drop, length, take};
 ghost use Rattle.std.proofs.lemmas.List.Edits.{sets};
 ghost use Rattle.lists.specs.Lists.{flat};
-ghost use Rattle.wire.specs.Named.{Named};
-ghost use Rattle.face_edits.specs.FaceEdits.{first_of, keeps_rule, second_of};
-ghost use Rattle.cut_face_results.specs.Results.{cut_after, cut_two, PointEnds};
+ghost use Rattle.wire.specs.OfWire.{of_wire};
+ghost use Rattle.face_edits.specs.FaceEdits.{first_of, second_of};
+ghost use Rattle.cut_face_results.specs.Results.{cut_after, cut_two, keeps, PointEnds};
 ghost use Rattle.edge.specs.Below.{EdgesBelow};
 
+use edge::Ends;
 use edit_answers::FaceEditError;
 use listing::put_turned;
-use wire::check_wire;
-use words::copy_u16s;
+use wire::{Marks, Wire};
+use words::copy_to;
 
 // Writes the two results one after the other: the outline's first k uses and the wire, the rest and
 // the wire turned.
@@ -26,78 +27,94 @@ fn put_two(along: &[u16], k: usize, wire: &[u16], out: &mut [u16])
     let rest = &along[k..n];
     let next = k + m;
     let last = n + m;
-    copy_u16s(part, out, 0);
-    copy_u16s(wire, out, k);
-    copy_u16s(rest, out, next);
+    copy_to(part, out, 0);
+    copy_to(wire, out, k);
+    copy_to(rest, out, next);
     put_turned(out, last, wire);
 }
 
-// Whether the first n uses, and those from there to `all`, each keep the face rule.
-fn keep_rule(both: &[u16], n: usize, all: usize, fronts: &[u16], backs: &[u16]) -> bool
-    requires n_le_all { (n ≤ all) × (all ≤ length both.now) }
-    requires named { Named fronts.now backs.now (take all both.now) }
-    ensures { result ≡ (keeps_rule fronts.now backs.now (take n both.now ∷ []) && keeps_rule fronts.now backs.now (take (all - n) (drop n both.now) ∷ [])) }
+// Whether two wires each keep the face rule.
+fn keep_rule(first: &Wire, second: &Wire) -> bool
+    ensures { result ≡ (of_wire keeps first.now && of_wire keeps second.now) }
 {
-    let mut marks = [0u16; 2048];
-    check_wire(&both[0..n], fronts, backs, &mut marks, 1).is_ok()
-        && check_wire(&both[n..all], fronts, backs, &mut marks, 2).is_ok()
+    let mut marks = Marks::new();
+    first.check(&mut marks).is_ok() && second.check(&mut marks).is_ok()
 }
 
 // Writes the two results, if they keep the face rule (28) and there is room (17).
 fn write_two(
-    both: &[u16],
-    n: usize,
-    all: usize,
-    fronts: &[u16],
-    backs: &[u16],
+    first: &Wire,
+    second: &Wire,
     uses: &mut [u16],
     lens: &mut [u16],
 ) -> Result<(usize, usize), FaceEditError>
-    requires n_le_all { (n ≤ all) × (all ≤ length both.now) × (all ≤ 8192) }
-    requires named { Named fronts.now backs.now (take all both.now) }
-    ensures value { result ≡ (cut_two fronts.now backs.now (take n both.now) (take (all - n) (drop n both.now)) (length uses.old) (length lens.old)).answer }
-    ensures uses_after { uses.new ≡ sets uses.old 0 (flat (cut_two fronts.now backs.now (take n both.now) (take (all - n) (drop n both.now)) (length uses.old) (length lens.old)).out) }
-    ensures lens_after { lens.new ≡ sets lens.old 0 (map length (cut_two fronts.now backs.now (take n both.now) (take (all - n) (drop n both.now)) (length uses.old) (length lens.old)).out) }
+    requires same_ends { second.now.ends ≡ first.now.ends }
+    requires few { length first.now.uses.now + length second.now.uses.now ≤ 8192 }
+    ensures value { result ≡ (cut_two first.now.ends.fronts.now first.now.ends.backs.now first.now.uses.now second.now.uses.now (length uses.old) (length lens.old)).answer }
+    ensures uses_after { uses.new ≡ sets uses.old 0 (flat (cut_two first.now.ends.fronts.now first.now.ends.backs.now first.now.uses.now second.now.uses.now (length uses.old) (length lens.old)).out) }
+    ensures lens_after { lens.new ≡ sets lens.old 0 (map length (cut_two first.now.ends.fronts.now first.now.ends.backs.now first.now.uses.now second.now.uses.now (length uses.old) (length lens.old)).out) }
 {
-    if !keep_rule(both, n, all, fronts, backs) {
+    if !keep_rule(first, second) {
         return Err(FaceEditError::FaceRule);
     }
-    if uses.len() < all {
+    let n = first.uses.len();
+    let m = second.uses.len();
+    if uses.len() < n + m {
         return Err(FaceEditError::NoSpace);
     }
     if lens.len() < 2 {
         return Err(FaceEditError::NoSpace);
     }
-    copy_u16s(&both[0..all], uses, 0);
+    copy_to(first.uses, uses, 0);
+    copy_to(second.uses, uses, n);
     lens[0] = n as u16;
-    lens[1] = (all - n) as u16;
-    Ok((all, 2))
+    lens[1] = m as u16;
+    Ok((n + m, 2))
 }
 
-// Cuts an outline that begins at the wire's back and comes to its front after k uses: 28, 17. A wire
-// of more than 2,048 uses meets a point twice.
-pub fn cut_after(
-    along: &[u16],
-    k: usize,
-    wire: &[u16],
-    fronts: &[u16],
-    backs: &[u16],
-    uses: &mut [u16],
-    lens: &mut [u16],
-) -> Result<(usize, usize), FaceEditError>
-    requires k_in_bounds { (k ≤ length along.now) × (length along.now ≤ 4096) }
-    requires point_ends { PointEnds fronts.now backs.now }
-    requires edges_below { EdgesBelow (length fronts.now) along.now }
-    requires edges_below_2 { EdgesBelow (length fronts.now) wire.now }
-    ensures value { result ≡ (cut_after fronts.now backs.now along.now k wire.now (length uses.old) (length lens.old)).answer }
-    ensures uses_after { uses.new ≡ sets uses.old 0 (flat (cut_after fronts.now backs.now along.now k wire.now (length uses.old) (length lens.old)).out) }
-    ensures lens_after { lens.new ≡ sets lens.old 0 (map length (cut_after fronts.now backs.now along.now k wire.now (length uses.old) (length lens.old)).out) }
-{
-    let m = wire.len();
-    if m > 2048 {
-        return Err(FaceEditError::FaceRule);
+// An outline, and a wire to cut it by, with the ends of all edges: each use names an edge, and each end
+// is one of 2,048 points.
+#[derive(Clone, Copy)]
+pub struct Cutting<'a> {
+    pub outline: &'a [u16],
+    pub wire: &'a [u16],
+    pub ends: Ends<'a>,
+    ghost few: { length outline.now ≤ 4096 },
+    ghost point_ends: { PointEnds ends.fronts.now ends.backs.now },
+    ghost outline_edges: { EdgesBelow (length ends.fronts.now) outline.now },
+    ghost wire_edges: { EdgesBelow (length ends.fronts.now) wire.now },
+}
+
+impl<'a> Cutting<'a> {
+    // Cuts an outline that begins at the wire's back and comes to its front after k uses: 28, 17. A wire
+    // of more than 2,048 uses meets a point twice.
+    pub fn cut_after(
+        &self,
+        k: usize,
+        uses: &mut [u16],
+        lens: &mut [u16],
+    ) -> Result<(usize, usize), FaceEditError>
+        requires { k ≤ length self.now.outline.now }
+        ensures value { result ≡ (cut_after self.now.ends.fronts.now self.now.ends.backs.now self.now.outline.now k self.now.wire.now (length uses.old) (length lens.old)).answer }
+        ensures uses_after { uses.new ≡ sets uses.old 0 (flat (cut_after self.now.ends.fronts.now self.now.ends.backs.now self.now.outline.now k self.now.wire.now (length uses.old) (length lens.old)).out) }
+        ensures lens_after { lens.new ≡ sets lens.old 0 (map length (cut_after self.now.ends.fronts.now self.now.ends.backs.now self.now.outline.now k self.now.wire.now (length uses.old) (length lens.old)).out) }
+    {
+        let m = self.wire.len();
+        if m > 2048 {
+            return Err(FaceEditError::FaceRule);
+        }
+        let mut both = [0u16; 8192];
+        put_two(self.outline, k, self.wire, &mut both);
+        let n = k + m;
+        let all = self.outline.len() + 2 * m;
+        let first = Wire {
+            uses: &both[..n],
+            ends: self.ends,
+        };
+        let second = Wire {
+            uses: &both[n..all],
+            ends: self.ends,
+        };
+        write_two(&first, &second, uses, lens)
     }
-    let mut both = [0u16; 8192];
-    put_two(along, k, wire, &mut both);
-    write_two(&both, k + m, along.len() + 2 * m, fronts, backs, uses, lens)
 }

@@ -77,7 +77,7 @@ module _ (s : Bool) (ds : List ℕ) (h : all_digits ds ≡ true) (some : 0 < len
     pointed_word g more l =
         let w = ds ++ (46 ∷ es) in
         let long : length w ≡ length ds + suc (length es) = length-append ds (46 ∷ es) in
-        let first : take (length ds - 0) w ≡ ds = take_at ds (46 ∷ es) (length ds - 0) (omega arith) in
+        let first : take (length ds) w ≡ ds = take_at ds (46 ∷ es) (length ds) (omega arith) in
         let rest : take (length w - (length ds + 1)) (drop (length ds + 1) w) ≡ es =
         rw (drop-append-add ds (46 ∷ es) 1) (take_all (length w - (length ds + 1)) es (omega arith)) in
         let count : length w - (length ds + 1) ≡ length es = omega arith in

@@ -59,9 +59,9 @@ pub room_after : (m a b : ℕ) → m + 1 ≤ 1 * 10 ^ a → a + b ≤ 15 → (m 
 room_after m a b h l = omega (arith, mul-le-mul_right (10 ^ b) h, pow-add 10 a b, ten_most (a + b) l)
 
 -- the two parts of a word of at most 16 bytes, as the code takes them
-pub parts_short : (w : List ℕ) (p : ℕ) → p < length w → length w ≤ 16 → length (take (p - 0) w) + length (take (length w - (p + 1)) (drop (p + 1) w)) ≤ 15
+pub parts_short : (w : List ℕ) (p : ℕ) → p < length w → length w ≤ 16 → length (take p w) + length (take (length w - (p + 1)) (drop (p + 1) w)) ≤ 15
 parts_short w p h l =
-    let first : length (take (p - 0) w) ≤ p = omega (arith, length-take (p - 0) w) in
+    let first : length (take p w) ≤ p = omega (arith, length-take p w) in
     let rest : length (take (length w - (p + 1)) (drop (p + 1) w)) ≤ length w - (p + 1) = omega (arith, length-take (length w - (p + 1)) (drop (p + 1) w)) in
     omega arith
 
@@ -103,12 +103,12 @@ module _ (s : Bool) (w : List ℕ) (point : ℕ) (at : point ≡ length (whole w
     pub none_behind : point + 1 ≡ length w → None ≡ unsigned s w
     none_behind e = sym (split ∙ rw (eq-eqb (length (places w)) 0 (omega (arith, length-drop (suc (length (whole w))) w))))
 
-    pub one_point_is : (point + 1 ≡ length w → ⊥) → length w ≤ 16 → (t : Option ℕ) → t ≡ token tens 0 (take (point - 0) w)
+    pub one_point_is : (point + 1 ≡ length w → ⊥) → length w ≤ 16 → (t : Option ℕ) → t ≡ token tens 0 (take point w)
         → behind s (length w - (point + 1)) t (take (length w - (point + 1)) (drop (point + 1) w)) ≡ unsigned s w
     one_point_is e l t is =
         let some-behind : length (places w) ≡ 0 → ⊥ = λ z. e (omega (arith, length-drop (suc (length (whole w))) w)) in
         let count : length w - (point + 1) ≡ length (places w) = omega (arith, length-drop (suc (length (whole w))) w) in
-        let first : take (point - 0) w ≡ whole w = let z : point - 0 ≡ length (whole w) = omega arith in rw z (sym (before_take is_point w)) in
+        let first : take point w ≡ whole w = rw at (sym (before_take is_point w)) in
         let rest : take (length w - (point + 1)) (drop (point + 1) w) ≡ places w = take_all (length w - (point + 1)) (drop (point + 1) w) (omega (arith, length-drop (point + 1) w)) ∙ rw (add-one point, at) in
         rw (is, first, rest, count)
         (sym

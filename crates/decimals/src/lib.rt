@@ -1,9 +1,9 @@
 // f64 as words: read from a decimal or from hexadecimal digits, and written so that they read back.
 #![tactic(auto)]
 
-ghost use Rattle.std.specs.Prelude.{◌≡◌, ◌+◌, ◌*◌, ◌%◌, ◌^◌, ◌<◌, ◌≤◌, None, Some, false, length};
+ghost use Rattle.std.specs.Prelude.{◌≡◌, ◌+◌, ◌*◌, ◌%◌, ◌^◌, ◌<◌, ◌≤◌, None, Some, false, length, nat_lt};
 ghost use Rattle.std.specs.Float.{binary64};
-ghost use Rattle.std.specs.Float.Ieee.{round, to_unsigned};
+ghost use Rattle.std.specs.Float.Ieee.{round};
 ghost use Rattle.std.proofs.lemmas.List.Edits.{sets};
 ghost use Rattle.lists.specs.Lists.{pick};
 ghost use Rattle.text.specs.Text.{before};
@@ -12,6 +12,7 @@ ghost use Rattle.decimals.specs.Decimals.{decimal_text, hex, hex_digit, hex_text
 ghost use Rattle.decimals.specs.Parts.{digit_byte, last_in, places_text, sign_text};
 
 use output::{put_decimal, put_text};
+use text::digits_after;
 
 fn ten_to(k: usize) -> u64
     requires { k ≤ 15 }
@@ -40,30 +41,6 @@ fn nearest_bits(negative: bool, m: u64, k: usize) -> u64
     bits
 }
 
-fn wide(b: u8) -> u64
-    ensures { (result ≡ b) × (result < 256) }
-{
-    b as u64
-}
-
-// The digits of a word, after those of the number n.
-fn digits_after(word: &[u8], n: u64) -> Option<u64>
-    requires { (n + 1) * 10 ^ length word.now ≤ 1000000000000000 }
-    ensures { result ≡ pick (all_digits word.now) (Some (value_after n word.now)) None }
-{
-    let mut m = n;
-    for b in word {
-        if *b < b'0' {
-            return None;
-        }
-        if *b > b'9' {
-            return None;
-        }
-        m = m * 10 + (wide(*b) - 48);
-    }
-    Some(m)
-}
-
 // Where the point of a word stands; the word's length where there is none.
 fn point_of(word: &[u8]) -> usize
     ensures { (result ≡ length (before is_point word.now)) × (result ≤ length word.now) }
@@ -76,7 +53,7 @@ fn places_after(negative: bool, word: &[u8], n: u64, k: usize) -> Option<u64>
     requires { ((n + 1) * 10 ^ length word.now ≤ 1000000000000000) × (k ≤ 15) }
     ensures { result ≡ pick (all_digits word.now) (Some (nearest_bits negative (value_after n word.now) k)) None }
 {
-    let m = digits_after(word, n)?;
+    let m = digits_after(n, word)?;
     Some(nearest_bits(negative, m, k))
 }
 
@@ -102,34 +79,20 @@ fn unsigned_of(negative: bool, word: &[u8]) -> Option<u64>
     if first == n {
         return None;
     }
-    let m = digits_after(&word[0..point], 0)?;
-    places_after(negative, &word[first..n], m, n - first)
+    let m = digits_after(0, &word[..point])?;
+    places_after(negative, &word[first..], m, n - first)
 }
 
-// The value of a hexadecimal digit, or 16.
-fn hex_digit(b: u8) -> u64
-    ensures { (result ≡ hex_digit b) × (result ≤ 16) }
+// The value of a hexadecimal digit.
+fn hex_digit(b: u8) -> Option<u64>
+    ensures { result ≡ pick (nat_lt (hex_digit b) 16) (Some (hex_digit b)) None }
 {
-    let n = wide(b);
-    if n < 48 {
-        return 16;
+    match b {
+        b'0'..=b'9' => Some(u64::from(b - b'0')),
+        b'a'..=b'f' => Some(u64::from(b - b'a') + 10),
+        b'A'..=b'F' => Some(u64::from(b - b'A') + 10),
+        _ => None,
     }
-    if n <= 57 {
-        return n - 48;
-    }
-    if n < 65 {
-        return 16;
-    }
-    if n <= 70 {
-        return n - 55;
-    }
-    if n < 97 {
-        return 16;
-    }
-    if n <= 102 {
-        return n - 87;
-    }
-    16
 }
 
 // 0x and 16 hexadecimal digits.
@@ -141,49 +104,21 @@ fn hex_of(word: &[u8]) -> Option<u64>
     }
     let mut n: u64 = 0;
     for b in &word[2..] {
-        let d = hex_digit(*b);
-        if d == 16 {
-            return None;
-        }
-        n = n * 16 + d;
+        n = n * 16 + hex_digit(*b)?;
     }
     Some(n)
 }
 
 // An f64, as its bits.
+#[tactic(auto, unfolding(crate::specs::Decimals::real))]
 pub fn real_of(word: &[u8]) -> Option<u64>
     ensures { result ≡ real word.now }
 {
-    let n = word.len();
-    if n == 0 {
-        return None;
+    match word {
+        [b'-', rest @ ..] => unsigned_of(true, rest),
+        [b'0', b'x', ..] => hex_of(word),
+        _ => unsigned_of(false, word),
     }
-    if word[0] == b'-' {
-        return unsigned_of(true, &word[1..n]);
-    }
-    if n == 1 {
-        return unsigned_of(false, word);
-    }
-    if word[0] != b'0' {
-        return unsigned_of(false, word);
-    }
-    if word[1] != b'x' {
-        return unsigned_of(false, word);
-    }
-    hex_of(word)
-}
-
-// A float without its fraction, at most 2^64 - 1.
-fn whole_of(x: f64) -> u64
-    ensures { result ≡ to_unsigned 64 x }
-{
-    if x > -1.0 {
-        if x < 18446744073709551616.0 {
-            return std::num::truncating_f64_to_u64(x);
-        }
-        return 0xffff_ffff_ffff_ffff;
-    }
-    0
 }
 
 // A magnitude of at most 1,000,000 times 10^k, plus a half, without its fraction.
@@ -191,7 +126,7 @@ fn scaled_of(bits: u64, k: usize) -> u64
     requires { (bits % 0x8000000000000000 ≤ 0x412e848000000000) × (k ≤ 9) }
     ensures { result ≡ scaled bits k }
 {
-    whole_of(f64::from_bits(bits % 0x8000000000000000) * power(k) + 0.5)
+    std::num::saturating_f64_to_u64(f64::from_bits(bits % 0x8000000000000000) * power(k) + 0.5)
 }
 
 // Whether the decimal with k places reads back.

@@ -4,16 +4,6 @@
 
 use pattern::LONGEST;
 
-fn print_file(rt: &HostRuntime, file: &[u8; LONGEST], n: usize) {
-    if let Err(e) = console::print_first(rt, file, n) {
-        console::fail(rt, b"draft: standard output", e);
-    }
-}
-
-fn print_line(rt: &HostRuntime, line: &[u8; 256], n: usize) {
-    let _ = console::print_first(&rt.stderr(), line, n);
-}
-
 fn main(rt: HostRuntime) {
     if !console::is_alone(
         &rt,
@@ -28,14 +18,16 @@ fn main(rt: HostRuntime) {
         return;
     };
     let mut file = [0u8; LONGEST];
-    match draft_text::make(&text[0..n], &mut file) {
+    match draft_text::make(&text[..n], &mut file) {
         Ok(length) => {
-            print_file(&rt, &file, length);
+            if let Err(e) = console::print_first(&rt, &file, length) {
+                console::fail(&rt, b"draft: standard output", e);
+            }
         }
         other => {
             let mut line = [0u8; 256];
             let length = draft_faults::put_made(other, &mut line);
-            print_line(&rt, &line, length);
+            let _ = rt.stderr().write_all(&line[..length]);
         }
     }
 }

@@ -8,7 +8,6 @@ use mathlib.Core.Path.{◌∙◌, ◌≡◌, ap, refl}
 use native.Mathlib.Omega.{arith}
 use lib.ListN.{length}
 use lib.Seq.{sets}
-use borrow.Author.Tests.{ne_eqb}
 use Rattle.lists.proofs.Sets.{Put}
 use Rattle.draft_forms.specs.declared.LineKind.{LineKind}
 use Rattle.draft_forms.specs.declared.LineKind.TheVariants.{Comment, Edge, Empty, Face, Point, Shell, Unknown}
@@ -19,31 +18,6 @@ use Rattle.errors.specs.declared.Refusal.TheVariants.{Unnamed}
 use Rattle.output.specs.Text.{ascii, decimal, digits, field}
 use Rattle.draft_text.specs.declared.Fault.{Fault}
 use Rattle.draft_text.specs.declared.Fault.TheVariants.{Number, Refused, Word}
-
--- the last form, the last word and the last meaning are those of what no test names
-pub form_last : (k : LineKind) → (k ≡ Point → ⊥) → (k ≡ Edge → ⊥) → (k ≡ Face → ⊥) → (k ≡ Empty → ⊥) → line_form k ≡ line_form Shell
-unfolding line_form
-form_last Point a b c d = absurd (a refl)
-form_last Edge a b c d = absurd (b refl)
-form_last Face a b c d = absurd (c refl)
-form_last Shell a b c d = refl
-form_last Comment a b c d = refl
-form_last Empty a b c d = absurd (d refl)
-form_last Unknown a b c d = refl
-
-pub word_last : (k : LineKind) → (k ≡ Point → ⊥) → (k ≡ Edge → ⊥) → (k ≡ Face → ⊥) → line_word k ≡ line_word Shell
-unfolding line_word
-word_last Point a b c = absurd (a refl)
-word_last Edge a b c = absurd (b refl)
-word_last Face a b c = absurd (c refl)
-word_last Shell a b c = refl
-word_last Comment a b c = refl
-word_last Empty a b c = refl
-word_last Unknown a b c = refl
-
-pub meaning_last : (n : ℕ) → (n ≡ 2 → ⊥) → (n ≡ 3 → ⊥) → (n ≡ 4 → ⊥) → (n ≡ 5 → ⊥) → (n ≡ 6 → ⊥) → (n ≡ 7 → ⊥) → (n ≡ 8 → ⊥) → meaning n ≡ meaning 1
-unfolding meaning
-meaning_last n a b c d e f g = rw (ne_eqb n 2 a, ne_eqb n 3 b, ne_eqb n 4 c, ne_eqb n 5 d, ne_eqb n 6 e, ne_eqb n 7 f, ne_eqb n 8 g)
 
 -- a text that is another by its definition, and how long it may be
 pub put_short : (l : List ℕ) (at m : ℕ) {xs ys : List ℕ} (out : List ℕ) (end : ℕ) → ys ≡ xs → Put l at xs out end → length xs ≤ m

@@ -7,70 +7,50 @@ ghost use Rattle.draft_faults.specs.FaultLines.{fault_text, line_form, line_word
 
 use draft_forms::LineKind;
 use draft_text::{DraftError, Fault};
-use output::{put_decimal, put_field, put_text};
+use output::{put_field, put_text};
 
-// Writes the form of a line of this kind from `at` on, and returns the place after it.
-fn put_form(out: &mut [u8], at: usize, kind: LineKind) -> usize
-    requires { at + 80 ≤ length out.old }
-    ensures { (out.new ≡ sets out.old at (line_form kind)) × (result ≡ at + length (line_form kind)) × (result ≤ at + 80) }
+// The form of a line of this kind.
+#[tactic(auto, unfolding(crate::specs::FaultLines::line_form))]
+fn form_of(kind: LineKind) -> &'static [u8]
+    ensures { (result.now ≡ line_form kind) × (length result.now ≤ 80) }
 {
     match kind {
-        LineKind::Point => put_text(out, at, b"point NUMBER label LABEL\n"),
-        LineKind::Edge => put_text(out, at, b"edge NUMBER from POINT to POINT span T0 T1\n"),
-        LineKind::Face => put_text(
-            out,
-            at,
-            b"face NUMBER surface SURFACE wire USE .. wire USE ..\n",
-        ),
-        LineKind::Empty => put_text(out, at, b"empty\n"),
-        _ => put_text(out, at, b"shell NUMBER faces LISTING ..\n"),
+        LineKind::Point => b"point NUMBER label LABEL\n",
+        LineKind::Edge => b"edge NUMBER from POINT to POINT span T0 T1\n",
+        LineKind::Face => b"face NUMBER surface SURFACE wire USE .. wire USE ..\n",
+        LineKind::Empty => b"empty\n",
+        _ => b"shell NUMBER faces LISTING ..\n",
     }
 }
 
-// Writes the word of a line of this kind, which has a number, from `at` on, and returns the place after it.
-fn put_word(out: &mut [u8], at: usize, kind: LineKind) -> usize
-    requires { at + 80 ≤ length out.old }
-    ensures { (out.new ≡ sets out.old at (line_word kind)) × (result ≡ at + length (line_word kind)) × (result ≤ at + 80) }
+// The word of a line of this kind, which has a number.
+#[tactic(auto, unfolding(crate::specs::FaultLines::line_word))]
+fn word_of(kind: LineKind) -> &'static [u8]
+    ensures { (result.now ≡ line_word kind) × (length result.now ≤ 80) }
 {
     match kind {
-        LineKind::Point => put_text(out, at, b": point "),
-        LineKind::Edge => put_text(out, at, b": edge "),
-        LineKind::Face => put_text(out, at, b": face "),
-        _ => put_text(out, at, b": shell "),
+        LineKind::Point => b": point ",
+        LineKind::Edge => b": edge ",
+        LineKind::Face => b": face ",
+        _ => b": shell ",
     }
 }
 
-// Writes the meaning of refusal n from `at` on, and returns the place after it.
-fn put_meaning(out: &mut [u8], at: usize, n: usize) -> usize
-    requires { at + 80 ≤ length out.old }
-    ensures { (out.new ≡ sets out.old at (meaning n)) × (result ≡ at + length (meaning n)) × (result ≤ at + 80) }
+// The meaning of refusal n.
+#[tactic(auto, unfolding(crate::specs::FaultLines::meaning))]
+fn meaning(n: usize) -> &'static [u8]
+    ensures { (result.now ≡ meaning n) × (length result.now ≤ 80) }
 {
-    if n == 2 {
-        return put_text(out, at, b": more records than the limit\n");
+    match n {
+        2 => b": more records than the limit\n",
+        3 => b": a number that names nothing\n",
+        4 => b": bad span\n",
+        5 => b": an edge from a point to itself\n",
+        6 => b": a wire without uses\n",
+        7 => b": a wire that is not closed\n",
+        8 => b": a wire that meets a point twice, or meets an earlier wire of its face\n",
+        _ => b": file layout\n",
     }
-    if n == 3 {
-        return put_text(out, at, b": a number that names nothing\n");
-    }
-    if n == 4 {
-        return put_text(out, at, b": bad span\n");
-    }
-    if n == 5 {
-        return put_text(out, at, b": an edge from a point to itself\n");
-    }
-    if n == 6 {
-        return put_text(out, at, b": a wire without uses\n");
-    }
-    if n == 7 {
-        return put_text(out, at, b": a wire that is not closed\n");
-    }
-    if n == 8 {
-        return put_text(
-            out,
-            at,
-            b": a wire that meets a point twice, or meets an earlier wire of its face\n",
-        );
-    }
-    put_text(out, at, b": file layout\n")
 }
 
 // Writes what is wrong from `at` on, and returns the place after it.
@@ -89,17 +69,16 @@ fn put_fault(out: &mut [u8], at: usize, f: Fault) -> usize
             }
             let mut end = put_field(out, at, b": word ", w);
             end = put_text(out, end, b" of ");
-            put_form(out, end, kind)
+            put_text(out, end, form_of(kind))
         }
         Fault::Number(kind, n) => {
-            let mut end = put_word(out, at, kind);
-            end = put_decimal(out, end, n);
+            let end = put_field(out, at, word_of(kind), n);
             put_text(out, end, b" is expected\n")
         }
         Fault::Refused(r) => {
             let n = r.number();
             let end = put_field(out, at, b": refused ", n);
-            put_meaning(out, end, n)
+            put_text(out, end, meaning(n))
         }
     }
 }

@@ -1,5 +1,6 @@
 -- The form of a line of text that describes a pattern: its kind, and what each of its words must be (docs/GUIDE.md, A first garment by hand).
 use Rattle.std.specs.Prelude.{ℕ, List, [], ◌∷◌, eqb, drop, get_or, None, Option, Some}
+use Rattle.std.specs.Str.{bytes_eq}
 use Rattle.forms.specs.Forms.{values}
 use Rattle.forms.specs.declared.WordKind.{WordKind}
 use Rattle.forms.specs.declared.WordKind.TheVariants.{Label, Named, Number, Real, Short, Signed, Wires}
@@ -9,18 +10,19 @@ use Rattle.lists.specs.Lists.{pick}
 use Rattle.output.specs.Text.{ascii}
 use Rattle.text.specs.Tokens.{name}
 
-unfoldable pub kind_named : ℕ → LineKind
-kind_named n =
-    pick (eqb n (name (ascii "point"))) Point
-    (pick (eqb n (name (ascii "edge"))) Edge
-    (pick (eqb n (name (ascii "face"))) Face
-    (pick (eqb n (name (ascii "shell"))) Shell
-    (pick (eqb n (name (ascii "empty"))) Empty Unknown))))
+-- the kind that a name asks for
+unfoldable pub kind_named : List ℕ → LineKind
+kind_named w =
+    pick (bytes_eq w (ascii "point")) Point
+    (pick (bytes_eq w (ascii "edge")) Edge
+    (pick (bytes_eq w (ascii "face")) Face
+    (pick (bytes_eq w (ascii "shell")) Shell
+    (pick (bytes_eq w (ascii "empty")) Empty Unknown))))
 
 -- a comment begins with #; a line with no words is one too
 abbrev pub line_kind : List (List ℕ) → LineKind
 line_kind [] = Comment
-line_kind (w ∷ ws) = pick (eqb (get_or w 0 0) 35) Comment (kind_named (name w))
+line_kind (w ∷ ws) = pick (eqb (get_or w 0 0) 35) Comment (kind_named w)
 
 -- point NUMBER label LABEL; edge NUMBER from POINT to POINT span T0 T1; face NUMBER surface SURFACE wire USE .. wire USE ..; shell NUMBER faces LISTING ..; empty
 unfoldable pub word_kinds : LineKind → List WordKind

@@ -8,7 +8,7 @@ ghost use Rattle.forms.specs.Forms.{values};
 ghost use Rattle.draft_forms.specs.LineForms.{body_counted, further_kind, kind_named, line_kind, word_kinds};
 
 use forms::{Matched, WordKind, put_values};
-use text::{name_of, word_end, word_start};
+use text::{name_of, next_word};
 
 // What a line is, by its first word.
 #[derive(Clone, Copy)]
@@ -26,100 +26,87 @@ pub enum LineKind {
 }
 
 // Which kind of line a name asks for.
-fn kind_named(name: u64) -> LineKind
-    ensures { result ≡ kind_named name }
+#[tactic(auto, unfolding(crate::specs::LineForms::kind_named))]
+fn kind_named(name: &[u8]) -> LineKind
+    ensures { result ≡ kind_named name.now }
 {
-    if name == 0x1706f696e74 {
-        return LineKind::Point;
+    match name {
+        b"point" => LineKind::Point,
+        b"edge" => LineKind::Edge,
+        b"face" => LineKind::Face,
+        b"shell" => LineKind::Shell,
+        b"empty" => LineKind::Empty,
+        _ => LineKind::Unknown,
     }
-    if name == 0x165646765 {
-        return LineKind::Edge;
-    }
-    if name == 0x166616365 {
-        return LineKind::Face;
-    }
-    if name == 0x17368656c6c {
-        return LineKind::Shell;
-    }
-    if name == 0x1656d707479 {
-        return LineKind::Empty;
-    }
-    LineKind::Unknown
 }
 
-// The kind of a line, and where its first word ends.
+// The kind of a line, and what follows its first word.
 #[derive(Clone, Copy)]
-pub struct Kind {
+pub struct Kind<'a> {
     pub kind: LineKind,
-    pub end: usize,
+    pub rest: &'a [u8],
 }
 
-pub fn kind_of(line: &[u8]) -> Kind
-    ensures { (result.kind ≡ line_kind (words line.now)) × (result.end ≤ length line.now) × (words (drop result.end line.now) ≡ drop 1 (words line.now)) }
+pub fn kind_of(line: &[u8]) -> Kind<'_>
+    ensures { (result.kind ≡ line_kind (words line.now)) × (words result.rest.now ≡ drop 1 (words line.now)) × (length result.rest.now ≤ length line.now) }
 {
-    let start = word_start(line, 0);
-    let end = word_end(line, start);
-    if start == end {
+    let Some((word, rest)) = next_word(line) else {
         return Kind {
             kind: LineKind::Comment,
-            end: end,
+            rest: line,
         };
-    }
-    if line[start] == b'#' {
-        return Kind {
-            kind: LineKind::Comment,
-            end: end,
-        };
-    }
-    Kind {
-        kind: kind_named(name_of(&line[start..end])),
-        end: end,
-    }
+    };
+    let kind = match word {
+        [b'#', ..] => LineKind::Comment,
+        _ => kind_named(word),
+    };
+    Kind { kind, rest }
 }
 
-// The values of the words from `from` on of a line of this kind.
-pub fn match_line(kind: LineKind, line: &[u8], from: usize, out: &mut [u64]) -> Matched
-    requires { (from ≤ length line.now) × (length line.now ≤ 2 * length out.old) }
-    ensures out_after { out.new ≡ sets out.old 0 (values (word_kinds kind) (further_kind kind) 0 (words (drop from line.now))) }
-    ensures words_value { result.words ≡ length (values (word_kinds kind) (further_kind kind) 0 (words (drop from line.now))) }
-    ensures all_value { result.all ≡ eqb (length (values (word_kinds kind) (further_kind kind) 0 (words (drop from line.now)))) (length (words (drop from line.now))) }
+// The values of the words after the first of a line of this kind.
+#[tactic(auto, unfolding(crate::specs::LineForms::word_kinds, crate::specs::LineForms::further_kind))]
+pub fn match_line(kind: LineKind, line: &[u8], out: &mut [u64]) -> Matched
+    requires { length line.now ≤ 2 * length out.old }
+    ensures out_after { out.new ≡ sets out.old 0 (values (word_kinds kind) (further_kind kind) 0 (words line.now)) }
+    ensures words_value { result.words ≡ length (values (word_kinds kind) (further_kind kind) 0 (words line.now)) }
+    ensures all_value { result.all ≡ eqb (length (values (word_kinds kind) (further_kind kind) 0 (words line.now))) (length (words line.now)) }
 {
     match kind {
         LineKind::Point => {
             let kinds = [
                 WordKind::Number,
-                WordKind::Named(0x16c6162656c),
+                WordKind::Named(name_of(b"label")),
                 WordKind::Label,
             ];
-            put_values(line, from, &kinds, None, out)
+            put_values(line, &kinds, None, out)
         }
         LineKind::Edge => {
             let kinds = [
                 WordKind::Number,
-                WordKind::Named(0x166726f6d),
+                WordKind::Named(name_of(b"from")),
                 WordKind::Number,
-                WordKind::Named(0x1746f),
+                WordKind::Named(name_of(b"to")),
                 WordKind::Number,
-                WordKind::Named(0x17370616e),
+                WordKind::Named(name_of(b"span")),
                 WordKind::Real,
                 WordKind::Real,
             ];
-            put_values(line, from, &kinds, None, out)
+            put_values(line, &kinds, None, out)
         }
         LineKind::Face => {
             let kinds = [
                 WordKind::Number,
-                WordKind::Named(0x173757266616365),
+                WordKind::Named(name_of(b"surface")),
                 WordKind::Short,
-                WordKind::Named(0x177697265),
+                WordKind::Named(name_of(b"wire")),
             ];
-            put_values(line, from, &kinds, Some(WordKind::Wires), out)
+            put_values(line, &kinds, Some(WordKind::Wires), out)
         }
         LineKind::Shell => {
-            let kinds = [WordKind::Number, WordKind::Named(0x16661636573)];
-            put_values(line, from, &kinds, Some(WordKind::Signed), out)
+            let kinds = [WordKind::Number, WordKind::Named(name_of(b"faces"))];
+            put_values(line, &kinds, Some(WordKind::Signed), out)
         }
-        _ => put_values(line, from, &[], None, out),
+        _ => put_values(line, &[], None, out),
     }
 }
 

@@ -1,20 +1,17 @@
 -- The seven counts after a line.
 use Prim.Native.Nat.{◌+◌, ◌-◌, ◌<◌, ◌≤◌, ℕ}
-use mathlib.Core.Bool.{false}
 use mathlib.Core.List.{List, [], ◌∷◌}
-use mathlib.Core.Path.{◌≡◌, ap, refl, sym}
+use mathlib.Core.Path.{◌≡◌, refl}
 use native.Mathlib.Nat.{add-zero}
 use native.Mathlib.Omega.{arith}
 use lib.ListN.{drop, drop_of_length-le, get_or, length, length-drop, length-map, set, take}
 use lib.Seq.{take_all}
-use lib.Dec.{eqb}
-use borrow.Author.Tests.{ne_eqb}
 use Rattle.draft_forms.specs.declared.LineKind.{LineKind}
 use Rattle.draft_forms.specs.declared.LineKind.TheVariants.{Comment, Edge, Empty, Face, Point, Shell, Unknown}
 use Rattle.lists.specs.Lists.{flat}
 use Rattle.pattern.specs.Contents.{counts_of}
 use Rattle.draft_parts.specs.Adding.{summed}
-use Rattle.draft_parts.specs.Parts.{bare, marked, needed_words, nothing, parts_of, wires_of}
+use Rattle.draft_parts.specs.Parts.{marked, needed_words, nothing, parts_of, wires_of}
 use Rattle.words.specs.Words.{short}
 
 seven_cases : (P : List ℕ → Type 0) → ((a b c d e f g : ℕ) → P (a ∷ b ∷ c ∷ d ∷ e ∷ f ∷ g ∷ [])) → (ns : List ℕ) → length ns ≡ 7 → P ns
@@ -103,12 +100,3 @@ module _ (k : LineKind) (vs ns : List ℕ) (seven : length ns ≡ 7) where
 
   pub after_none : (k ≡ Point → ⊥) → (k ≡ Edge → ⊥) → (k ≡ Face → ⊥) → (k ≡ Shell → ⊥) → ns ≡ summed ns (counts_of (parts_of k vs))
   after_none a b c d = rw (parts_none k vs a b c d) (summed_none ns seven)
-
--- ---- whether there are points, edges, faces or shells
-
-module _ (ns : List ℕ) where
-  pub some : 0 < get_or ns 0 0 + get_or ns 1 0 + get_or ns 4 0 + get_or ns 5 0 → false ≡ bare ns
-  some h = sym (ne_eqb (get_or ns 0 0 + get_or ns 1 0 + get_or ns 4 0 + get_or ns 5 0) 0 (λ e. omega arith))
-
-  pub none : get_or ns 0 0 ≤ 0 → get_or ns 1 0 ≤ 0 → get_or ns 4 0 ≤ 0 → eqb (get_or ns 5 0) 0 ≡ bare ns
-  none a b c = let e : get_or ns 0 0 + get_or ns 1 0 + get_or ns 4 0 + get_or ns 5 0 ≡ get_or ns 5 0 = omega arith in ap (λ (n : ℕ). eqb n 0) (sym e)

@@ -40,29 +40,20 @@ pub fn needed(kind: LineKind) -> usize
 pub fn is_bare(counts: Counts) -> bool
     ensures { result ≡ bare counts }
 {
-    if counts[0] > 0 {
-        return false;
-    }
-    if counts[1] > 0 {
-        return false;
-    }
-    if counts[4] > 0 {
-        return false;
-    }
-    counts[5] == 0
+    matches!(counts, [0, 0, _, _, 0, 0, _])
 }
 
 // A length as a number of 16 bits; 65,535 for a larger one.
 fn small_length(n: usize) -> u16
     ensures { result ≡ short n }
 {
-    if n > 65535 { 65535 } else { n as u16 }
+    n.min(65535) as u16
 }
 
 fn label_of(v: u64) -> u32
     ensures { result ≡ min v 4294967295 }
 {
-    if v > 4294967295 { 4294967295 } else { v as u32 }
+    v.min(4294967295) as u32
 }
 
 // Numbers of uses and wires.
@@ -85,10 +76,7 @@ fn count_wires(v: &[u64]) -> Tail
             uses += 1;
         }
     }
-    Tail {
-        uses: uses,
-        wires: wires,
-    }
+    Tail { uses, wires }
 }
 
 // The counts after a line of this kind with these values.

@@ -48,15 +48,14 @@ pub record Matching (ws : List (List ℕ)) (k : LineKind) (n : ℕ) (all : Bool)
   pub are : take n out ≡ line_values ws
   pub whole : all ≡ eqb (length (line_values ws)) (length (drop 1 ws))
 
-module _ (line l out : List ℕ) (k : LineKind) (end n : ℕ) (all : Bool) (kind : k ≡ line_kind (words line)) (low : end ≤ length line)
-    (rest : words (drop end line) ≡ drop 1 (words line)) (room : length line ≤ 2 * length l) (long : length out ≡ length l) where
-  pub matching : (let vs = values (word_kinds k) (further_kind k) 0 (words (drop end line)) in
-      (out ≡ sets l 0 vs) × ((n ≡ length vs) × (all ≡ eqb (length vs) (length (words (drop end line)))))) → Matching (words line) k n all out
+module _ (line after l out : List ℕ) (k : LineKind) (n : ℕ) (all : Bool) (kind : k ≡ line_kind (words line)) (rest : words after ≡ drop 1 (words line))
+    (short : length after ≤ length line) (room : length line ≤ 2 * length l) (long : length out ≡ length l) where
+  pub matching : (let vs = values (word_kinds k) (further_kind k) 0 (words after) in
+      (out ≡ sets l 0 vs) × ((n ≡ length vs) × (all ≡ eqb (length vs) (length (words after))))) → Matching (words line) k n all out
   matching m =
-      let vs = values (word_kinds k) (further_kind k) 0 (words (drop end line)) in
+      let vs = values (word_kinds k) (further_kind k) 0 (words after) in
       let e : vs ≡ line_values (words line) = rw (rest, kind) in
-      let fit : length vs ≤ length l =
-      omega (arith, values_few (word_kinds k) (further_kind k) 0 (words (drop end line)), words_few (drop end line), length-drop end line) in
+      let fit : length vs ≤ length l = omega (arith, values_few (word_kinds k) (further_kind k) 0 (words after), words_few after) in
       record {
         kind = kind;
         few = omega (arith, m.1.0);

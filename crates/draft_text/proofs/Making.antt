@@ -9,10 +9,9 @@ use mathlib.Core.Bool.{Bool, beq, false, not, true, true≢false}
 use mathlib.Core.List.{List, [], ◌++◌, ◌∷◌}
 use mathlib.Core.Path.{◌∙◌, ◌≡◌, ap, refl, sym}
 use native.Mathlib.Omega.{arith}
-use lib.Dec.{eqb}
 use lib.Ieee.{Float}
-use lib.ListN.{drop, get_or, length}
-use borrow.Author.Tests.{le-leb, le-ltb, lt-ltb, ne_eqb}
+use lib.ListN.{drop, length}
+use borrow.Author.Tests.{le-leb, le-ltb, lt-ltb}
 use Rattle.errors.proofs.Laws.{accepted_none, none_both}
 use Rattle.errors.specs.Faults.{first}
 use Rattle.errors.specs.Numbers.{body, record_number}
@@ -133,21 +132,3 @@ module _ {text t : List ℕ} {spans : List Float} (d : Filed text t spans (judge
       found : (fs : List Refusal) → Err f ≡ first fs → checked fs text (text_file text) ≡ Err (At at (Refused f))
       found [] q = absurd (let z : ◌≡◌ {A = ℕ} 0 1 = cc in omega arith)
       found (g ∷ fs) q = let s : f ≡ g = cc in rw (w, eb, er, s)
-
--- ---- the first bytes of a text
-
-module _ (text : List ℕ) (a b : ℕ) (first : a ≡ get_or text 0 0) (second : b ≡ get_or text 1 0) where
-  pub mark_8 : (third : ℕ) → a ≡ 239 → b ≡ 187 → third ≡ get_or text 2 0 → eqb third 191 ≡ has_mark text
-  mark_8 third h i e = rw (← first, ← second, ← e, h, i)
-
-  pub mark_other : a ≡ 239 → (b ≡ 187 → ⊥) → false ≡ has_mark text
-  mark_other h i = rw (← first, ← second, h, ne_eqb b 187 i)
-
-  pub mark_16_big : a ≡ 254 → eqb b 255 ≡ has_mark text
-  mark_16_big h = rw (← first, ← second, h)
-
-  pub mark_16_little : a ≡ 255 → eqb b 254 ≡ has_mark text
-  mark_16_little h = rw (← first, ← second, h)
-
-  pub mark_none : (a ≡ 239 → ⊥) → (a ≡ 254 → ⊥) → (a ≡ 255 → ⊥) → false ≡ has_mark text
-  mark_none h i j = rw (← first, ← second, ne_eqb a 239 h, ne_eqb a 254 i, ne_eqb a 255 j)

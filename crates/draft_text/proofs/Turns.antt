@@ -5,12 +5,11 @@ use Rattle.std.specs.Prelude.{Err, Ok, Result}
 use Prim.Native.Nat.{◌+◌, ◌-◌, ◌<◌, ◌≤◌, suc, ℕ}
 use mathlib.Core.Bool.{Bool, false, true}
 use mathlib.Core.List.{List, [], ◌++◌, ◌∷◌, map}
-use mathlib.Core.Path.{◌∙◌, ◌≡◌, ap, refl, sym}
+use mathlib.Core.Path.{◌∙◌, ◌≡◌, refl, sym}
 use native.Mathlib.Nat.{zero-add}
 use native.Mathlib.Numerals.{add-one}
 use native.Mathlib.Omega.{arith}
-use lib.ListN.{get_or-eq_default, drop, drop_of_length-le, get_or, length, length-drop, length-take, replicate, take}
-use lib.Seq.{take-take}
+use lib.ListN.{get_or-eq_default, drop, get_or, length, replicate, take}
 use borrow.Author.Tests.{le-ltb, lt-ltb}
 use Rattle.draft_forms.specs.LineForms.{line_kind, line_values}
 use Rattle.draft_forms.specs.declared.LineKind.{LineKind}
@@ -19,54 +18,11 @@ use Rattle.draft_parts.specs.Adding.{summed}
 use Rattle.draft_parts.specs.Parts.{joined, parts_of}
 use Rattle.pattern.specs.Checks.{count_faults}
 use Rattle.pattern.specs.Contents.{Content, counts_of}
-use Rattle.text.proofs.Words.{fed_nil, line_at}
-use Rattle.text.specs.Text.{before, is_feed, lines, trimmed, words}
+use Rattle.text.specs.Text.{lines, words}
 use Rattle.draft_text.proofs.Lines.{Matching, sliced}
 use Rattle.draft_text.specs.Gathering.{first_wrong, stopped}
 use Rattle.draft_text.specs.TextPattern.{first_made, gathered, is_empty, line_faults, line_parts, line_with, said, text_faults}
 use Rattle.draft_text.specs.declared.Fault.{Fault}
-
--- ---- the next line
-
-lines_nil : lines [] ≡ []
-lines_nil = ap (map trimmed) fed_nil
-
--- where a line that begins at `at` ends, and its length without a carriage return
-pub record Here (text : List ℕ) (at end n : ℕ) : Type 0 where
-  pub begins : at < length text
-  pub ends : end ≡ at + length (before is_feed (drop at text))
-  pub within : end ≤ length text
-  pub short : n ≤ length (take (end - at) (drop at text))
-  pub cut : take n (take (end - at) (drop at text)) ≡ trimmed (take (end - at) (drop at text))
-
-module _ {text : List ℕ} {at end n : ℕ} (h : Here text at end n) where
-  pub line_short : n ≤ end - at
-  line_short = omega (arith, h.short, length-take (end - at) (drop at text))
-
-  -- the line as the code takes it, and the rest
-  pub line_here : lines (drop at text) ≡ take (at + n - at) (drop at text) ∷ lines (drop (end + 1) text)
-  line_here =
-      let e : at + n - at ≡ n = omega arith in
-      let s : trimmed (take (end - at) (drop at text)) ≡ take (at + n - at) (drop at text) =
-      sym h.cut ∙ take-take n (end - at) (drop at text) line_short ∙ rw e in
-      ap (map trimmed) (line_at text at end h.begins h.ends) ∙ rw s
-
-  pub line_long : length (take (at + n - at) (drop at text)) ≤ length text
-  line_long = omega (arith, length-take (at + n - at) (drop at text), length-drop at text)
-
-rest_none : (text : List ℕ) (at : ℕ) → length text ≤ at → lines (drop at text) ≡ []
-rest_none text at h = ap lines (drop_of_length-le text h) ∙ lines_nil
-
--- where the lines go on, and the number of the next
-pub record Going (text : List ℕ) (at line : ℕ) : Type 0 where
-  pub low : at ≤ length text + 1
-  pub number : line ≤ at + 1
-
-pub going_start : (text : List ℕ) → Going text 0 1
-going_start text = record { low = omega arith; number = omega arith }
-
-pub going_on : {text : List ℕ} {at end n line : ℕ} → Going text at line → Here text at end n → Going text (end + 1) (line + 1)
-going_on g h = record { low = omega (arith, h.within); number = omega (arith, g.number, h.ends) }
 
 -- ---- gathering
 
@@ -78,37 +34,36 @@ none_of : (fs : List Fault) → Ok tt ≡ first_wrong fs → fs ≡ []
 none_of [] e = refl
 none_of (f ∷ fs) e = absurd (let z : ◌≡◌ {A = ℕ} 0 1 = cc in omega arith)
 
--- the lines up to `at` added to a content p₀ make p
-pub record Gathering (text : List ℕ) (p₀ : Content) (at line : ℕ) (counts : List ℕ) (p : Content) : Type 0 where
-  pub going : Going text at line
+-- the lines before those that are left, added to a content p₀, make p
+pub record Gathering (text : List ℕ) (p₀ : Content) (left : List ℕ) (n : ℕ) (counts : List ℕ) (p : Content) : Type 0 where
+  pub low : 1 ≤ n
+  pub number : n + length left ≤ length text + 1
   pub few : count_faults counts ≡ []
-  pub faults : (m : Result ℕ DraftError) → first_made (text_faults p₀ 1 (lines text)) m ≡ first_made (text_faults p line (lines (drop at text))) m
-  pub parts : gathered p₀ (lines text) ≡ gathered p (lines (drop at text))
+  pub faults : (m : Result ℕ DraftError) → first_made (text_faults p₀ 1 (lines text)) m ≡ first_made (text_faults p n (lines left)) m
+  pub parts : gathered p₀ (lines text) ≡ gathered p (lines left)
 
-pub gathering_start : (text : List ℕ) (p : Content) (counts : List ℕ) → count_faults counts ≡ [] → Gathering text p 0 1 counts p
-gathering_start text p counts few = record { going = going_start text; few = few; faults = λ m. refl; parts = refl }
+pub gathering_start : (text : List ℕ) (p : Content) (counts : List ℕ) → count_faults counts ≡ [] → Gathering text p text 1 counts p
+gathering_start text p counts few = record { low = omega arith; number = omega arith; few = few; faults = λ m. refl; parts = refl }
 
-module _ {text : List ℕ} {p₀ : Content} {at line : ℕ} {counts : List ℕ} {p : Content} (g : Gathering text p₀ at line counts p) where
-  module _ {end n : ℕ} (h : Here text at end n) where
-    abbrev ws : List (List ℕ)
-    ws = words (take (at + n - at) (drop at text))
-
-    pub gathering_wrong : (f : Fault) → Err f ≡ first_wrong (line_faults p ws) → (m : Result ℕ DraftError) → first_made (text_faults p₀ 1 (lines text)) m ≡ stopped (Err (At line f)) m
+module _ {text : List ℕ} {p₀ : Content} {left : List ℕ} {n : ℕ} {counts : List ℕ} {p : Content} (g : Gathering text p₀ left n counts p) where
+  module _ {line : List ℕ} (next : List ℕ) (here : lines left ≡ line ∷ lines next) where
+    pub gathering_wrong : (f : Fault) → Err f ≡ first_wrong (line_faults p (words line)) → (m : Result ℕ DraftError) → first_made (text_faults p₀ 1 (lines text)) m ≡ stopped (Err (At n f)) m
     unfolding text_faults
-    gathering_wrong f e m = g.faults m ∙ rw (line_here h) (first_of line (line_faults p ws) f (text_faults (joined p (line_parts ws)) (suc line) (lines (drop (end + 1) text))) m e)
+    gathering_wrong f e m = g.faults m ∙ rw here (first_of n (line_faults p (words line)) f (text_faults (joined p (line_parts (words line))) (suc n) (lines next)) m e)
 
-    pub gathering_right : (ns : List ℕ) (q : Content) → Ok tt ≡ first_wrong (line_faults p ws) → count_faults ns ≡ [] → q ≡ joined p (line_parts ws) → Gathering text p₀ (end + 1) (line + 1) ns q
+    pub gathering_right : length next < length left → (ns : List ℕ) (q : Content) → Ok tt ≡ first_wrong (line_faults p (words line)) → count_faults ns ≡ [] → q ≡ joined p (line_parts (words line)) → Gathering text p₀ next (n + 1) ns q
     unfolding text_faults gathered
-    gathering_right ns q e l j = record {
-      going = going_on g.going h;
+    gathering_right h ns q e l j = record {
+      low = omega arith;
+      number = omega (arith, g.number);
       few = l;
-      faults = λ m. g.faults m ∙ rw (line_here h, none_of (line_faults p ws) e, j, add-one line);
-      parts = g.parts ∙ rw (line_here h, j);
+      faults = λ m. g.faults m ∙ rw (here, none_of (line_faults p (words line)) e, j, add-one n);
+      parts = g.parts ∙ rw (here, j);
     }
 
-  pub gathering_all : length text ≤ at → ((m : Result ℕ DraftError) → first_made (text_faults p₀ 1 (lines text)) m ≡ m) × ((count_faults counts ≡ []) × (p ≡ gathered p₀ (lines text)))
+  pub gathering_all : lines left ≡ [] → ((m : Result ℕ DraftError) → first_made (text_faults p₀ 1 (lines text)) m ≡ m) × ((count_faults counts ≡ []) × (p ≡ gathered p₀ (lines text)))
   unfolding text_faults gathered
-  gathering_all h = (λ m. g.faults m ∙ rw (rest_none text at h), (g.few, sym (g.parts ∙ rw (rest_none text at h))))
+  gathering_all h = (λ m. g.faults m ∙ rw h, (g.few, sym (g.parts ∙ rw h)))
 
 -- ---- the line with a record
 
@@ -121,26 +76,27 @@ pub line_counts : {ws : List (List ℕ)} {k : LineKind} {n : ℕ} {all : Bool} {
 line_counts {ws} {k} {n} {all} {out} m ns e =
     e ∙ rw (sliced n out (line_values ws) m.are, m.kind) (simp zero-add)
 
-pub record Finding (text : List ℕ) (b r at line left : ℕ) : Type 0 where
-  pub going : Going text at line
-  pub same : line_with b r 1 (lines text) ≡ line_with b left line (lines (drop at text))
+pub record Finding (text : List ℕ) (b r : ℕ) (left : List ℕ) (n before : ℕ) : Type 0 where
+  pub low : 1 ≤ n
+  pub number : n + length left ≤ length text + 1
+  pub same : line_with b r 1 (lines text) ≡ line_with b before n (lines left)
 
-pub finding_start : (text : List ℕ) (b r : ℕ) → Finding text b r 0 1 r
-finding_start text b r = record { going = going_start text; same = refl }
+pub finding_start : (text : List ℕ) (b r : ℕ) → Finding text b r text 1 r
+finding_start text b r = record { low = omega arith; number = omega arith; same = refl }
 
-module _ {text : List ℕ} {b r at line left : ℕ} (f : Finding text b r at line left) where
-  module _ {end n : ℕ} (h : Here text at end n) (m : ℕ) (count : m ≡ get_or (counts_of (line_parts (words (take (at + n - at) (drop at text))))) b 0) where
-    pub finding_here : left < m → line ≡ line_with b r 1 (lines text)
+module _ {text : List ℕ} {b r : ℕ} {left : List ℕ} {n before : ℕ} (f : Finding text b r left n before) where
+  module _ {line : List ℕ} (next : List ℕ) (here : lines left ≡ line ∷ lines next) (m : ℕ) (count : m ≡ get_or (counts_of (line_parts (words line))) b 0) where
+    pub finding_here : before < m → n ≡ line_with b r 1 (lines text)
     unfolding line_with
-    finding_here l = sym (f.same ∙ rw (line_here h, ← count, lt-ltb left m l))
+    finding_here l = sym (f.same ∙ rw (here, ← count, lt-ltb before m l))
 
-    pub finding_next : m ≤ left → Finding text b r (end + 1) (line + 1) (left - m)
+    pub finding_next : length next < length left → m ≤ before → Finding text b r next (n + 1) (before - m)
     unfolding line_with
-    finding_next l = record { going = going_on f.going h; same = f.same ∙ rw (line_here h, ← count, le-ltb left m l, add-one line) }
+    finding_next h l = record { low = omega arith; number = omega (arith, f.number); same = f.same ∙ rw (here, ← count, le-ltb before m l, add-one n) }
 
-  pub finding_all : length text ≤ at → line ≡ line_with b r 1 (lines text)
+  pub finding_all : lines left ≡ [] → n ≡ line_with b r 1 (lines text)
   unfolding line_with
-  finding_all h = sym (f.same ∙ rw (rest_none text at h))
+  finding_all h = sym (f.same ∙ rw h)
 
 -- ---- a line that says that the pattern is empty
 
@@ -153,23 +109,16 @@ not_empty Comment e = refl
 not_empty Empty e = absurd (e refl)
 not_empty Unknown e = refl
 
-pub record Asking (text : List ℕ) (at : ℕ) : Type 0 where
-  pub low : at ≤ length text + 1
-  pub same : said (lines text) ≡ said (lines (drop at text))
-
-pub asking_start : (text : List ℕ) → Asking text 0
-asking_start text = record { low = omega arith; same = refl }
-
-module _ {text : List ℕ} {at : ℕ} (a : Asking text at) where
-  module _ {end n : ℕ} (h : Here text at end n) (k : LineKind) (kind : k ≡ line_kind (words (take (at + n - at) (drop at text)))) where
+module _ (text left : List ℕ) (same : said (lines text) ≡ said (lines left)) where
+  module _ {line : List ℕ} (next : List ℕ) (here : lines left ≡ line ∷ lines next) (k : LineKind) (kind : k ≡ line_kind (words line)) where
     pub asking_here : k ≡ Empty → true ≡ said (lines text)
     unfolding said
-    asking_here e = sym (a.same ∙ rw (line_here h, ← kind, e))
+    asking_here e = sym (same ∙ rw (here, ← kind, e))
 
-    pub asking_next : (k ≡ Empty → ⊥) → Asking text (end + 1)
+    pub asking_next : (k ≡ Empty → ⊥) → said (lines text) ≡ said (lines next)
     unfolding said
-    asking_next e = record { low = omega (arith, h.within); same = a.same ∙ rw (line_here h, ← kind, not_empty k e) }
+    asking_next e = same ∙ rw (here, ← kind, not_empty k e)
 
-  pub asking_all : length text ≤ at → false ≡ said (lines text)
+  pub asking_all : lines left ≡ [] → false ≡ said (lines text)
   unfolding said
-  asking_all h = sym (a.same ∙ rw (rest_none text at h))
+  asking_all h = sym (same ∙ rw h)

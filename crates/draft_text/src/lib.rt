@@ -21,7 +21,7 @@ use pattern::{BODIES, Counts, LONGEST, check_counts};
 use store::{SPANS, Spans, TABLES, Tables, counts_in, tables_known};
 use store_check::check_records;
 use store_write::put_file;
-use text::{line_end, trimmed_length};
+use text::next_line;
 
 // What is wrong with a line: a word, counted from 1, of a line of a kind; its number, where another is
 // expected after the lines of its kind before; or a refusal of the reading checks.
@@ -83,10 +83,8 @@ fn read_line(line: &[u8], counts: Counts, values: &mut [u64]) -> Line
             check: Err(Fault::Word(kind, 1)),
         };
     }
-    let end = first.end;
-    let m = match_line(kind, line, end, values);
+    let m = match_line(kind, first.rest, values);
     let n = m.words;
-    let all = m.all;
     if n > 0 {
         let next = counts[body_counted(kind)];
         if values[0] != next as u64 {
@@ -97,7 +95,7 @@ fn read_line(line: &[u8], counts: Counts, values: &mut [u64]) -> Line
             };
         }
     }
-    if !all {
+    if !m.all {
         return Line {
             kind,
             words: n,
@@ -150,17 +148,14 @@ fn gather(
     ensures m_value { (m : Result ℕ DraftError) → first_made (text_faults (content (held t.old spans.old)) 1 (lines text.now)) m ≡ stopped result m }
     ensures t_after { result ≡ Ok tt → (count_faults (count_table t.new) ≡ []) × (content (held t.new spans.new) ≡ gathered (content (held t.old spans.old)) (lines text.now)) }
 {
-    let mut line: usize = 1;
-    let mut at: usize = 0;
-    // A `while` still: docs/DESIGN-PASS.md, point 3.
-    while at < text.len() {
-        let end = line_end(text, at);
-        let last = at + trimmed_length(&text[at..end]);
-        if let Err(f) = add_line(&text[at..last], t, spans, values) {
-            return Err(DraftError::At(line, f));
+    let mut left = text;
+    let mut number: usize = 1;
+    while let Some((line, next)) = next_line(left) {
+        if let Err(f) = add_line(line, t, spans, values) {
+            return Err(DraftError::At(number, f));
         }
-        line += 1;
-        at = end + 1;
+        number += 1;
+        left = next;
     }
     Ok(())
 }
@@ -172,8 +167,7 @@ fn line_count(line: &[u8], b: usize, values: &mut [u64]) -> usize
 {
     let first = kind_of(line);
     let kind = first.kind;
-    let end = first.end;
-    let m = match_line(kind, line, end, values);
+    let m = match_line(kind, first.rest, values);
     let n = m.words;
     let counts = counts_after(kind, &values[0..n], [0; BODIES]);
     if b < BODIES { counts[b] } else { 0 }
@@ -184,20 +178,17 @@ fn line_with(text: &[u8], b: usize, r: usize, values: &mut [u64]) -> usize
     requires { length text.now ≤ 2 * length values.old }
     ensures { result ≡ line_with b r 1 (lines text.now) }
 {
-    let mut left = r;
+    let mut left = text;
+    let mut before = r;
     let mut number: usize = 1;
-    let mut at: usize = 0;
-    // A `while` still: docs/DESIGN-PASS.md, point 3.
-    while at < text.len() {
-        let end = line_end(text, at);
-        let last = at + trimmed_length(&text[at..end]);
-        let n = line_count(&text[at..last], b, values);
-        if left < n {
+    while let Some((line, next)) = next_line(left) {
+        let n = line_count(line, b, values);
+        if before < n {
             return number;
         }
-        left -= n;
+        before -= n;
         number += 1;
-        at = end + 1;
+        left = next;
     }
     number
 }
@@ -206,46 +197,24 @@ fn line_with(text: &[u8], b: usize, r: usize, values: &mut [u64]) -> usize
 fn says_empty(text: &[u8]) -> bool
     ensures { result ≡ said (lines text.now) }
 {
-    let mut at: usize = 0;
-    // A `while` still: docs/DESIGN-PASS.md, point 3.
-    while at < text.len() {
-        let end = line_end(text, at);
-        let last = at + trimmed_length(&text[at..end]);
-        let first = kind_of(&text[at..last]);
-        if let LineKind::Empty = first.kind {
+    let mut left = text;
+    while let Some((line, next)) = next_line(left) {
+        if let LineKind::Empty = kind_of(line).kind {
             return true;
         }
-        at = end + 1;
+        left = next;
     }
     false
-}
-
-// A byte of a text; 0 past its end.
-fn byte_at(text: &[u8], k: usize) -> u8
-    ensures { result ≡ get_or text.now k 0 }
-{
-    if k < text.len() { text[k] } else { 0 }
 }
 
 // Whether a text begins with a byte order mark.
 fn is_marked(text: &[u8]) -> bool
     ensures { result ≡ has_mark text.now }
 {
-    let a = byte_at(text, 0);
-    let b = byte_at(text, 1);
-    if a == 239 {
-        if b == 187 {
-            return byte_at(text, 2) == 191;
-        }
-        return false;
-    }
-    if a == 254 {
-        return b == 255;
-    }
-    if a == 255 {
-        return b == 254;
-    }
-    false
+    matches!(
+        text,
+        [0xef, 0xbb, 0xbf, ..] | [0xfe, 0xff, ..] | [0xff, 0xfe, ..]
+    )
 }
 
 // Reads a text, and writes the file of its pattern.

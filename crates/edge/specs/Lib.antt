@@ -1,3 +1,4 @@
 pub mod Edges
 pub mod Uses
 pub mod Below
+pub mod OfEnds

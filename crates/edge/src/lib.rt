@@ -3,7 +3,8 @@
 
 ghost use Rattle.std.specs.Prelude.{◌≡◌, ◌<◌, length};
 ghost use Rattle.edge.specs.Edges.{in_range, is_span, edge};
-ghost use Rattle.edge.specs.Uses.{edge_number, use_of, front, back, front_of, back_of};
+ghost use Rattle.edge.specs.Uses.{edge_number, use_of, front, back};
+ghost use Rattle.edge.specs.OfEnds.{HasEdge, back_in, front_in};
 
 use vertex::VertexID;
 
@@ -27,7 +28,7 @@ pub struct Edge {
     pub curve: Curve,
 }
 
-// A use of an edge, along it or reversed: the Rust's Edge with its orientation.
+// A use of an edge: the Rust's Edge with its orientation, which is a yes or no there too.
 #[derive(Clone, Copy)]
 pub struct EdgeUse {
     pub edge: EdgeID,
@@ -77,40 +78,59 @@ impl EdgeUse {
         }
     }
 
-    // The vertex that the use begins at; `fronts` and `backs` have the ends of the edges.
-    pub fn front(self, fronts: &[u16], backs: &[u16]) -> VertexID
-        requires { (self.edge.0 < length fronts.now) × (self.edge.0 < length backs.now) }
-        ensures { result.0 ≡ front fronts.now backs.now self }
+    // The vertex that the use begins at.
+    pub fn front(self, ends: &Ends) -> VertexID
+        requires { HasEdge ends.now self.edge.0 }
+        ensures { result.0 ≡ front ends.now.fronts.now ends.now.backs.now self }
     {
-        let e = self.edge.0 as usize;
+        let e = usize::from(self.edge.0);
         if self.reversed {
-            VertexID(backs[e])
+            VertexID(ends.backs[e])
         } else {
-            VertexID(fronts[e])
+            VertexID(ends.fronts[e])
         }
     }
 
     // The vertex that the use ends at.
-    pub fn back(self, fronts: &[u16], backs: &[u16]) -> VertexID
-        requires { (self.edge.0 < length fronts.now) × (self.edge.0 < length backs.now) }
-        ensures { result.0 ≡ back fronts.now backs.now self }
+    pub fn back(self, ends: &Ends) -> VertexID
+        requires { HasEdge ends.now self.edge.0 }
+        ensures { result.0 ≡ back ends.now.fronts.now ends.now.backs.now self }
     {
-        self.front(backs, fronts)
+        self.front(&ends.turned())
     }
 }
 
-// The number of the vertex that a use begins at.
-pub fn front_of(u: u16, fronts: &[u16], backs: &[u16]) -> usize
-    requires { (edge_number u < length fronts.now) × (edge_number u < length backs.now) }
-    ensures { result ≡ front_of fronts.now backs.now u }
-{
-    EdgeUse::from_number(u).front(fronts, backs).0 as usize
+// The ends of all edges by edge number: the vertex that each begins at, the vertex that each ends at.
+#[derive(Clone, Copy)]
+pub struct Ends<'a> {
+    pub fronts: &'a [u16],
+    pub backs: &'a [u16],
 }
 
-// The number of the vertex that a use ends at.
-pub fn back_of(u: u16, fronts: &[u16], backs: &[u16]) -> usize
-    requires { (edge_number u < length fronts.now) × (edge_number u < length backs.now) }
-    ensures { result ≡ back_of fronts.now backs.now u }
-{
-    front_of(u, backs, fronts)
+impl<'a> Ends<'a> {
+    // The ends of the edges turned.
+    pub fn turned(&self) -> Ends<'a>
+        ensures { (result.fronts.now ≡ self.now.backs.now) × (result.backs.now ≡ self.now.fronts.now) }
+    {
+        Ends {
+            fronts: self.backs,
+            backs: self.fronts,
+        }
+    }
+
+    // The number of the vertex that a use begins at.
+    pub fn front_of(&self, u: u16) -> usize
+        requires { HasEdge self.now (edge_number u) }
+        ensures { result ≡ front_in self.now u }
+    {
+        usize::from(EdgeUse::from_number(u).front(self).0)
+    }
+
+    // The number of the vertex that a use ends at.
+    pub fn back_of(&self, u: u16) -> usize
+        requires { HasEdge self.now (edge_number u) }
+        ensures { result ≡ back_in self.now u }
+    {
+        self.turned().front_of(u)
+    }
 }

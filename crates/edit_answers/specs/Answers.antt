@@ -41,6 +41,9 @@ face_edit_number FaceRule = 28
 abbrev pub edit_reply : EditError → Reply
 edit_reply e = refused (edit_number e) []
 
+abbrev pub face_edit_reply : FaceEditError → Reply
+face_edit_reply e = refused (face_edit_number e) []
+
 -- number and values of the answers: the numbers of the new edges; that of the new point; how many uses and how many wires were written
 abbrev pub cut_reply : Result (EdgeID × EdgeID) (CallError EditError) → Reply
 cut_reply r = call_reply (λ (p : EdgeID × EdgeID). p.0.0 ∷ p.1.0 ∷ []) edit_reply r
@@ -52,7 +55,7 @@ abbrev pub vertex_reply : Result VertexID (CallError EditError) → Reply
 vertex_reply r = call_reply (λ (v : VertexID). v.0 ∷ []) edit_reply r
 
 abbrev pub face_reply : Result (ℕ × ℕ) (CallError FaceEditError) → Reply
-face_reply r = call_reply (λ p. p.0 ∷ p.1 ∷ []) (λ e. refused (face_edit_number e) []) r
+face_reply r = call_reply (λ p. p.0 ∷ p.1 ∷ []) face_edit_reply r
 
 -- the reading checks come first, then the edit's own refusals
 abbrev pub judged {ℓ} : {A : Type ℓ} {E : Type 0} → List Refusal → List E → (Refusal → A) → (E → A) → A → A

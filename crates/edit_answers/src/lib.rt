@@ -107,11 +107,3 @@ impl From<EditError> for CallError<EditError> {
         CallError::Refused(e)
     }
 }
-
-impl From<FaceEditError> for CallError<FaceEditError> {
-    ghost from_gives = { λ e r. r ≡ Refused e };
-
-    fn from(e: FaceEditError) -> CallError<FaceEditError> {
-        CallError::Refused(e)
-    }
-}

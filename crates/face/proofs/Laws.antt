@@ -47,7 +47,7 @@ pub record FaceAt (counts lengths uses : List ℕ) (k w at n total : ℕ) : Type
   pub is : n ≡ get_or counts k 0
   pub all_wires : sum counts ≡ length lengths
   pub all_uses : sum lengths ≡ length uses
-  pub its_uses : total ≡ sum (take n (take (w + n - w) (drop w lengths)))
+  pub its_uses : total ≡ sum (take (w + n - w) (drop w lengths))
 
 -- the face's wires, as the code takes them
 abbrev pub face_wires : List ℕ → List ℕ → ℕ → ℕ → ℕ → ℕ → List (List ℕ)
@@ -64,7 +64,7 @@ module _ {counts lengths uses : List ℕ} {k w at n total : ℕ} (t : FaceAt cou
   part_is = let e : w + n - w ≡ n = omega arith in rw e
 
   pub part_sum : sum (take (w + n - w) (drop w lengths)) ≡ total
-  part_sum = sym (t.its_uses ∙ rw (take_all n (take (w + n - w) (drop w lengths)) (omega (arith, part_long))))
+  part_sum = sym t.its_uses
 
   -- the next face's uses begin after this one's
   pub uses_next : at + total ≡ sum (take (w + n) lengths)

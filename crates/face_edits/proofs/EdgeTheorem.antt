@@ -1,6 +1,6 @@
 -- A face cut by one edge: both results keep the face rule, so the cut is never answered 28.
-use Rattle.errors.specs.declared.CallError.TheVariants.{Refused, Unread}
-use Rattle.std.specs.Prelude.{Err, Ok}
+use Rattle.errors.specs.declared.CallError.TheVariants.{Refused}
+use Rattle.std.specs.Prelude.{Err}
 use Prim.Native.Nat.{◌+◌, ◌<◌, ◌≤◌, ℕ}
 use mathlib.Core.Bool.{Bool, ◌&&◌, false, true, true≢false}
 use mathlib.Core.List.{List, [], ◌++◌, ◌∷◌, map, reverse}

@@ -1,6 +1,6 @@
 -- 17 is answered exactly if nothing else is wrong and the result is longer than a lent list.
-use Rattle.errors.specs.declared.CallError.TheVariants.{Refused, Unread}
-use Rattle.std.specs.Prelude.{Err, Ok}
+use Rattle.errors.specs.declared.CallError.TheVariants.{Refused}
+use Rattle.std.specs.Prelude.{Err}
 use Prim.Native.Nat.{◌/◌, ℕ}
 use mathlib.Core.Bool.{Bool, ◌&&◌, false, not, true, true≢false}
 use mathlib.Core.List.{List, [], ◌++◌, ◌∷◌, append_assoc, append-nil, map}

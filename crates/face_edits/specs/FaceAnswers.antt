@@ -1,6 +1,5 @@
 -- What each edit of a face answers, and the wires that it writes. The reading checks come first; refused, nothing is written (FORMAT 5.1).
 use Rattle.errors.specs.declared.CallError.{CallError}
-use Rattle.errors.specs.declared.CallError.TheVariants.{Refused, Unread}
 use Rattle.std.specs.Prelude.{ℕ, List, [], ◌∷◌, length, Err, Ok, Result}
 use Rattle.edit_answers.specs.Answers.{answer_of, judged}
 use Rattle.edit_answers.specs.declared.FaceEditError.{FaceEditError}

@@ -1,168 +1,106 @@
--- What a pattern without fault says of a face: where its wires and its uses stand; and of uses that name edges.
-use Prim.Native.Nat.{◌+◌, ◌<◌, ◌≤◌, suc, ℕ}
+-- What a pattern without fault says of a face: its wires among the lists; and of uses that name edges.
+use Prim.Native.Nat.{◌<◌, ◌≤◌, ℕ}
 use mathlib.Core.Bool.{Bool, ◌&&◌, false, true}
-use mathlib.Core.List.{List, [], map}
+use mathlib.Core.List.{List, map}
 use mathlib.Core.Path.{◌∙◌, ◌≡◌, ap, sym}
 use native.Mathlib.Omega.{arith}
 use lib.Dec.{ltb}
-use lib.Ieee.{Float}
-use lib.ListN.{drop, get_or, length, length-drop, length-map, take}
-use lib.Seq.{get_or-take, length-take-le, take-take}
+use lib.ListN.{get_or, length, length-map}
 use borrow.Author.Tests.{eqb-true, le-ltb, lt-ltb, ltb-true}
 use Rattle.edge.specs.Edges.{back_number, front_number}
 use Rattle.edge.specs.Uses.{edge_number}
 use Rattle.face.specs.Faces.{wire_count}
 use Rattle.face_edits.specs.FaceEdits.{are_uses, backs_in, boundaries, fronts_in, is_face, name_edges}
-use Rattle.face_parts.proofs.Laws.{all_pass, part_taken, split_lengths}
-use Rattle.face_parts.specs.Parts.{part_of, part_sizes, part_uses}
-use Rattle.face_parts.specs.declared.FacePart.{FacePart}
+use Rattle.face_parts.proofs.Laws.{all_pass, flat_is, lengths_are, lengths_long, uses_inside, uses_long, wires_inside}
+use Rattle.face_parts.specs.Parts.{lengths_at, uses_at}
 use Rattle.lists.proofs.Count.{All}
-use Rattle.lists.proofs.Laws.{length_split, map_take, sum_next, sum_take_drop}
-use Rattle.lists.proofs.Parts.{all_place, flat_split}
-use Rattle.lists.proofs.Split.{get_d_split, split_run}
-use Rattle.lists.specs.Lists.{count, flat, split, sum}
-use Rattle.pattern.proofs.Counts.{edges_counted, faces_counted, points_counted}
-use Rattle.pattern.proofs.Named.{named, point_named}
+use Rattle.lists.proofs.Parts.{all_place}
+use Rattle.lists.specs.Lists.{count, flat, sum}
+use Rattle.pattern.proofs.Counts.{edges_counted, faces_counted, points_counted, uses_counted, wires_counted}
+use Rattle.pattern.proofs.Named.{faces_summed, named, point_named, wires_summed}
 use Rattle.pattern.specs.Contents.{Content, Pattern, content}
+use Rattle.pattern.specs.declared.Lists.{Lists}
 use Rattle.shell.specs.Shells.{face_number}
-use Rattle.shell_wires.proofs.Facts.{Fine, faces_sum, records_fine, wires_sum}
-use Rattle.store.proofs.View.{held_backs, held_fronts, held_wire_counts}
-use Rattle.store.specs.Store.{held, use_table, wire_table}
+use Rattle.shell_wires.proofs.Facts.{Fine, records_fine}
+use Rattle.shell_wires.specs.Lent.{Lent}
 use Rattle.wire.proofs.Laws.{named_part}
 use Rattle.wire.specs.Named.{Named}
-use Rattle.store.specs.Columns.{back_table, face_table, front_table}
 
--- where face f stands in tables of uses and of wires' lengths
-pub record Stands (c : Content) (f : ℕ) (uses wires : List ℕ) (part : FacePart) : Type 0 where
-  pub uses_fit : part.at + part.uses ≤ 4096
-  pub wires_fit : part.wire + part.wires ≤ 1024
-  pub its_uses : part_uses part uses ≡ flat (boundaries c f)
-  pub its_sizes : part_sizes part wires ≡ map length (boundaries c f)
-  pub its_number : part.wires ≡ length (boundaries c f)
+-- the wires of face f: their uses one after the other, their lengths
+pub record Stands (c : Content) (f : ℕ) (uses lengths : List ℕ) : Type 0 where
+  pub its_uses : uses ≡ flat (boundaries c f)
+  pub its_lengths : lengths ≡ map length (boundaries c f)
+
+pub its_number : (c : Content) (f : ℕ) (uses lengths : List ℕ) → Stands c f uses lengths → length lengths ≡ length (boundaries c f)
+its_number c f uses lengths s = ap length s.its_lengths ∙ length-map (boundaries c f) length
 
 module _ (p : Pattern) (s : Fine p) where
   abbrev edges : ℕ
   edges = get_or p.counts 1 0
 
-  abbrev uses : ℕ
-  uses = get_or p.counts 2 0
-
-  abbrev wires : ℕ
-  wires = get_or p.counts 3 0
-
   abbrev faces : ℕ
   faces = get_or p.counts 4 0
 
-  -- the faces' numbers of wires in storage
+  abbrev c : Content
+  c = content p
+
+  -- the faces' numbers of wires
   abbrev counts : List ℕ
-  counts = map wire_count p.faces
+  counts = map wire_count c.faces
 
   -- the ends of the edges
   abbrev fronts : List ℕ
-  fronts = fronts_in (content p)
+  fronts = fronts_in c
 
   abbrev backs : List ℕ
-  backs = backs_in (content p)
+  backs = backs_in c
 
   pub fronts_count : length fronts ≡ edges
-  fronts_count = length-map (content p).edges front_number ∙ edges_counted p s.limits s.full
+  fronts_count = length-map c.edges front_number ∙ edges_counted p s.limits s.full
 
   pub backs_count : length backs ≡ edges
-  backs_count = length-map (content p).edges back_number ∙ edges_counted p s.limits s.full
+  backs_count = length-map c.edges back_number ∙ edges_counted p s.limits s.full
+
+  counts_long : length counts ≡ faces
+  counts_long = length-map c.faces wire_count ∙ faces_counted p s.limits s.full
 
   -- a face of the pattern
   module _ (f : ℕ) (here : face_number f < faces) where
     abbrev g : ℕ
     g = face_number f
 
-    abbrev part : FacePart
-    part = part_of counts p.wires g
+    among : g < length counts
+    among = omega (arith, here, counts_long)
 
-    abbrev w : ℕ
-    w = part.wire
+    all_wires : sum counts ≡ length c.wires
+    all_wires = faces_summed c (records_fine p s)
 
-    abbrev n : ℕ
-    n = part.wires
+    all_uses : sum c.wires ≡ length c.uses
+    all_uses = wires_summed c (records_fine p s)
 
-    abbrev a : ℕ
-    a = part.at
+    boundaries_flat : flat (boundaries c f) ≡ uses_at counts c.wires g c.uses
+    boundaries_flat = flat_is counts c.wires c.uses g among all_wires all_uses
 
-    abbrev z : ℕ
-    z = part.uses
+    sizes_are : map length (boundaries c f) ≡ lengths_at counts g c.wires
+    sizes_are = lengths_are counts c.wires c.uses g among all_wires all_uses
 
-    -- its wires end within those of the pattern, its uses within those of the pattern
-    wires_inside : w + n ≤ wires
-    wires_inside =
-        let taken : take (suc g) (take faces counts) ≡ take (suc g) counts = take-take (suc g) faces counts (omega (arith, here)) in
-        let most : sum (take (suc g) (take faces counts)) + sum (drop (suc g) (take faces counts)) ≡ sum (take faces counts) = sum_take_drop (suc g) (take faces counts) in
-        omega (arith, sum_next counts g, rw taken at most, faces_sum p s)
-
-    lens_before : take w (take wires p.wires) ≡ take w p.wires
-    lens_before = take-take w wires p.wires (omega (arith, wires_inside))
-
-    lens_here : take n (drop w (take wires p.wires)) ≡ take n (drop w p.wires)
-    lens_here = part_taken n w wires p.wires wires_inside
-
-    uses_inside : a + z ≤ uses
-    uses_inside =
-        let lens = take wires p.wires in
-        let before : sum (take w lens) ≡ a = ap sum lens_before in
-        let all : sum (take n (drop w lens)) ≡ z = ap sum lens_here in
-        omega (arith, before, all, sum_take_drop w lens, sum_take_drop n (drop w lens), wires_sum p s)
-
-    -- its wires' lengths, its uses
-    abbrev lens : List ℕ
-    lens = part_sizes part p.wires
-
-    abbrev own : List ℕ
-    own = part_uses part p.uses
-
-    lens_long : length lens ≡ n
-    lens_long = length-take-le n (drop w p.wires) (omega (arith, length-drop w p.wires, wires_inside, s.limits.wires, s.full.wires))
-
-    own_long : length own ≡ z
-    own_long = length-take-le z (drop a p.uses) (omega (arith, length-drop a p.uses, uses_inside, s.limits.uses, s.full.uses))
-
-    own_first : take z (drop a (take uses p.uses)) ≡ own
-    own_first = part_taken z a uses p.uses uses_inside
-
-    boundaries_are : boundaries (content p) f ≡ split lens own
-    boundaries_are =
-        let all = take wires p.wires in
-        let us = take uses p.uses in
-        let first : take g (take faces counts) ≡ take g counts = take-take g faces counts (omega (arith, here)) in
-        let its : get_or (take faces counts) g 0 ≡ n = get_or-take faces counts g 0 here in
-        let face : get_or (split (take faces counts) (split all us)) g [] ≡ take n (drop w (split all us)) =
-        get_d_split (take faces counts) (split all us) g ∙ rw (first, its) in
-        rw (map_take wire_count faces p.faces)
-        (face ∙ split_run all us w n ∙ rw (lens_here, lens_before) (ap (split lens) own_first))
-
-    boundaries_flat : flat (boundaries (content p) f) ≡ own
-    boundaries_flat = ap flat boundaries_are ∙ flat_split lens own (sym own_long)
-
-    sizes_are : map length (boundaries (content p) f) ≡ lens
-    sizes_are = ap (map length) boundaries_are ∙ split_lengths lens own (omega (arith, own_long))
-
-    pub stands : Stands (content p) f p.uses p.wires part
-    stands = record {
-      uses_fit = omega (arith, uses_inside, s.limits.uses);
-      wires_fit = omega (arith, wires_inside, s.limits.wires);
-      its_uses = sym boundaries_flat;
-      its_sizes = sym sizes_are;
-      its_number = sym (ap length boundaries_are ∙ length_split lens own ∙ lens_long);
+    pub stands : {lists : Lists} → Lent p lists → (uses lengths : List ℕ) → uses ≡ uses_at lists.faces.now lists.wires.now g lists.uses.now → lengths ≡ lengths_at lists.faces.now g lists.wires.now → Stands c f uses lengths
+    stands l uses lengths x y = record {
+      its_uses = rw (l.faces_are, l.wires_are, l.uses_are) at x ∙ sym boundaries_flat;
+      its_lengths = rw (l.faces_are, l.wires_are) at y ∙ sym sizes_are;
     }
 
     -- how many uses and wires it has at most; its uses name edges, which name points
-    pub uses_few : length (flat (boundaries (content p) f)) ≤ 4096
-    uses_few = omega (arith, ap length boundaries_flat, own_long, uses_inside, s.limits.uses)
+    pub uses_few : length (flat (boundaries c f)) ≤ 4096
+    uses_few = omega (arith, ap length boundaries_flat, uses_long counts c.wires c.uses g among all_wires all_uses, uses_inside counts c.wires c.uses g among all_wires all_uses, uses_counted p s.limits s.full, s.limits.uses)
 
-    pub sizes_few : length (map length (boundaries (content p) f)) ≤ 1024
-    sizes_few = omega (arith, ap length sizes_are, lens_long, wires_inside, s.limits.wires)
+    pub sizes_few : length (map length (boundaries c f)) ≤ 1024
+    sizes_few = omega (arith, ap length sizes_are, lengths_long counts c.wires c.uses g among all_wires all_uses, wires_inside counts c.wires c.uses g among all_wires all_uses, wires_counted p s.limits s.full, s.limits.wires)
 
-    pub face_named : Named fronts backs (flat (boundaries (content p) f))
+    pub face_named : Named fronts backs (flat (boundaries c f))
     face_named =
-        let all = named (content p) (records_fine p s) (omega (arith, points_counted p s.limits s.full, s.limits.points)) in
-        rw (boundaries_flat, ← own_first) (named_part fronts backs (take uses p.uses) all a z)
+        let all = named c (records_fine p s) (omega (arith, points_counted p s.limits s.full, s.limits.points)) in
+        rw boundaries_flat (named_part fronts backs c.uses all _ _)
 
   -- uses that name edges of the pattern
   module _ (us : List ℕ) (ok : name_edges us edges ≡ true) where
@@ -205,25 +143,11 @@ module _ (p : Pattern) (s : Fine p) where
         pub all_named : name_edges us edges ≡ true → (is_face (content p) f && are_uses (content p) us) ≡ true
         all_named e = rw (is_face_lem here, uses_are us, e)
 
--- ---- the same of the store
+-- ---- the same of the lists as they are lent
 
-module _ (t : List ℕ) (spans : List Float) (long : length t ≡ 12312) where
-  abbrev P : Pattern
-  P = held t spans
+module _ (p : Pattern) {lists : Lists} (s : Fine p) (l : Lent p lists) where
+  pub faces_lent : length lists.faces.now ≡ get_or p.counts 4 0
+  faces_lent = ap length l.faces_are ∙ counts_long p s
 
-  module _ (s : Fine P) where
-    pub fronts_lent : (xs : List ℕ) → xs ≡ take (get_or P.counts 1 0) (front_table t) → xs ≡ fronts_in (content P)
-    fronts_lent xs h = h ∙ ap (take (get_or P.counts 1 0)) (held_fronts t spans long) ∙ sym (map_take front_number (get_or P.counts 1 0) P.edges)
-
-    pub backs_lent : (xs : List ℕ) → xs ≡ take (get_or P.counts 1 0) (back_table t) → xs ≡ backs_in (content P)
-    backs_lent xs h = h ∙ ap (take (get_or P.counts 1 0)) (held_backs t spans long) ∙ sym (map_take back_number (get_or P.counts 1 0) P.edges)
-
-    module _ (f : ℕ) (here : face_number f < get_or P.counts 4 0) (i : ℕ) (is : i ≡ face_number f) where
-      part_there : part_of (face_table t) (wire_table t) i ≡ part_of (map wire_count P.faces) P.wires (face_number f)
-      part_there = rw (is, held_wire_counts t spans long)
-
-      pub part_asked : (i < 256) × (sum (take i (face_table t)) + get_or (face_table t) i 0 ≤ 1024)
-      part_asked = (omega (arith, is, here, s.limits.faces), rw (is, held_wire_counts t spans long) (stands P s f here).wires_fit)
-
-      pub part_stands : (part : FacePart) → part ≡ part_of (face_table t) (wire_table t) i → Stands (content P) f (use_table t) (wire_table t) part
-      part_stands part h = rw (h, part_there) (stands P s f here)
+  pub edges_lent : length lists.ends.fronts.now ≡ get_or p.counts 1 0
+  edges_lent = ap length l.fronts_are ∙ fronts_count p s

@@ -4,37 +4,28 @@ use mathlib.Core.Bool.{Bool, false, not, true}
 use mathlib.Core.List.{List, [], ◌∷◌, map}
 use mathlib.Core.Logic.{⊎_elim}
 use mathlib.Core.Path.{◌∙◌, ◌≡◌, ap, refl, sym}
-use native.Mathlib.Nat.{sub-zero}
 use native.Mathlib.Omega.{arith}
-use lib.Dec.{eqb, leb, ltb}
+use lib.Dec.{eqb, ltb}
 use lib.ListN.{drop, get_or, length, length-drop, take}
-use lib.Seq.{length-take-le, take-take}
-use borrow.Author.Tests.{eqb-false, leb-true, ltb-false, ltb-true, ne_eqb}
+use lib.Seq.{length-take-le}
+use borrow.Author.Tests.{eqb-false, ltb-false, ltb-true, ne_eqb}
 use Rattle.std.proofs.lemmas.Bool.Decides.{nat_tests}
 use Rattle.std.specs.List.{list_all}
-use Rattle.face_parts.specs.Parts.{part_of}
+use Rattle.face_parts.specs.Parts.{lengths_at, uses_at}
 use Rattle.lists.proofs.Alike.{no_dup_count}
 use Rattle.lists.proofs.Count.{All, all_each, count_only_le}
-use Rattle.lists.proofs.Laws.{cases}
-use Rattle.lists.proofs.Split.{drop_take}
-use Rattle.lists.specs.Lists.{count, no_dup, only, split, sum}
-use Rattle.store.proofs.Parts.{part_long}
-use Rattle.store.specs.Store.{part}
+use Rattle.lists.proofs.Laws.{cases, sum_next, sum_take_drop}
+use Rattle.lists.proofs.Parts.{flat_split}
+use Rattle.lists.proofs.Split.{get_d_split, split_run}
+use Rattle.lists.specs.Lists.{count, flat, no_dup, only, split, sum}
 use Rattle.wire.proofs.Laws.{length_points, points_below}
 use Rattle.wire.specs.Named.{Named}
 use Rattle.wire.specs.Wires.{points}
 
 module _ {ℓ} {A : Type ℓ} where
-  -- a part of the first m elements
-  pub part_taken : (n w m : ℕ) (xs : List A) → w + n ≤ m → take n (drop w (take m xs)) ≡ take n (drop w xs)
-  part_taken n w m xs h = rw (drop_take w m xs (omega arith)) (take-take n (m - w) (drop w xs) (omega arith))
-
   -- a part, as the code takes it
   pub part_to : (a z : ℕ) (xs : List A) → take (a + z - a) (drop a xs) ≡ take z (drop a xs)
   part_to a z xs = let e : a + z - a ≡ z = omega arith in rw e
-
-  pub first_to : (n : ℕ) (xs : List A) → take (n - 0) (drop 0 xs) ≡ take n xs
-  first_to n xs = rw (sub-zero n)
 
   module _ (q : A → Bool) where
     count_le : (xs : List A) → count q xs ≤ length xs
@@ -72,25 +63,36 @@ module _ (q : ℕ → Bool) where
       (λ (e : q x ≡ false). rw e (sym (ne_eqb (0 + count q xs) (suc (length xs)) (λ z. omega (arith, count_le q xs)))))
       (cases (q x))
 
--- n numbers of the store, lent from `at` on
-module _ (t xs : List ℕ) (at n : ℕ) where
-  pub lent_long : length t ≡ 12312 → xs ≡ part at n t → leb (at + n) 12312 ≡ true → length xs ≡ n
-  lent_long long is room = ap length is ∙ part_long t at n (omega (arith, leb-true (at + n) 12312 room))
+-- ---- the wires of a face
 
-  pub lent_fits : (m : ℕ) → length t ≡ 12312 → xs ≡ part at n t → leb (at + n) 12312 ≡ true → m ≤ n → m ≤ length xs
-  lent_fits m long is room h = omega (arith, h, lent_long long is room)
+module _ (counts lens uses : List ℕ) (f : ℕ) (here : f < length counts) (all_wires : sum counts ≡ length lens) (all_uses : sum lens ≡ length uses) where
+  abbrev w : ℕ
+  w = sum (take f counts)
 
--- ---- the part of a face, as the code finds it
+  abbrev n : ℕ
+  n = get_or counts f 0
 
-pub ends_inside : (counts xs : List ℕ) (f w n : ℕ) → xs ≡ counts → w ≡ sum (take f xs) → n ≡ get_or xs f 0 → sum (take f counts) + get_or counts f 0 ≤ 1024 → w + n ≤ 1024
-ends_inside counts xs f w n is hw hn h = rw (hw, hn, is) h
+  -- they are among the wires, their uses among the uses
+  pub wires_inside : w + n ≤ length lens
+  wires_inside = omega (arith, sum_next counts f, sum_take_drop (suc f) counts, all_wires)
 
-pub part_made : (counts lens : List ℕ) (f w n a z : ℕ) → w ≡ sum (take f counts) → n ≡ get_or counts f 0 → a ≡ sum (take w lens) → z ≡ sum (take n (take (w + n - w) (drop w lens)))
-    → record { wire = w; wires = n; at = a; uses = z } ≡ part_of counts lens f
-part_made counts lens f w n a z hw hn ha hz =
-    let m : w + n - w ≡ n = omega arith in
-    let all : z ≡ sum (take n (drop w lens)) = hz ∙ rw (m, take-take n n (drop w lens) (omega arith)) in
-    rw (all, ha, hw, hn)
+  pub uses_inside : sum (take w lens) + sum (lengths_at counts f lens) ≤ length uses
+  uses_inside = omega (arith, sum_take_drop w lens, sum_take_drop n (drop w lens), all_uses)
+
+  pub lengths_long : length (lengths_at counts f lens) ≡ n
+  lengths_long = length-take-le n (drop w lens) (omega (arith, length-drop w lens, wires_inside))
+
+  pub uses_long : length (uses_at counts lens f uses) ≡ sum (lengths_at counts f lens)
+  uses_long = length-take-le (sum (lengths_at counts f lens)) (drop (sum (take w lens)) uses) (omega (arith, length-drop (sum (take w lens)) uses, uses_inside))
+
+  wires_are : get_or (split counts (split lens uses)) f [] ≡ split (lengths_at counts f lens) (uses_at counts lens f uses)
+  wires_are = get_d_split counts (split lens uses) f ∙ split_run lens uses w n
+
+  pub flat_is : flat (get_or (split counts (split lens uses)) f []) ≡ uses_at counts lens f uses
+  flat_is = ap flat wires_are ∙ flat_split (lengths_at counts f lens) (uses_at counts lens f uses) (sym uses_long)
+
+  pub lengths_are : map length (get_or (split counts (split lens uses)) f []) ≡ lengths_at counts f lens
+  lengths_are = ap (map length) wires_are ∙ split_lengths (lengths_at counts f lens) (uses_at counts lens f uses) (omega (arith, uses_long))
 
 -- ---- distinct numbers below n are n at most
 

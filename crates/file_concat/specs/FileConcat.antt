@@ -2,11 +2,10 @@
 use Rattle.std.specs.Prelude.{ℕ, List}
 use Rattle.answers.specs.Values.{join_values}
 use Rattle.answers.specs.declared.Answer.{Answer}
-use Rattle.answers.specs.Read.{after_read, when_read}
+use Rattle.answers.specs.Read.{after_read, edited_bytes, when_read}
 use Rattle.shell_edits.specs.Answers.{after_concat, concat_answer}
 use Rattle.store_read.specs.Loading.{check_of, pattern_of}
 use Rattle.store_write.specs.Writing.{written}
-use Rattle.file_concat.specs.JoinedFile.{join_bytes}
 use Rattle.pattern.specs.Contents.{Pattern}
 
 -- ---- a pattern that was read
@@ -15,7 +14,7 @@ abbrev pub concat_file : Pattern → ℕ → ℕ → List ℕ → Answer
 concat_file p u v out = join_values (concat_answer p u v) (written (after_concat p u v) out)
 
 abbrev pub concat_file_bytes : Pattern → ℕ → ℕ → List ℕ → List ℕ
-concat_file_bytes p u v out = join_bytes (concat_answer p u v) (after_concat p u v) out
+concat_file_bytes p u v out = edited_bytes (concat_answer p u v) (after_concat p u v) out
 
 -- ---- a file, given by its bytes
 

@@ -1,2 +1,1 @@
 pub mod FileConcat
-pub mod JoinedFile

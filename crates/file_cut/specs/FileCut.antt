@@ -1,22 +1,14 @@
 -- The cut of an edge on a pattern file: what is answered, and the lent slice afterwards, which takes the edited file (FORMAT 4.2, 6.2).
-use Rattle.edge.specs.declared.EdgeID.{EdgeID}
-use Rattle.edit_answers.specs.declared.EditError.{EditError}
-use Rattle.errors.specs.declared.CallError.{CallError}
-use Rattle.std.specs.Prelude.{ℕ, List, Err, Ok, Result}
-use Rattle.answers.specs.Read.{after_read, when_read}
+use Rattle.std.specs.Prelude.{ℕ, List}
+use Rattle.answers.specs.Read.{after_read, edited_bytes, when_read}
 use Rattle.answers.specs.Values.{cut_values}
 use Rattle.answers.specs.declared.Answer.{Answer}
 use Rattle.curve.specs.Curves.{parameter_of}
 use Rattle.curve.specs.declared.Parameter.{Parameter}
 use Rattle.shell_edits.specs.Answers.{after_cut, cut_answer}
 use Rattle.store_read.specs.Loading.{check_of, pattern_of}
-use Rattle.store_write.specs.Writing.{written, written_bytes}
+use Rattle.store_write.specs.Writing.{written}
 use Rattle.pattern.specs.Contents.{Pattern}
-
--- the slice after a cut that gave pattern q: its file, if the cut was not refused
-abbrev pub cut_bytes : Result (EdgeID × EdgeID) (CallError EditError) → Pattern → List ℕ → List ℕ
-cut_bytes (Ok x) q out = written_bytes q out
-cut_bytes (Err e) q out = out
 
 -- ---- a pattern that was read
 
@@ -24,7 +16,7 @@ abbrev pub cut_file : Pattern → ℕ → ℕ → ℕ → Parameter → List ℕ
 cut_file p n e v at out = cut_values (cut_answer p n e v at) (written (after_cut p n e v at) out)
 
 abbrev pub cut_file_bytes : Pattern → ℕ → ℕ → ℕ → Parameter → List ℕ → List ℕ
-cut_file_bytes p n e v at out = cut_bytes (cut_answer p n e v at) (after_cut p n e v at) out
+cut_file_bytes p n e v at out = edited_bytes (cut_answer p n e v at) (after_cut p n e v at) out
 
 -- ---- a file, given by its bytes
 

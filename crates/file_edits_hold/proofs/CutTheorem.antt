@@ -1,6 +1,4 @@
 -- The cut on a file: the file that it writes is accepted, and holds the cut content; the same cut of that file is answered 14; when it is answered 17.
-use Rattle.errors.specs.declared.CallError.TheVariants.{Refused, Unread}
-use Rattle.std.specs.Prelude.{Err, Ok}
 use Prim.Native.Nat.{◌+◌, ◌<◌, ℕ}
 use mathlib.Core.Bool.{◌&&◌, true}
 use mathlib.Core.List.{List, [], map}
@@ -10,19 +8,20 @@ use native.Mathlib.Omega.{arith}
 use lib.Dec.{ltb}
 use lib.ListN.{length, length-append, take}
 use borrow.Author.Tests.{ltb-true}
-use Rattle.answers.specs.Read.{after_read}
+use Rattle.answers.specs.Read.{after_read, edited_bytes}
 use Rattle.answers.specs.Values.{refused}
 use Rattle.answers.specs.declared.Answer.{Answer}
 use Rattle.curve.specs.Curves.{cut_curve, parameter_of}
 use Rattle.curve.specs.declared.Parameter.{Parameter}
 use Rattle.edge.specs.Uses.{edge_number}
+use Rattle.edge.specs.declared.EdgeID.{EdgeID}
 use Rattle.edit_answers.specs.Answers.{answer_of, judged}
 use Rattle.edit_answers.specs.declared.EditError.{EditError}
 use Rattle.edit_answers.specs.declared.EditError.TheVariants.{Unnamed}
 use Rattle.errors.proofs.Laws.{none_left, unless_passes}
 use Rattle.errors.specs.Faults.{first}
 use Rattle.errors.specs.declared.Refusal.{Refusal}
-use Rattle.file_cut.specs.FileCut.{cut_bytes, file_cut, file_cut_bytes}
+use Rattle.file_cut.specs.FileCut.{file_cut, file_cut_bytes}
 use Rattle.file_edits_hold.proofs.Files.{Edit, content_read, cut_ended, edit_17, edit_accepted, edit_file, edit_refused, edit_short, ended, file_passes, fits_same, new_few, new_fine, new_numbers, read_content, read_full, refused_ended}
 use Rattle.file_edits_hold.proofs.Fitting.{curve_fits, cut_wires_low, fits_edited, halves_fit}
 use Rattle.file_edits_hold.specs.FileTheorems.{FileOf, TooFull, TooShort}
@@ -111,7 +110,7 @@ module _ (s : List ℕ) (bytes : Bytes s) (n e v bits : ℕ) (out : List ℕ) wh
         (halves_fit (edge_at c e) v bits (curve_fits c e fit inside)) (cut_wires_low c n e fit few_edges)
 
     after_is : after ≡ written_bytes (stored_in p new) out
-    after_is = λ i. after_read (first (ok i)) out (cut_bytes (answer_of (passes i) (cut i) (next_edge p 0, next_edge p 1)) (stored_new i) out)
+    after_is = λ i. after_read (first (ok i)) out (edited_bytes {T = EdgeID × EdgeID} (answer_of (passes i) (cut i) (next_edge p 0, next_edge p 1)) (stored_new i) out)
 
   abbrev faults : List EditError
   faults = cut_faults (file_content s) n e v at

@@ -1,6 +1,4 @@
 -- The removal of a point and the joining of two uses on a file: the file written is accepted, and holds the edited content; the point removed again is answered 23; when they are answered 17.
-use Rattle.errors.specs.declared.CallError.TheVariants.{Refused, Unread}
-use Rattle.std.specs.Prelude.{Err, Ok}
 use Prim.Native.Nat.{◌<◌, ℕ}
 use mathlib.Core.Bool.{Bool, ◌&&◌, ◌||◌, false, not, true}
 use mathlib.Core.List.{List, [], ◌++◌, ◌∷◌, map, map-append}
@@ -9,7 +7,7 @@ use mathlib.Core.Path.{◌∙◌, ◌≡◌, ap, refl, sym}
 use native.Mathlib.Omega.{arith}
 use lib.Dec.{leb, ltb}
 use lib.ListN.{length, length-append, take}
-use Rattle.answers.specs.Read.{after_read}
+use Rattle.answers.specs.Read.{after_read, edited_bytes}
 use Rattle.answers.specs.Values.{refused}
 use Rattle.answers.specs.declared.Answer.{Answer}
 use Rattle.edit_answers.specs.Answers.{answer_of, judged}
@@ -19,7 +17,6 @@ use Rattle.errors.proofs.Laws.{none_left, none_right, unless_passes}
 use Rattle.errors.specs.Faults.{first}
 use Rattle.errors.specs.declared.Refusal.{Refusal}
 use Rattle.file_concat.specs.FileConcat.{file_concat, file_concat_bytes}
-use Rattle.file_concat.specs.JoinedFile.{join_bytes}
 use Rattle.file_edits_hold.proofs.Files.{Edit, content_read, edit_17, edit_accepted, edit_file, edit_refused, edit_short, ended, file_passes, fits_same, join_ended, new_few, new_fine, new_numbers, read_content, read_full, refused_ended}
 use Rattle.file_edits_hold.proofs.Fitting.{fits_edited, joined_fits, remove_wires_low}
 use Rattle.file_edits_hold.specs.FileTheorems.{FileOf, TooFull, TooShort}
@@ -143,7 +140,7 @@ module _ (s : List ℕ) (bytes : Bytes s) (out : List ℕ) where
           (joined_fits c u w fit, tt) (remove_wires_low c n v fit few_edges)
 
       after_is : after ≡ written_bytes (stored_in p new) out
-      after_is = λ i. after_read (first (ok i)) out (join_bytes (answer_of (file_passes s ok i) (removes i) (next_edge p 0)) (stored_new i) out)
+      after_is = λ i. after_read (first (ok i)) out (edited_bytes (answer_of (file_passes s ok i) (removes i) (next_edge p 0)) (stored_new i) out)
 
     abbrev faults : List EditError
     faults = remove_faults (file_content s) n v
@@ -224,7 +221,7 @@ module _ (s : List ℕ) (bytes : Bytes s) (out : List ℕ) where
           (joined_fits c u v fit, tt) (all_each (λ (x : ℕ). x < 65536) 0 c.uses fit.uses)
 
       slice_is : slice ≡ written_bytes (stored_in p joined) out
-      slice_is = λ i. after_read (first (ok i)) out (join_bytes (answer_of (file_passes s ok i) (joins i) (next_edge p 0)) (stored_joined i) out)
+      slice_is = λ i. after_read (first (ok i)) out (edited_bytes (answer_of (file_passes s ok i) (joins i) (next_edge p 0)) (stored_joined i) out)
 
     abbrev refusals : List EditError
     refusals = concat_faults (file_content s) u v

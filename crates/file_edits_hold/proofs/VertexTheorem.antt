@@ -1,13 +1,11 @@
 -- A point added to a file: the file that is written is accepted, and holds the content with the point; when 17 is answered.
-use Rattle.errors.specs.declared.CallError.TheVariants.{Refused, Unread}
-use Rattle.std.specs.Prelude.{Err, Ok}
 use Prim.Native.Nat.{ℕ}
 use mathlib.Core.List.{List, []}
 use mathlib.Core.Logic.{◌⊎◌}
 use mathlib.Core.Path.{◌∙◌, ◌≡◌, ap, sym}
 use native.Mathlib.Omega.{arith}
 use lib.ListN.{length}
-use Rattle.answers.specs.Read.{after_read}
+use Rattle.answers.specs.Read.{after_read, edited_bytes}
 use Rattle.answers.specs.Values.{refused}
 use Rattle.answers.specs.declared.Answer.{Answer}
 use Rattle.edit_answers.specs.Answers.{answer_of, judged}
@@ -17,7 +15,7 @@ use Rattle.errors.specs.declared.Refusal.{Refusal}
 use Rattle.file_edits_hold.proofs.Files.{Edit, edit_17, edit_accepted, edit_file, edit_refused, edit_short, ended, file_passes, fits_same, new_numbers, read_content, read_full, vertex_ended}
 use Rattle.file_edits_hold.proofs.Fitting.{fits_vertex}
 use Rattle.file_edits_hold.specs.FileTheorems.{FileOf, TooFull, TooShort}
-use Rattle.file_vertex.specs.FileVertex.{file_vertex, file_vertex_bytes, vertex_bytes}
+use Rattle.file_vertex.specs.FileVertex.{file_vertex, file_vertex_bytes}
 use Rattle.pattern.specs.Checks.{pattern_faults}
 use Rattle.pattern.specs.Contents.{Content, Pattern, content, stored_in}
 use Rattle.pattern_file.proofs.Fits.{Fits}
@@ -63,7 +61,7 @@ module _ (s : List ℕ) (bytes : Bytes s) (label : ℕ) (out : List ℕ) where
     new_fits = fits_vertex c label (fits_same (file_content s) c (sym (read_content s)) (file_fits s bytes)) (vertex_allowed c label adds).labelled
 
     after_is : after ≡ written_bytes (stored_in p new) out
-    after_is = λ i. after_read (first (ok i)) out (vertex_bytes (answer_of (file_passes s ok i) (adds i) next) (stored_new i) out)
+    after_is = λ i. after_read (first (ok i)) out (edited_bytes (answer_of (file_passes s ok i) (adds i) next) (stored_new i) out)
 
   abbrev faults : List EditError
   faults = vertex_faults (file_content s) label

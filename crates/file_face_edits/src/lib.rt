@@ -7,11 +7,9 @@ ghost use Rattle.lists.specs.Lists.{flat};
 ghost use Rattle.file_face_edits.specs.FileFaceEdits.{file_add, file_add_out, file_cut_face, file_cut_face_out, file_glue, file_glue_out};
 
 use add_boundary::try_add_boundary;
-use answers::{Answer, call_values, unread};
+use answers::{Answer, on_file};
 use cut_face::{cut_by_edge, cut_by_wire};
 use glue::glue_at_boundaries;
-use store::{SPANS, TABLES};
-use store_read::load;
 
 // Adds a wire to face f.
 pub fn file_add(file: &[u8], f: u16, wire: &[u16], uses: &mut [u16], lens: &mut [u16]) -> Answer
@@ -19,12 +17,10 @@ pub fn file_add(file: &[u8], f: u16, wire: &[u16], uses: &mut [u16], lens: &mut 
     ensures uses_after { uses.new ≡ sets uses.old 0 (flat (file_add_out file.now f wire.now (length uses.old) (length lens.old))) }
     ensures lens_after { lens.new ≡ sets lens.old 0 (map length (file_add_out file.now f wire.now (length uses.old) (length lens.old))) }
 {
-    let mut t = [0u16; TABLES];
-    let mut spans = [0.0; SPANS];
-    match load(file, &mut t, &mut spans) {
-        Err(r) => unread(r),
-        Ok(()) => call_values(try_add_boundary(&t, &spans, f, wire, uses, lens)),
-    }
+    on_file(
+        file,
+        &mut |t, spans| try_add_boundary(t, spans, f, wire, uses, lens),
+    )
 }
 
 // Cuts face f by a wire.
@@ -39,12 +35,10 @@ pub fn file_cut_by_wire(
     ensures uses_after { uses.new ≡ sets uses.old 0 (flat (file_cut_face_out file.now f wire.now (length uses.old) (length lens.old))) }
     ensures lens_after { lens.new ≡ sets lens.old 0 (map length (file_cut_face_out file.now f wire.now (length uses.old) (length lens.old))) }
 {
-    let mut t = [0u16; TABLES];
-    let mut spans = [0.0; SPANS];
-    match load(file, &mut t, &mut spans) {
-        Err(r) => unread(r),
-        Ok(()) => call_values(cut_by_wire(&t, &spans, f, wire, uses, lens)),
-    }
+    on_file(
+        file,
+        &mut |t, spans| cut_by_wire(t, spans, f, wire, uses, lens),
+    )
 }
 
 // Cuts face f by one use.
@@ -53,12 +47,10 @@ pub fn file_cut_by_edge(file: &[u8], f: u16, u: u16, uses: &mut [u16], lens: &mu
     ensures uses_after { uses.new ≡ sets uses.old 0 (flat (file_cut_face_out file.now f (u ∷ []) (length uses.old) (length lens.old))) }
     ensures lens_after { lens.new ≡ sets lens.old 0 (map length (file_cut_face_out file.now f (u ∷ []) (length uses.old) (length lens.old))) }
 {
-    let mut t = [0u16; TABLES];
-    let mut spans = [0.0; SPANS];
-    match load(file, &mut t, &mut spans) {
-        Err(r) => unread(r),
-        Ok(()) => call_values(cut_by_edge(&t, &spans, f, u, uses, lens)),
-    }
+    on_file(
+        file,
+        &mut |t, spans| cut_by_edge(t, spans, f, u, uses, lens),
+    )
 }
 
 // Glues faces f and g.
@@ -67,10 +59,8 @@ pub fn file_glue(file: &[u8], f: u16, g: u16, uses: &mut [u16], lens: &mut [u16]
     ensures uses_after { uses.new ≡ sets uses.old 0 (flat (file_glue_out file.now f g (length uses.old) (length lens.old))) }
     ensures lens_after { lens.new ≡ sets lens.old 0 (map length (file_glue_out file.now f g (length uses.old) (length lens.old))) }
 {
-    let mut t = [0u16; TABLES];
-    let mut spans = [0.0; SPANS];
-    match load(file, &mut t, &mut spans) {
-        Err(r) => unread(r),
-        Ok(()) => call_values(glue_at_boundaries(&t, &spans, f, g, uses, lens)),
-    }
+    on_file(
+        file,
+        &mut |t, spans| glue_at_boundaries(t, spans, f, g, uses, lens),
+    )
 }

@@ -2,8 +2,7 @@
 use Rattle.std.specs.Prelude.{ℕ, List}
 use Rattle.answers.specs.Values.{join_values}
 use Rattle.answers.specs.declared.Answer.{Answer}
-use Rattle.answers.specs.Read.{after_read, when_read}
-use Rattle.file_concat.specs.JoinedFile.{join_bytes}
+use Rattle.answers.specs.Read.{after_read, edited_bytes, when_read}
 use Rattle.shell_edits.specs.Answers.{after_remove, remove_answer}
 use Rattle.store_read.specs.Loading.{check_of, pattern_of}
 use Rattle.store_write.specs.Writing.{written}
@@ -15,7 +14,7 @@ abbrev pub remove_file : Pattern → ℕ → ℕ → List ℕ → Answer
 remove_file p n v out = join_values (remove_answer p n v) (written (after_remove p n v) out)
 
 abbrev pub remove_file_bytes : Pattern → ℕ → ℕ → List ℕ → List ℕ
-remove_file_bytes p n v out = join_bytes (remove_answer p n v) (after_remove p n v) out
+remove_file_bytes p n v out = edited_bytes (remove_answer p n v) (after_remove p n v) out
 
 -- ---- a file, given by its bytes
 

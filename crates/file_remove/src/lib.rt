@@ -5,8 +5,7 @@
 ghost use Rattle.std.specs.Prelude.{◌≡◌};
 ghost use Rattle.file_remove.specs.FileRemove.{file_remove, file_remove_bytes};
 
-use answers::{Answer, unread};
-use file_concat::put_joined_file;
+use answers::{Answer, put_edited, unread};
 use remove_vertex::remove_vertex_by_concat_edges;
 use store::{SPANS, TABLES};
 use store_read::load;
@@ -23,7 +22,7 @@ pub fn file_remove(file: &[u8], n: usize, v: u16, out: &mut [u8]) -> Answer
         Err(f) => unread(f),
         Ok(()) => {
             let joined = remove_vertex_by_concat_edges(&mut t, &mut spans, n, VertexID(v));
-            put_joined_file(joined, &t, &spans, out)
+            put_edited(joined, &t, &spans, out)
         }
     }
 }

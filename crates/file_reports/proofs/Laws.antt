@@ -1,41 +1,32 @@
 -- What a lent list holds after a report on a file: what the call on the store wrote, if the file was read.
+use Rattle.std.specs.Fn.{Called, Mut}
 use Rattle.std.specs.Prelude.{Err, Ok, Result}
+use denote.Ref.{MutBor}
+use lib.Ieee.{Float}
+use Rattle.answers.specs.OnFile.{OnFile, Stores}
+use Rattle.answers.specs.declared.Answer.{Answer}
+use Rattle.store.specs.Store.{held}
 use Prim.Native.Nat.{◌<◌, ℕ}
 use mathlib.Core.Bool.{false, true, true≢false}
-use mathlib.Core.List.{List, [], ◌∷◌}
-use mathlib.Core.Path.{◌∙◌, ◌≡◌, ap, refl, subst, sym}
+use mathlib.Core.List.{List, []}
+use mathlib.Core.Path.{◌∙◌, ◌≡◌, ap, subst, sym}
 use lib.ListN.{length}
 use lib.Seq.{sets}
-use Rattle.answers.proofs.Read.{if_loaded, if_refused}
+use Rattle.answers.proofs.Read.{on_file}
 use Rattle.answers.specs.Read.{if_read}
 use Rattle.calls.proofs.Answers.{presence_there}
 use Rattle.errors.proofs.Laws.{accepted_none, none_left}
 use Rattle.errors.specs.Faults.{first}
 use Rattle.errors.specs.declared.Refusal.{Refusal}
 use Rattle.file_reports.specs.FileReports.{FilePromised, file_counts_out}
-use Rattle.lists.specs.Lists.{flat}
 use Rattle.pattern_file.proofs.RoundTrip.{content_of_stored}
 use Rattle.pattern.specs.Checks.{content_faults, pattern_faults}
 use Rattle.pattern_file.specs.File.{file_content, file_faults, table_faults}
 use Rattle.shell.specs.OpeningsHold.{OpeningsPromised}
 use Rattle.shell_calls.specs.ShellCalls.{ShellPromised}
 use Rattle.store_read.proofs.Fresh.{blank, fresh_faults, fresh_pattern}
-use Rattle.store_read.specs.Loading.{check_of, loaded, pattern_of}
+use Rattle.store_read.specs.Loading.{check_of, loaded}
 use Rattle.pattern.specs.Contents.{Content, Pattern, content, counts_of}
-
-pub flat_none : flat {A = ℕ} [] ≡ []
-unfolding flat
-flat_none = refl
-
--- g makes the numbers of a list of what is reported
-module _ {ℓ} {A : Type ℓ} (g : List A → List ℕ) (s l : List ℕ) where
-  pub list_refused : g [] ≡ [] → (f : Refusal) → first (table_faults s) ≡ Err f → (xs : List A) → l ≡ sets l 0 (g (if_read (check_of s) xs))
-  list_refused none f h xs = ap (sets l 0) (sym none ∙ ap g (if_refused s f h xs))
-
-  pub list_loaded : (q : Pattern) → q ≡ loaded blank s → first (table_faults s) ≡ Ok tt → (call : Pattern → List A)
-      → ((p : Pattern) (f : Refusal) (fs : List Refusal) → pattern_faults p ≡ f ∷ fs → call p ≡ []) → (out : List ℕ) → out ≡ sets l 0 (g (call q))
-      → out ≡ sets l 0 (g (if_read (check_of s) (call (pattern_of s))))
-  list_loaded q done right call refuses out is = is ∙ ap (λ (xs : List A). sets l 0 (g xs)) (if_loaded s q done right call refuses refl)
 
 -- ---- the counts of a file
 module _ (s l : List ℕ) where
@@ -61,3 +52,9 @@ module _ (s : List ℕ) (n : ℕ) where
       let fine : pattern_faults q ≡ [] = ap pattern_faults (fresh_pattern s q done right) ∙ fresh_faults s q done right ∙ ok in
       let there = presence_there (pattern_faults q) fine (content q) n (subst (λ (c : Content). n < length c.shells) (sym e) here) in
       subst (λ (c : Content). OpeningsPromised c n) e (kept (sym there))
+
+  module _ {F R : Type 0} {g : Mut F Stores (R × Stores)} {tell : R → Answer} {f f' : F} {a : Answer} where
+    pub kept_on : OnFile g tell f s a f' → ((t : MutBor (List ℕ)) (z : MutBor (List Float)) (r : R) (o : Stores) → Called g f (t, (z, tt)) (r, o) f' → ShellPromised (held t.now z.now) n) → FilePromised s n
+    kept_on o is =
+        on_file s o (λ e no told same. kept_refused e no)
+        (λ p done right c. kept_loaded p done right (subst (λ (q : Pattern). ShellPromised q n) c.holds (is c.tables c.spans c.gives c.left c.called)))

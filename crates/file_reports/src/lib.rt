@@ -6,16 +6,16 @@ ghost use Rattle.std.proofs.lemmas.List.Edits.{sets};
 ghost use Rattle.lists.specs.Lists.{flat};
 ghost use Rattle.file_reports.specs.FileReports.{file_check, file_components, file_components_out, file_condition, file_connected, file_counts_out, file_openings, file_openings_out, file_outline, FilePromised, file_singular, file_singular_out, file_solid, file_written, file_written_bytes};
 
-use answers::{Answer, call_values, check_values, done_with, unread};
+use answers::{Answer, check_values, done_with, on_file, unread};
 use group_calls::{connected_components, is_connected, singular_vertices};
 use pattern::BODIES;
 use shell_calls::{extract_boundaries, shell_condition};
 use solid_calls::try_new;
 use store::{SPANS, TABLES, tables_known};
 use store_check::wire_place;
-use store_read::{load, read};
+use store_read::read;
 use store_write::write;
-use words::copy_u16s;
+use words::copy_to;
 
 // The reading checks of a file.
 pub fn check_file(file: &[u8]) -> Answer
@@ -37,7 +37,7 @@ pub fn file_counts(file: &[u8], counts: &mut [u16; BODIES]) -> Answer
         Err(f) => unread(f),
         Ok(()) => {
             tables_known(&t);
-            copy_u16s(&t[0..BODIES], counts, 0);
+            copy_to(&t[0..BODIES], counts, 0);
             done_with(0, 0, 0)
         }
     }
@@ -47,12 +47,7 @@ pub fn file_counts(file: &[u8], counts: &mut [u16; BODIES]) -> Answer
 pub fn file_outline(file: &[u8], w: usize) -> Answer
     ensures { result ≡ file_outline file.now w }
 {
-    let mut t = [0u16; TABLES];
-    let mut spans = [0.0; SPANS];
-    match load(file, &mut t, &mut spans) {
-        Err(f) => unread(f),
-        Ok(()) => call_values(wire_place(&t, &spans, w)),
-    }
+    on_file(file, &mut |t, spans| wire_place(t, spans, w))
 }
 
 // Reads a file and writes its pattern.
@@ -60,24 +55,14 @@ pub fn rewrite_file(file: &[u8], out: &mut [u8]) -> Answer
     ensures value { result ≡ file_written file.now out.old }
     ensures out_after { out.new ≡ file_written_bytes file.now out.old }
 {
-    let mut t = [0u16; TABLES];
-    let mut spans = [0.0; SPANS];
-    match load(file, &mut t, &mut spans) {
-        Err(f) => unread(f),
-        Ok(()) => call_values(write(&t, &spans, out)),
-    }
+    on_file(file, &mut |t, spans| write(t, spans, out))
 }
 
 // The condition of shell n.
 pub fn file_condition(file: &[u8], n: usize) -> Answer
     ensures { result ≡ file_condition file.now n }
 {
-    let mut t = [0u16; TABLES];
-    let mut spans = [0.0; SPANS];
-    match load(file, &mut t, &mut spans) {
-        Err(f) => unread(f),
-        Ok(()) => call_values(shell_condition(&t, &spans, n)),
-    }
+    on_file(file, &mut |t, spans| shell_condition(t, spans, n))
 }
 
 // The openings of shell n.
@@ -87,24 +72,17 @@ pub fn file_openings(file: &[u8], n: usize, out: &mut [u16; 2048], lens: &mut [u
     ensures lens_after { lens.new ≡ sets lens.old 0 (map length (file_openings_out file.now n)) }
     ensures file_promised { FilePromised file.now n }
 {
-    let mut t = [0u16; TABLES];
-    let mut spans = [0.0; SPANS];
-    match load(file, &mut t, &mut spans) {
-        Err(f) => unread(f),
-        Ok(()) => call_values(extract_boundaries(&t, &spans, n, out, lens)),
-    }
+    on_file(
+        file,
+        &mut |t, spans| extract_boundaries(t, spans, n, out, lens),
+    )
 }
 
 // Whether shell n is connected.
 pub fn file_connected(file: &[u8], n: usize) -> Answer
     ensures { result ≡ file_connected file.now n }
 {
-    let mut t = [0u16; TABLES];
-    let mut spans = [0.0; SPANS];
-    match load(file, &mut t, &mut spans) {
-        Err(f) => unread(f),
-        Ok(()) => call_values(is_connected(&t, &spans, n)),
-    }
+    on_file(file, &mut |t, spans| is_connected(t, spans, n))
 }
 
 // The components of shell n.
@@ -113,12 +91,10 @@ pub fn file_components(file: &[u8], n: usize, out: &mut [u16; 512], lens: &mut [
     ensures out_after { out.new ≡ sets out.old 0 (flat (file_components_out file.now n)) }
     ensures lens_after { lens.new ≡ sets lens.old 0 (map length (file_components_out file.now n)) }
 {
-    let mut t = [0u16; TABLES];
-    let mut spans = [0.0; SPANS];
-    match load(file, &mut t, &mut spans) {
-        Err(f) => unread(f),
-        Ok(()) => call_values(connected_components(&t, &spans, n, out, lens)),
-    }
+    on_file(
+        file,
+        &mut |t, spans| connected_components(t, spans, n, out, lens),
+    )
 }
 
 // The singular points of shell n.
@@ -126,22 +102,12 @@ pub fn file_singular(file: &[u8], n: usize, out: &mut [u16; 2048]) -> Answer
     ensures value { result ≡ file_singular file.now n }
     ensures out_after { out.new ≡ sets out.old 0 (file_singular_out file.now n) }
 {
-    let mut t = [0u16; TABLES];
-    let mut spans = [0.0; SPANS];
-    match load(file, &mut t, &mut spans) {
-        Err(f) => unread(f),
-        Ok(()) => call_values(singular_vertices(&t, &spans, n, out)),
-    }
+    on_file(file, &mut |t, spans| singular_vertices(t, spans, n, out))
 }
 
 // Whether the shells make a solid.
 pub fn file_solid(file: &[u8]) -> Answer
     ensures { result ≡ file_solid file.now }
 {
-    let mut t = [0u16; TABLES];
-    let mut spans = [0.0; SPANS];
-    match load(file, &mut t, &mut spans) {
-        Err(f) => unread(f),
-        Ok(()) => call_values(try_new(&t, &spans)),
-    }
+    on_file(file, &mut |t, spans| try_new(t, spans))
 }

@@ -1,20 +1,12 @@
 -- The adding of a point on a pattern file: what is answered, and the lent slice afterwards, which takes the edited file (FORMAT 4.5, 6.2).
-use Rattle.edit_answers.specs.declared.EditError.{EditError}
-use Rattle.errors.specs.declared.CallError.{CallError}
-use Rattle.vertex.specs.declared.VertexID.{VertexID}
-use Rattle.std.specs.Prelude.{ℕ, List, Err, Ok, Result}
-use Rattle.answers.specs.Read.{after_read, when_read}
+use Rattle.std.specs.Prelude.{ℕ, List}
+use Rattle.answers.specs.Read.{after_read, edited_bytes, when_read}
 use Rattle.answers.specs.Values.{vertex_values}
 use Rattle.answers.specs.declared.Answer.{Answer}
 use Rattle.pattern.specs.Contents.{Pattern}
 use Rattle.shell_edits.specs.Answers.{after_vertex, vertex_answer}
 use Rattle.store_read.specs.Loading.{check_of, pattern_of}
-use Rattle.store_write.specs.Writing.{written, written_bytes}
-
--- the slice after a point was added, which gave pattern q: its file, if the edit was not refused
-abbrev pub vertex_bytes : Result VertexID (CallError EditError) → Pattern → List ℕ → List ℕ
-vertex_bytes (Ok v) q out = written_bytes q out
-vertex_bytes (Err e) q out = out
+use Rattle.store_write.specs.Writing.{written}
 
 -- ---- a pattern that was read
 
@@ -22,7 +14,7 @@ abbrev pub vertex_file : Pattern → ℕ → List ℕ → Answer
 vertex_file p label out = vertex_values (vertex_answer p label) (written (after_vertex p label) out)
 
 abbrev pub vertex_file_bytes : Pattern → ℕ → List ℕ → List ℕ
-vertex_file_bytes p label out = vertex_bytes (vertex_answer p label) (after_vertex p label) out
+vertex_file_bytes p label out = edited_bytes (vertex_answer p label) (after_vertex p label) out
 
 -- ---- a file, given by its bytes
 

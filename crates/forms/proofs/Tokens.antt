@@ -1,61 +1,14 @@
--- What a word of each kind says.
+-- Labels.
 use Rattle.std.specs.Prelude.{None, Option, Some}
 use Prim.Native.Nat.{◌*◌, ◌+◌, ◌<◌, ◌≤◌, ℕ}
 use mathlib.Core.List.{List}
-use mathlib.Core.Path.{◌∙◌, ◌≡◌, refl}
+use mathlib.Core.Path.{◌∙◌, ◌≡◌}
 use native.Mathlib.Omega.{arith}
 use lib.ListN.{drop, length, length-drop, take}
 use lib.Seq.{take_all}
-use borrow.Author.Tests.{eq-eqb, le-leb, le-ltb, lt-leb, lt-ltb, ne_eqb}
-use Rattle.decimals.specs.Decimals.{real}
-use Rattle.forms.specs.Forms.{below, label, tens, token}
-use Rattle.forms.specs.declared.WordKind.TheVariants.{Named, Parameter, Wires}
-use Rattle.output.specs.Text.{ascii}
-use Rattle.text.specs.Tokens.{name, name_after, number, signed}
-
-nowhere_is : name (ascii "nowhere") ≡ 0x16e6f7768657265
-unfolding name name_after
-nowhere_is = refl
-
-wire_is : name (ascii "wire") ≡ 0x177697265
-unfolding name name_after
-wire_is = refl
-
-module _ (w : List ℕ) {n : ℕ} (named : n ≡ name w) where
-  pub token_nowhere : n ≡ 0x16e6f7768657265 → token Parameter w ≡ Some 0x7ff8000000000000
-  unfolding token
-  token_nowhere p = rw (nowhere_is, ← named, p)
-
-  pub token_parameter : (n ≡ 0x16e6f7768657265 → ⊥) → token Parameter w ≡ real w
-  unfolding token
-  token_parameter p = rw (nowhere_is, ← named, ne_eqb n 0x16e6f7768657265 p)
-
-  pub token_wire : n ≡ 0x177697265 → token Wires w ≡ Some 65536
-  unfolding token
-  token_wire p = rw (wire_is, ← named, p)
-
-  pub token_use : (n ≡ 0x177697265 → ⊥) → token Wires w ≡ signed w
-  unfolding token
-  token_use p = rw (wire_is, ← named, ne_eqb n 0x177697265 p)
-
-  pub token_name : {m : ℕ} → n ≡ m → token (Named m) w ≡ Some 65536
-  unfolding token
-  token_name {m} p = rw (← named, eq-eqb n m p)
-
-  pub token_other : {m : ℕ} → (n ≡ m → ⊥) → token (Named m) w ≡ None
-  unfolding token
-  token_other {m} p = rw (← named, ne_eqb n m p)
-
--- ---- a number below n
-
-module _ {n m : ℕ} {t : Option ℕ} (value : t ≡ Some m) where
-  pub below_is : m < n → below n t ≡ Some m
-  below_is h = rw (value, lt-ltb m n h)
-
-  pub below_not : n ≤ m → below n t ≡ None
-  below_not h = rw (value, le-ltb m n h)
-
--- ---- labels
+use borrow.Author.Tests.{le-leb, lt-leb, ne_eqb}
+use Rattle.forms.specs.Forms.{below, label, tens}
+use Rattle.text.specs.Tokens.{number}
 
 module _ (w : List ℕ) where
   pub label_short : length w ≤ 9 → label w ≡ number w

@@ -1,5 +1,6 @@
 -- The form of a line: what each of its words after the first must be (docs/GUIDE.md, A first garment by hand and Edits).
 use Rattle.std.specs.Prelude.{ℕ, suc, ◌+◌, ◌*◌, List, [], ◌∷◌, eqb, leb, ltb, drop, get_or, length, map, take, None, Option, Some}
+use Rattle.std.specs.Str.{bytes_eq}
 use Rattle.lists.specs.Lists.{pick}
 use Rattle.decimals.specs.Decimals.{real}
 use Rattle.output.specs.Text.{ascii}
@@ -27,8 +28,8 @@ unfoldable pub token : WordKind → List ℕ → Option ℕ
 token Number w = number w
 token Signed w = signed w
 token Real w = real w
-token Parameter w = pick (eqb (name w) (name (ascii "nowhere"))) (Some 0x7ff8000000000000) (real w)
-token Wires w = pick (eqb (name w) (name (ascii "wire"))) (Some 65536) (signed w)
+token Parameter w = pick (bytes_eq w (ascii "nowhere")) (Some 0x7ff8000000000000) (real w)
+token Wires w = pick (bytes_eq w (ascii "wire")) (Some 65536) (signed w)
 token Short w = below 65536 (number w)
 token Label w = label w
 token (Named n) w = pick (eqb (name w) n) (Some 65536) None

@@ -1,13 +1,13 @@
 // The values of the words of a line, by the form of the line.
 #![tactic(auto)]
 
-ghost use Rattle.std.specs.Prelude.{◌≡◌, ◌+◌, ◌*◌, ◌≤◌, Some, eqb, drop, get_or, length, map};
+ghost use Rattle.std.specs.Prelude.{◌≡◌, ◌+◌, ◌*◌, ◌≤◌, Some, eqb, get_or, length, map};
 ghost use Rattle.std.proofs.lemmas.List.Edits.{sets};
 ghost use Rattle.text.specs.Text.{words};
 ghost use Rattle.forms.specs.Forms.{below as belowOf, label, said, token, values};
 
 use decimals::real_of;
-use text::{name_of, number_of, signed_of, word_end, word_start};
+use text::{name_of, next_word, number_of, signed_of};
 
 // What a word must be.
 #[derive(Clone, Copy)]
@@ -24,7 +24,8 @@ pub enum WordKind {
     // A number below 65,536.
     Short,
     Label,
-    // The word that has this name.
+    // The word that has this name. The name is a number: a slice here would bring the place that it lies at into
+    // the definitions, and an enum of words would have `put_values` take fewer.
     Named(u64),
 }
 
@@ -52,6 +53,7 @@ fn label_of(word: &[u8]) -> Option<u64>
 }
 
 // What a word of this kind says.
+#[tactic(auto, unfolding(crate::specs::Forms::token))]
 fn token_of(kind: WordKind, word: &[u8]) -> Option<u64>
     ensures { result ≡ token kind word.now }
 {
@@ -59,18 +61,14 @@ fn token_of(kind: WordKind, word: &[u8]) -> Option<u64>
         WordKind::Number => number_of(word),
         WordKind::Signed => signed_of(word),
         WordKind::Real => real_of(word),
-        WordKind::Parameter => {
-            if name_of(word) == 0x16e6f7768657265 {
-                return Some(0x7ff8000000000000);
-            }
-            real_of(word)
-        }
-        WordKind::Wires => {
-            if name_of(word) == 0x177697265 {
-                return Some(65536);
-            }
-            signed_of(word)
-        }
+        WordKind::Parameter => match word {
+            b"nowhere" => Some(0x7ff8000000000000),
+            _ => real_of(word),
+        },
+        WordKind::Wires => match word {
+            b"wire" => Some(65536),
+            _ => signed_of(word),
+        },
         WordKind::Short => below(65536, number_of(word)),
         WordKind::Label => label_of(word),
         WordKind::Named(name) => {
@@ -92,43 +90,32 @@ fn said_by(kind: Option<WordKind>, word: &[u8]) -> Option<u64>
 fn kind_at(kinds: &[WordKind], rest: Option<WordKind>, i: usize) -> Option<WordKind>
     ensures { result ≡ get_or (map Some kinds.now) i rest }
 {
-    if i < kinds.len() {
-        Some(kinds[i])
-    } else {
-        rest
-    }
+    kinds.get(i).copied().or(rest)
 }
 
-// How many words were read, and whether they are all.
+// How many words were read, and whether they are all. No `Result`: the number counts in both cases.
 #[derive(Clone, Copy)]
 pub struct Matched {
     pub words: usize,
     pub all: bool,
 }
 
-// Writes the values of the words of the line from `from` on, up to the first that is not of its kind.
+// Writes the values of the words of a line, up to the first that is not of its kind.
 pub fn put_values(
     line: &[u8],
-    from: usize,
     kinds: &[WordKind],
     rest: Option<WordKind>,
     out: &mut [u64],
 ) -> Matched
-    requires { (from ≤ length line.now) × (length line.now ≤ 2 * length out.old) }
-    ensures out_after { out.new ≡ sets out.old 0 (values kinds.now rest 0 (words (drop from line.now))) }
-    ensures words_value { result.words ≡ length (values kinds.now rest 0 (words (drop from line.now))) }
-    ensures all_value { result.all ≡ eqb (length (values kinds.now rest 0 (words (drop from line.now)))) (length (words (drop from line.now))) }
+    requires { length line.now ≤ 2 * length out.old }
+    ensures out_after { out.new ≡ sets out.old 0 (values kinds.now rest 0 (words line.now)) }
+    ensures words_value { result.words ≡ length (values kinds.now rest 0 (words line.now)) }
+    ensures all_value { result.all ≡ eqb (length (values kinds.now rest 0 (words line.now))) (length (words line.now)) }
 {
-    let mut at = from;
+    let mut left = line;
     let mut i: usize = 0;
-    // No `for`: the place goes on by a word at a time, and the end of the line ends it.
-    while at < line.len() {
-        let start = word_start(line, at);
-        if start == line.len() {
-            break;
-        }
-        let end = word_end(line, start);
-        let Some(v) = said_by(kind_at(kinds, rest, i), &line[start..end]) else {
+    while let Some((word, next)) = next_word(left) {
+        let Some(v) = said_by(kind_at(kinds, rest, i), word) else {
             return Matched {
                 words: i,
                 all: false,
@@ -136,7 +123,7 @@ pub fn put_values(
         };
         out[i] = v;
         i += 1;
-        at = end;
+        left = next;
     }
     Matched {
         words: i,

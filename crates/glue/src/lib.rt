@@ -9,11 +9,10 @@ ghost use Rattle.face_edits.specs.FaceAnswers.{glue_answer, glue_out};
 
 use edit_answers::FaceEditError;
 use errors::CallError;
-use face_parts::{face_part, first_backs, first_fronts, uses_of};
+use face_parts::face_wires;
 use glue_wires::glue_parts;
-use store::{Spans, Tables, counts_in, face_in, tables_known};
+use store::{Spans, Tables, counts_in, face_in, lists_in, tables_known};
 use store_check::check;
-use words::index;
 
 // Glues two faces, each given with a sign, along the edges that they share: the wires that stay are
 // written to `uses`, their lengths to `lens`. After the reading checks: 3, 20, 21, 22, 28, 17.
@@ -31,13 +30,13 @@ pub fn glue_at_boundaries(
 {
     tables_known(t);
     check(t, spans)?;
-    let counts = counts_in(t);
-    let i = index(f % 32768);
-    let j = index(g % 32768);
-    if i >= counts[4] {
+    let lists = lists_in(t);
+    let i = usize::from(f % 32768);
+    let j = usize::from(g % 32768);
+    if i >= lists.faces.len() {
         return Err(CallError::Refused(FaceEditError::Unnamed));
     }
-    if j >= counts[4] {
+    if j >= lists.faces.len() {
         return Err(CallError::Refused(FaceEditError::Unnamed));
     }
     let a = face_in(t, i);
@@ -48,17 +47,8 @@ pub fn glue_at_boundaries(
     if f / 32768 != g / 32768 {
         return Err(CallError::Refused(FaceEditError::FacesDiffer));
     }
-    let first = face_part(t, i);
-    let second = face_part(t, j);
-    let edges = counts[1];
-    glue_parts(
-        counts[0],
-        uses_of(t, first),
-        uses_of(t, second),
-        first_fronts(t, edges),
-        first_backs(t, edges),
-        uses,
-        lens,
-    )
-    .map_err(CallError::Refused)
+    let first = face_wires(&lists, i);
+    let second = face_wires(&lists, j);
+    let points = counts_in(t)[0];
+    glue_parts(points, first.uses, second.uses, &lists.ends, uses, lens).map_err(CallError::Refused)
 }

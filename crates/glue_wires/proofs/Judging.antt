@@ -1,12 +1,11 @@
 -- The chained wires, judged and written.
-use Prim.Native.Nat.{◌-◌, ◌<◌, ◌≤◌, ℕ}
+use Prim.Native.Nat.{◌<◌, ◌≤◌, ℕ}
 use mathlib.Core.Bool.{Bool, ◌&&◌, false, not, true}
 use mathlib.Core.List.{List, [], ◌++◌, ◌∷◌, append-nil, map}
 use mathlib.Core.Path.{◌∙◌, ◌≡◌, ap, refl, sym}
-use native.Mathlib.Nat.{sub-zero}
 use native.Mathlib.Omega.{arith}
 use lib.Dec.{leb, ltb}
-use lib.ListN.{drop, length, length-map, length-replicate, replicate, take}
+use lib.ListN.{length, length-map, length-replicate, replicate, take}
 use lib.Seq.{length-sets, length-take-le, sets, take_all}
 use borrow.Author.Tests.{le-leb, le-ltb, lt-leb, lt-ltb}
 use Rattle.edge.specs.Edges.{back_number, edge, front_number}
@@ -144,10 +143,6 @@ module _ (c : Content) (o : Option Kept) (us ls : List ℕ) (m k : ℕ) where
       → Wrote (met_faults c o m k) (glued_of c o) us ls us' ls' r
   is_rest kept e us' ls' r w = rw e w
 
--- the first n places, as they are lent
-pub first_part : (n : ℕ) (xs : List ℕ) → take (n - 0) (drop 0 xs) ≡ take n xs
-first_part n xs = rw (sub-zero n)
-
 -- ---- the wires as they stand in the arrays
 
 -- some pattern has these columns
@@ -182,22 +177,16 @@ module _ (ws : List (List ℕ)) (fronts backs kept out₀ lens₀ out lens : Lis
   lens_long : length lens ≡ length lens₀
   lens_long = ap length a.lengths ∙ length-sets lens₀ 0 (map length ws)
 
-  uses_stand : flat ws ≡ take w.uses out
+  pub uses_stand : flat ws ≡ take w.uses out
   uses_stand =
       let x : w.uses ≡ length (flat ws) = omega (arith, a.place) in
       sym (rw (x, a.written) (take_sets out₀ (flat ws) (length (flat ws)) refl (omega (arith, x, out_long, r.space))))
 
-  lengths_stand : map length ws ≡ take w.wires lens
+  pub lengths_stand : map length ws ≡ take w.wires lens
   lengths_stand =
       let n : length (map length ws) ≡ length ws = length-map ws length in
       let x : w.wires ≡ length (map length ws) = omega (arith, n, a.number) in
       sym (rw (x, a.lengths) (take_sets lens₀ (map length ws) (length (map length ws)) refl (omega (arith, x, lens_long, r.places))))
-
-  pub uses_lent : flat ws ≡ take (w.uses - 0) (drop 0 out)
-  uses_lent = uses_stand ∙ sym (first_part w.uses out)
-
-  pub lengths_lent : map length ws ≡ take (w.wires - 0) (drop 0 lens)
-  lengths_lent = lengths_stand ∙ sym (first_part w.wires lens)
 
 -- what is judged of all that is kept: the uses are named, the lengths have their sum
 module _ (fronts backs kept out₀ lens₀ kept' out lens : List ℕ) (w : Chained) (points : ℕ) (s : EndColumns fronts backs) (few : points ≤ 2048) (each : EachFits fronts backs points (slots kept))
@@ -237,7 +226,7 @@ room_first fronts backs kept h l = record {
 }
 
 -- one face of n wires
-pub one_sum : (n : ℕ) → sum (take 1 (replicate 1 n)) ≡ n
+pub one_sum : (n : ℕ) → sum (n ∷ []) ≡ n
 unfolding sum
 one_sum n = omega arith
 

@@ -12,7 +12,7 @@ ghost use Rattle.store.specs.Store.{count_table, held};
 ghost use Rattle.group_calls.specs.GroupCalls.{components_answer, components_out, connected_answer, singular_answer, singular_out};
 
 use calls::{ShellFigure, find_shell};
-use columns::Columns;
+use columns::{Columns, Derived};
 use errors::{CallError, NotThere};
 use reports::{GroupCounts, put_groups};
 use store::{Spans, Tables};
@@ -29,7 +29,12 @@ fn groups_at(
     requires in_bounds { (512 ≤ length out.old) × (512 ≤ length sizes.old) × (2048 ≤ length found.old) }
     ensures { OfTables t.now (λ p. Grouped (content p) n out.old sizes.old found.old out.new sizes.new found.new result) }
 {
-    let columns = Columns::new(t);
+    let mut derived = Derived::new();
+    derived.put(t);
+    let columns = Columns {
+        t,
+        derived: &derived,
+    };
     put_groups(&columns, n, out, sizes, found)
 }
 

@@ -108,6 +108,16 @@ module _ (n : ℕ) (xs ys ps₀ ss₀ ps ss : List ℕ) (k : ℕ) (p : Pairs n x
       let e : joined_all (trees ps₀ ss₀) (links xs ys) ≡ trees ps ss = j.is ∙ ap (joined_all (trees ps ss)) (links_end xs ys k h) in
       (sym (ap (λ (t : Trees). t.parents) e), sym (ap (λ (t : Trees). t.sizes) e))
 
+-- the trees after the links of two lists
+pub forest_pairs : {n : ℕ} (xs ys ps ss : List ℕ) → Forest n ps ss → Pairs n xs ys
+    → Forest n (joined_all (trees ps ss) (links xs ys)).parents (joined_all (trees ps ss) (links xs ys)).sizes
+unfolding links joined_all
+forest_pairs [] ys ps ss f p = f
+forest_pairs (x ∷ xs) [] ps ss f p = f
+forest_pairs {n} (x ∷ xs) (y ∷ ys) ps ss f p =
+    let h = p.1 0 (omega arith) in
+    forest_pairs xs ys (joined ps ss x y).parents (joined ps ss x y).sizes (forest_join n ps ss f x y h.0 h.1) (omega (arith, p.0), λ k l. p.1 (suc k) (omega (arith, l)))
+
 -- what stands at a place of a column made from another
 pub column_at : (g : ℕ → ℕ) (xs : List ℕ) (k : ℕ) → k < length xs → get_or (map g xs) k 0 ≡ g (get_or xs k 0)
 column_at g [] k h = absurd (not-suc-le-zero h)

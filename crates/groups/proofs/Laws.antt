@@ -17,7 +17,7 @@ use Rattle.groups.specs.Forest.{Climbs, Forest, Grouped, Ready, Trees, joined, j
 use Rattle.groups.specs.Groups.{Inside, Link, Linked, Means, links, same_group}
 use Rattle.lists.proofs.Flat.{get_d_tabulate}
 use Rattle.lists.proofs.Laws.{cases, length_tabulate}
-use Rattle.lists.specs.Lists.{tabulate}
+use Rattle.lists.specs.Lists.{sum, tabulate}
 
 abbrev Stands : ℕ → List Link → Trees → Type 0
 Stands n L t = Grouped n L t.parents t.sizes
@@ -73,6 +73,20 @@ module _ (n : ℕ) (ps ss : List ℕ) (few : n < 65536) where
     };
     means = means_none n (root_of ps₀) (λ i h. climb_root (length ps₀) ps₀ i (parent₀ i h));
   }
+
+-- no members
+pub forest_none : (ps ss : List ℕ) → Forest 0 ps ss
+unfolding sum tabulate
+forest_none ps ss = record {
+  few = omega arith;
+  long = omega arith;
+  sized = omega arith;
+  below = λ i h. absurd (omega (arith, h));
+  some = λ i h. absurd (omega (arith, h));
+  cap = λ i h. absurd (omega (arith, h));
+  grows = λ i h o. absurd (omega (arith, h));
+  all = refl;
+}
 
 -- ---- a join
 pub rooted_by : (P : Trees → Type 0) (ps ss : List ℕ) (a b : ℕ) → (a ≡ b → P (record { parents = ps; sizes = ss }))

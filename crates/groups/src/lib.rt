@@ -3,12 +3,12 @@
 // so no member is more than 11 steps below its root where there are 2,048.
 #![tactic(auto)]
 
-ghost use Rattle.std.specs.Prelude.{◌≡◌, ℕ, ◌+◌, ◌<◌, ◌≤◌, length, get_or};
+ghost use Rattle.std.specs.Prelude.{◌≡◌, ℕ, ◌+◌, ◌<◌, ◌≤◌, length, get_or, replicate};
 ghost use Rattle.groups.specs.Forest.{Climbs, Forest, Ready, joined, joined_all, root_of, started, trees, under};
 ghost use Rattle.groups.specs.Groups.{links};
 
 // Makes each of n members a group of its own.
-pub fn start(parents: &mut [u16], sizes: &mut [u16], n: usize)
+fn start(parents: &mut [u16], sizes: &mut [u16], n: usize)
     requires { (n < 65536) × ((n ≤ length parents.old) × (n ≤ length sizes.old)) }
     ensures parents_after { parents.new ≡ (started n parents.old sizes.old).parents }
     ensures sizes_after { sizes.new ≡ (started n parents.old sizes.old).sizes }
@@ -20,7 +20,7 @@ pub fn start(parents: &mut [u16], sizes: &mut [u16], n: usize)
 }
 
 // The root of the tree of member i.
-pub fn find(parents: &[u16], i: usize) -> usize
+fn find(parents: &[u16], i: usize) -> usize
     requires { Climbs parents.now i }
     ensures { result ≡ root_of parents.now i }
 {
@@ -66,7 +66,7 @@ fn join_roots(parents: &mut [u16], sizes: &mut [u16], i: usize, j: usize)
 }
 
 // Joins the groups of members i and j. Two with the same parent are in one group already.
-pub fn join(parents: &mut [u16], sizes: &mut [u16], i: usize, j: usize)
+fn join(parents: &mut [u16], sizes: &mut [u16], i: usize, j: usize)
     requires { Ready parents.old sizes.old i j }
     ensures parents_after { parents.new ≡ (joined parents.old sizes.old i j).parents }
     ensures sizes_after { sizes.new ≡ (joined parents.old sizes.old i j).sizes }
@@ -78,7 +78,7 @@ pub fn join(parents: &mut [u16], sizes: &mut [u16], i: usize, j: usize)
 }
 
 // Joins the groups of a[k] and b[k], for each k in sequence. The members are the numbers below n.
-pub fn join_all(parents: &mut [u16], sizes: &mut [u16], n: usize, a: &[u16], b: &[u16])
+fn join_all(parents: &mut [u16], sizes: &mut [u16], n: usize, a: &[u16], b: &[u16])
     requires forest { Forest n parents.old sizes.old }
     requires b_len { (length b.now ≡ length a.now) × ((k : ℕ) → k < length a.now → (get_or a.now k 0 < n) × (get_or b.now k 0 < n)) }
     ensures parents_after { parents.new ≡ (joined_all (trees parents.old sizes.old) (links a.now b.now)).parents }
@@ -86,5 +86,68 @@ pub fn join_all(parents: &mut [u16], sizes: &mut [u16], n: usize, a: &[u16], b: 
 {
     for (&i, &j) in a.iter().zip(b) {
         join(parents, sizes, i as usize, j as usize);
+    }
+}
+
+// Members in groups, at most 2,048: the numbers below `count`.
+#[derive(Clone, Copy)]
+pub struct Groups {
+    pub parents: [u16; 2048],
+    pub sizes: [u16; 2048],
+    pub count: usize,
+    ghost forest: { Forest count parents sizes },
+}
+
+impl Groups {
+    // No members.
+    pub fn new() -> Groups
+        ensures parents { result.parents ≡ replicate 2048 0 }
+        ensures sizes { result.sizes ≡ replicate 2048 0 }
+    {
+        Groups {
+            parents: [0; 2048],
+            sizes: [0; 2048],
+            count: 0,
+        }
+    }
+
+    // Makes each of n members a group of its own.
+    pub fn start(&mut self, n: usize)
+        requires { n ≤ 2048 }
+        ensures parents_after { self.new.parents ≡ (started n self.old.parents self.old.sizes).parents }
+        ensures sizes_after { self.new.sizes ≡ (started n self.old.parents self.old.sizes).sizes }
+        ensures count_after { self.new.count ≡ n }
+    {
+        start(&mut self.parents, &mut self.sizes, n);
+        self.count = n;
+    }
+
+    // The root of the tree of member i.
+    pub fn root(&self, i: usize) -> usize
+        requires { i < self.now.count }
+        ensures value { result ≡ root_of self.now.parents i }
+        ensures low { result < self.now.count }
+    {
+        find(&self.parents, i)
+    }
+
+    // Joins the groups of members i and j.
+    pub fn join(&mut self, i: usize, j: usize)
+        requires { (i < self.old.count) × (j < self.old.count) }
+        ensures parents_after { self.new.parents ≡ (joined self.old.parents self.old.sizes i j).parents }
+        ensures sizes_after { self.new.sizes ≡ (joined self.old.parents self.old.sizes i j).sizes }
+        ensures count_after { self.new.count ≡ self.old.count }
+    {
+        join(&mut self.parents, &mut self.sizes, i, j);
+    }
+
+    // Joins the groups of a[k] and b[k], for each k in sequence.
+    pub fn join_all(&mut self, a: &[u16], b: &[u16])
+        requires { (length b.now ≡ length a.now) × ((k : ℕ) → k < length a.now → (get_or a.now k 0 < self.old.count) × (get_or b.now k 0 < self.old.count)) }
+        ensures parents_after { self.new.parents ≡ (joined_all (trees self.old.parents self.old.sizes) (links a.now b.now)).parents }
+        ensures sizes_after { self.new.sizes ≡ (joined_all (trees self.old.parents self.old.sizes) (links a.now b.now)).sizes }
+        ensures count_after { self.new.count ≡ self.old.count }
+    {
+        join_all(&mut self.parents, &mut self.sizes, self.count, a, b);
     }
 }

@@ -24,7 +24,7 @@ fn take_in(
                 return Some(reader);
             }
             Ok(n) => {
-                reader = step(reader, &piece[0..n], t, spans, index);
+                reader = step(reader, &piece[..n], t, spans, index);
             }
             Err(e) => {
                 console::fail(rt, b"import: standard input", e);
@@ -33,16 +33,6 @@ fn take_in(
         }
     }
     None
-}
-
-fn print_file(rt: &HostRuntime, file: &[u8; LONGEST], n: usize) {
-    if let Err(e) = console::print_first(rt, file, n) {
-        console::fail(rt, b"import: standard output", e);
-    }
-}
-
-fn print_line(rt: &HostRuntime, line: &[u8; 96], n: usize) {
-    let _ = console::print_first(&rt.stderr(), line, n);
 }
 
 fn main(rt: HostRuntime) {
@@ -64,12 +54,14 @@ fn main(rt: HostRuntime) {
     let end = mesh_file::finish(reader, &mut t, &mut spans, &mut index, &mut file);
     match end.answer {
         Ok(n) => {
-            print_file(&rt, &file, n);
+            if let Err(e) = console::print_first(&rt, &file, n) {
+                console::fail(&rt, b"import: standard output", e);
+            }
         }
         other => {
             let mut line = [0u8; 96];
             let length = mesh_answers::put_import(other, &mut line);
-            print_line(&rt, &line, length);
+            let _ = rt.stderr().write_all(&line[..length]);
         }
     }
 }

@@ -17,7 +17,6 @@ use Rattle.job_lines.specs.declared.ShellTask.TheVariants.{Concat, Cut, Remove}
 use Rattle.job_lines.specs.declared.Task.TheVariants.{Face}
 use Rattle.lists.proofs.Sets.{take_sets}
 use Rattle.job_edits.specs.JobEdits.{face_answer, face_wires, named, shell_answer, wire_named}
-use Rattle.answers.specs.declared.Answer.{Answer}
 use Rattle.words.specs.Words.{short}
 
 same_two : {B : Type 0} (f : ℕ → ℕ → B) {x x' y y' : ℕ} → x ≡ x' → y ≡ y' → f x' y' ≡ f x y

@@ -1,7 +1,7 @@
 // The edits of the jobs of the program `edit`, on a pattern file in memory.
 #![tactic(auto)]
 
-ghost use Rattle.std.specs.Prelude.{◌≡◌, map, ℕ, ◌≤◌, min, length};
+ghost use Rattle.std.specs.Prelude.{◌≡◌, map, ◌≤◌, length};
 ghost use Rattle.std.proofs.lemmas.List.Edits.{sets};
 ghost use Rattle.lists.specs.Lists.{flat};
 ghost use Rattle.job_lines.specs.JobLines.{job_kinds};

@@ -1,32 +1,20 @@
--- The texts of the answers by their branches, and how long a form is.
-use Prim.Native.Nat.{◌≤◌, ℕ}
+-- The texts of the answers by their branches.
+use Prim.Native.Nat.{ℕ}
 use mathlib.Core.List.{[], ◌++◌, ◌∷◌}
 use mathlib.Core.Path.{◌≡◌, refl}
-use native.Mathlib.Omega.{arith}
-use lib.ListN.{length}
 use Rattle.answer_lines.specs.AnswerLines.{wires_text}
 use Rattle.lines.specs.Lines.{number_line, signed}
 use Rattle.lines.specs.Parts.{word_number}
 use Rattle.lists.specs.Lists.{flat}
 use Rattle.output.specs.Text.{ascii, decimal, digits, field}
 use Rattle.job_lines.specs.JobLines.{done_text, job_form, new_text, no_job}
-use Rattle.job_lines.specs.declared.FaceTask.TheVariants.{Add, CutFace, Glue}
 use Rattle.job_lines.specs.declared.ShellTask.TheVariants.{Concat, Cut, Point, Remove}
 use Rattle.job_lines.specs.declared.Task.{Task}
-use Rattle.job_lines.specs.declared.Task.TheVariants.{Face, Shell}
+use Rattle.job_lines.specs.declared.Task.TheVariants.{Shell}
 
 pub no_word : (t : Task) (n : ℕ) → no_job t n ≡ (ascii "no job: word " ++ decimal n) ++ ascii " of " ++ job_form t ++ ascii "\n"
 unfolding no_job field
 no_word t n = refl
-
-pub form_short : (t : Task) → length (job_form t) ≤ 40
-form_short (Shell Cut) = omega arith
-form_short (Shell Remove) = omega arith
-form_short (Shell Concat) = omega arith
-form_short (Shell Point) = omega arith
-form_short (Face Add) = omega arith
-form_short (Face CutFace) = omega arith
-form_short (Face Glue) = omega arith
 
 module _ (first second : ℕ) where
   pub edges_two : new_text Cut first second ≡ (ascii "done edges " ++ decimal first) ++ word_number (ascii " ") second

@@ -1,5 +1,6 @@
 -- The jobs of the program `edit` as lines: their names, the words that they take, and the lines of their answers (docs/GUIDE.md, Edits).
-use Rattle.std.specs.Prelude.{ℕ, List, [], ◌∷◌, ◌++◌, eqb, Option, None, Some}
+use Rattle.std.specs.Prelude.{ℕ, List, [], ◌∷◌, ◌++◌, Option, None, Some}
+use Rattle.std.specs.Str.{bytes_eq}
 use Rattle.answer_lines.specs.AnswerLines.{wires_text}
 use Rattle.forms.specs.declared.WordKind.{WordKind}
 use Rattle.forms.specs.declared.WordKind.TheVariants.{Label, Number, Parameter, Signed}
@@ -11,18 +12,17 @@ use Rattle.job_lines.specs.declared.Task.TheVariants.{Face, Shell}
 use Rattle.lines.specs.Lines.{number_line}
 use Rattle.lists.specs.Lists.{pick}
 use Rattle.output.specs.Text.{ascii, field}
-use Rattle.text.specs.Tokens.{name}
 
 -- the job that a name asks for
-unfoldable pub job_named : ℕ → Option Task
-job_named n =
-    pick (eqb n (name (ascii "cut"))) (Some (Shell Cut))
-    (pick (eqb n (name (ascii "remove"))) (Some (Shell Remove))
-    (pick (eqb n (name (ascii "concat"))) (Some (Shell Concat))
-    (pick (eqb n (name (ascii "point"))) (Some (Shell Point))
-    (pick (eqb n (name (ascii "add"))) (Some (Face Add))
-    (pick (eqb n (name (ascii "cutface"))) (Some (Face CutFace))
-    (pick (eqb n (name (ascii "glue"))) (Some (Face Glue)) None))))))
+unfoldable pub job_named : List ℕ → Option Task
+job_named w =
+    pick (bytes_eq w (ascii "cut")) (Some (Shell Cut))
+    (pick (bytes_eq w (ascii "remove")) (Some (Shell Remove))
+    (pick (bytes_eq w (ascii "concat")) (Some (Shell Concat))
+    (pick (bytes_eq w (ascii "point")) (Some (Shell Point))
+    (pick (bytes_eq w (ascii "add")) (Some (Face Add))
+    (pick (bytes_eq w (ascii "cutface")) (Some (Face CutFace))
+    (pick (bytes_eq w (ascii "glue")) (Some (Face Glue)) None))))))
 
 -- the kinds of its words after the first: numbers, uses or faces with their signs, a parameter, a label; and the kind of any further word, if there may be one
 abbrev pub job_kinds : Task → List WordKind

@@ -7,14 +7,13 @@ ghost use Rattle.std.proofs.lemmas.List.Edits.{sets};
 ghost use Rattle.lists.specs.Lists.{split, sum};
 ghost use Rattle.forms.specs.Forms.{values as values_of};
 ghost use Rattle.text.specs.Text.{words};
-ghost use Rattle.text.specs.Tokens.{name};
 ghost use Rattle.job_lines.specs.JobLines.{done_text, first_word, job_form, job_kinds, job_named, job_rest, new_text, no_job};
 
 use answer_lines::put_wires;
 use forms::{Matched, WordKind, put_values};
 use lines::put_number;
 use output::{put_field, put_text};
-use text::{name_of, word_end, word_start};
+use text::next_word;
 
 // A job that makes a file: an edit of a shell, or a point added.
 #[derive(Clone, Copy)]
@@ -41,64 +40,47 @@ pub enum Task {
 }
 
 // The job that a name asks for.
-fn job_named(name: u64) -> Option<Task>
-    ensures { result ≡ job_named name }
+#[tactic(auto, unfolding(crate::specs::JobLines::job_named))]
+fn job_named(name: &[u8]) -> Option<Task>
+    ensures { result ≡ job_named name.now }
 {
-    if name == 0x1637574 {
-        return Some(Task::Shell(ShellTask::Cut));
-    }
-    if name == 0x172656d6f7665 {
-        return Some(Task::Shell(ShellTask::Remove));
-    }
-    if name == 0x1636f6e636174 {
-        return Some(Task::Shell(ShellTask::Concat));
-    }
-    if name == 0x1706f696e74 {
-        return Some(Task::Shell(ShellTask::Point));
-    }
-    if name == 0x1616464 {
-        return Some(Task::Face(FaceTask::Add));
-    }
-    if name == 0x163757466616365 {
-        return Some(Task::Face(FaceTask::CutFace));
-    }
-    if name == 0x1676c7565 {
-        return Some(Task::Face(FaceTask::Glue));
-    }
-    None
-}
-
-// How many words a job must have after its name.
-pub fn needed(task: Task) -> usize
-    ensures { (result ≡ length (job_kinds task)) × (1 ≤ result) × (result ≤ 4) }
-{
-    match task {
-        Task::Shell(ShellTask::Cut) => 4,
-        Task::Shell(ShellTask::Remove) => 2,
-        Task::Shell(ShellTask::Concat) => 2,
-        Task::Shell(ShellTask::Point) => 1,
-        Task::Face(FaceTask::Add) => 1,
-        Task::Face(FaceTask::CutFace) => 1,
-        Task::Face(FaceTask::Glue) => 2,
+    match name {
+        b"cut" => Some(Task::Shell(ShellTask::Cut)),
+        b"remove" => Some(Task::Shell(ShellTask::Remove)),
+        b"concat" => Some(Task::Shell(ShellTask::Concat)),
+        b"point" => Some(Task::Shell(ShellTask::Point)),
+        b"add" => Some(Task::Face(FaceTask::Add)),
+        b"cutface" => Some(Task::Face(FaceTask::CutFace)),
+        b"glue" => Some(Task::Face(FaceTask::Glue)),
+        _ => None,
     }
 }
 
-// The kinds of these words.
-fn kinds_of(task: Task) -> [WordKind; 4]
-    ensures { take (length (job_kinds task)) result ≡ job_kinds task }
+// The kinds of the words that a job must have after its name.
+fn kinds_of(task: Task) -> &'static [WordKind]
+    ensures { result.now ≡ job_kinds task }
 {
     match task {
-        Task::Shell(ShellTask::Cut) => [
+        Task::Shell(ShellTask::Cut) => &[
             WordKind::Number,
             WordKind::Number,
             WordKind::Number,
             WordKind::Parameter,
         ],
-        Task::Shell(ShellTask::Remove) => [WordKind::Number; 4],
-        Task::Shell(ShellTask::Concat) => [WordKind::Signed; 4],
-        Task::Shell(ShellTask::Point) => [WordKind::Label; 4],
-        Task::Face(_) => [WordKind::Signed; 4],
+        Task::Shell(ShellTask::Remove) => &[WordKind::Number, WordKind::Number],
+        Task::Shell(ShellTask::Concat) => &[WordKind::Signed, WordKind::Signed],
+        Task::Shell(ShellTask::Point) => &[WordKind::Label],
+        Task::Face(FaceTask::Add) => &[WordKind::Signed],
+        Task::Face(FaceTask::CutFace) => &[WordKind::Signed],
+        Task::Face(FaceTask::Glue) => &[WordKind::Signed, WordKind::Signed],
     }
+}
+
+// How many these are.
+pub fn needed(task: Task) -> usize
+    ensures { (result ≡ length (job_kinds task)) × (1 ≤ result) × (result ≤ 4) }
+{
+    kinds_of(task).len()
 }
 
 // The kind of any further word, if there may be one.
@@ -114,48 +96,50 @@ fn rest_of(task: Task) -> Option<WordKind>
 }
 
 // The values of the words after the name of the job.
-pub fn match_job(task: Task, line: &[u8], from: usize, out: &mut [u64]) -> Matched
-    requires { (from ≤ length line.now) × (length line.now ≤ 2 * length out.old) }
-    ensures out_after { out.new ≡ sets out.old 0 (values_of (job_kinds task) (job_rest task) 0 (words (drop from line.now))) }
-    ensures words_value { result.words ≡ length (values_of (job_kinds task) (job_rest task) 0 (words (drop from line.now))) }
-    ensures all_value { result.all ≡ eqb (length (values_of (job_kinds task) (job_rest task) 0 (words (drop from line.now)))) (length (words (drop from line.now))) }
+pub fn match_job(task: Task, line: &[u8], out: &mut [u64]) -> Matched
+    requires { length line.now ≤ 2 * length out.old }
+    ensures out_after { out.new ≡ sets out.old 0 (values_of (job_kinds task) (job_rest task) 0 (words line.now)) }
+    ensures words_value { result.words ≡ length (values_of (job_kinds task) (job_rest task) 0 (words line.now)) }
+    ensures all_value { result.all ≡ eqb (length (values_of (job_kinds task) (job_rest task) 0 (words line.now))) (length (words line.now)) }
 {
-    let kinds = kinds_of(task);
-    let n = needed(task);
-    put_values(line, from, &kinds[0..n], rest_of(task), out)
+    put_values(line, kinds_of(task), rest_of(task), out)
 }
 
-// The job that the first word of a line asks for, and the end of that word.
+// The job that the first word of a line asks for, and what follows that word.
 #[derive(Clone, Copy)]
-pub struct First {
+pub struct First<'a> {
     pub task: Option<Task>,
-    pub end: usize,
+    pub rest: &'a [u8],
 }
 
-pub fn first_of(line: &[u8]) -> First
-    ensures { (result.task ≡ job_named (name (first_word (words line.now)))) × (result.end ≤ length line.now) × (words (drop result.end line.now) ≡ drop 1 (words line.now)) }
+#[tactic(auto, unfolding(crate::specs::JobLines::job_named))]
+pub fn first_of(line: &[u8]) -> First<'_>
+    ensures { (result.task ≡ job_named (first_word (words line.now))) × (words result.rest.now ≡ drop 1 (words line.now)) × (length result.rest.now ≤ length line.now) }
 {
-    let start = word_start(line, 0);
-    let end = word_end(line, start);
-    First {
-        task: job_named(name_of(&line[start..end])),
-        end: end,
+    match next_word(line) {
+        Some((name, rest)) => First {
+            task: job_named(name),
+            rest,
+        },
+        None => First {
+            task: None,
+            rest: line,
+        },
     }
 }
 
-// Writes the form of a job, and returns the place after it.
-fn put_form(text: &mut [u8], at: usize, task: Task) -> usize
-    requires { at + 40 ≤ length text.old }
-    ensures { (text.new ≡ sets text.old at (job_form task)) × (result ≡ at + length (job_form task)) }
+// The form of a job.
+fn form_of(task: Task) -> &'static [u8]
+    ensures { (result.now ≡ job_form task) × (length result.now ≤ 40) }
 {
     match task {
-        Task::Shell(ShellTask::Cut) => put_text(text, at, b"cut SHELL EDGE POINT PARAMETER"),
-        Task::Shell(ShellTask::Remove) => put_text(text, at, b"remove SHELL POINT"),
-        Task::Shell(ShellTask::Concat) => put_text(text, at, b"concat USE USE"),
-        Task::Shell(ShellTask::Point) => put_text(text, at, b"point LABEL"),
-        Task::Face(FaceTask::Add) => put_text(text, at, b"add FACE USE .."),
-        Task::Face(FaceTask::CutFace) => put_text(text, at, b"cutface FACE USE .."),
-        Task::Face(FaceTask::Glue) => put_text(text, at, b"glue FACE FACE"),
+        Task::Shell(ShellTask::Cut) => b"cut SHELL EDGE POINT PARAMETER",
+        Task::Shell(ShellTask::Remove) => b"remove SHELL POINT",
+        Task::Shell(ShellTask::Concat) => b"concat USE USE",
+        Task::Shell(ShellTask::Point) => b"point LABEL",
+        Task::Face(FaceTask::Add) => b"add FACE USE ..",
+        Task::Face(FaceTask::CutFace) => b"cutface FACE USE ..",
+        Task::Face(FaceTask::Glue) => b"glue FACE FACE",
     }
 }
 
@@ -166,7 +150,7 @@ pub fn put_no_job(text: &mut [u8], task: Task, n: usize) -> usize
 {
     let mut at = put_field(text, 0, b"no job: word ", n);
     at = put_text(text, at, b" of ");
-    at = put_form(text, at, task);
+    at = put_text(text, at, form_of(task));
     put_text(text, at, b"\n")
 }
 

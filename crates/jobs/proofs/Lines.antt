@@ -20,7 +20,6 @@ use Rattle.lists.specs.Lists.{pick}
 use Rattle.output.specs.Text.{ascii}
 use Rattle.text.proofs.Words.{words_few}
 use Rattle.text.specs.Text.{trimmed, words}
-use Rattle.text.specs.Tokens.{name}
 use Rattle.jobs.proofs.Texts.{text_as}
 use Rattle.jobs.specs.Jobs.{is_job, is_whole, job_length, job_out, job_text, line_job, line_length, line_out, line_text, line_values, line_words, named_length, named_out, named_text, named_values, unnamed_text}
 
@@ -113,15 +112,12 @@ module _ (line s out : List ℕ) where
   no_words : (t : Task) → length line ≤ 65536 → line_job line ≡ Some t → is_job line ≡ false → Answered (no_job t (length (line_values line) + 2))
   no_words t h e f = kept (named_is (Some t) h e ∙ pick_false (is_job line) _ _ f) (stays f)
 
-pub trim_is : (line : List ℕ) (r : ℕ) → take r line ≡ trimmed line → take (r - 0) line ≡ trimmed line
-trim_is line r e = let z : r - 0 ≡ r = omega arith in rw z e
-
--- a line of at most 65,536 bytes: the job of its name, and where its first word ends
-pub record Named (line l : List ℕ) (o : Option Task) (end : ℕ) : Type 0 where
+-- a line of at most 65,536 bytes: the job of its name, and what follows its first word
+pub record Named (line l : List ℕ) (o : Option Task) (rest : List ℕ) : Type 0 where
   pub few : length line ≤ 65536
   pub trim : l ≡ trimmed line
-  pub job : o ≡ job_named (name (first_word (words l)))
-  pub rest : words (drop end l) ≡ drop 1 (words l)
+  pub job : o ≡ job_named (first_word (words l))
+  pub left : words rest ≡ drop 1 (words l)
 
 -- the values of its words
 pub record Valued (line : List ℕ) (t : Task) (n : ℕ) (all : Bool) (arr : List ℕ) : Type 0 where
@@ -131,24 +127,24 @@ pub record Valued (line : List ℕ) (t : Task) (n : ℕ) (all : Bool) (arr : Lis
   pub tells : all ≡ each line
   pub held : arr ≡ sets (replicate 32768 0) 0 (line_values line)
 
-module _ {line l : List ℕ} {o : Option Task} {end : ℕ} (r : Named line l o end) where
+module _ {line l : List ℕ} {o : Option Task} {rest : List ℕ} (r : Named line l o rest) where
   job_is : o ≡ line_job line
-  job_is = r.job ∙ ap (λ (t : List ℕ). job_named (name (first_word (words t)))) r.trim
+  job_is = r.job ∙ ap (λ (t : List ℕ). job_named (first_word (words t))) r.trim
 
-  words_are : words (drop end l) ≡ line_words line
-  words_are = r.rest ∙ ap (λ (t : List ℕ). drop 1 (words t)) r.trim
+  words_are : words rest ≡ line_words line
+  words_are = r.left ∙ ap (λ (t : List ℕ). drop 1 (words t)) r.trim
 
   pub no_name_line : (s out : List ℕ) → o ≡ None → Answered line s out (unnamed_text line)
   no_name_line s out h = no_name line s out r.few (sym job_is ∙ h)
 
   pub valued : (t : Task) → o ≡ Some t → (n : ℕ) (all : Bool) (arr : List ℕ)
-      → arr ≡ sets (replicate 32768 0) 0 (values (job_kinds t) (job_rest t) 0 (words (drop end l)))
-      → n ≡ length (values (job_kinds t) (job_rest t) 0 (words (drop end l)))
-      → all ≡ eqb (length (values (job_kinds t) (job_rest t) 0 (words (drop end l)))) (length (words (drop end l)))
+      → arr ≡ sets (replicate 32768 0) 0 (values (job_kinds t) (job_rest t) 0 (words rest))
+      → n ≡ length (values (job_kinds t) (job_rest t) 0 (words rest))
+      → all ≡ eqb (length (values (job_kinds t) (job_rest t) 0 (words rest))) (length (words rest))
       → Valued line t n all arr
   valued t h n all arr a b c =
       let e : line_job line ≡ Some t = sym job_is ∙ h in
-      let v : values (job_kinds t) (job_rest t) 0 (words (drop end l)) ≡ line_values line = ap (λ (ws : List (List ℕ)). values (job_kinds t) (job_rest t) 0 ws) words_are ∙ sym (ap (λ (k : Option Task). named_values k (line_words line)) e) in
+      let v : values (job_kinds t) (job_rest t) 0 (words rest) ≡ line_values line = ap (λ (ws : List (List ℕ)). values (job_kinds t) (job_rest t) 0 ws) words_are ∙ sym (ap (λ (k : Option Task). named_values k (line_words line)) e) in
       record {
         few = r.few;
         job = e;
@@ -183,10 +179,9 @@ module _ {line : List ℕ} {t : Task} {n : ℕ} {all : Bool} {arr : List ℕ} (r
         let f : enough t line ≡ false = lt-leb (length (job_kinds t)) (length (line_words line)) (omega (arith, as_many, r.count)) in
         rw r.count (no_words line s out t r.few r.job (few_words line t r.job f))
 
-    part_is : take (n - 0) arr ≡ line_values line
+    part_is : take n arr ≡ line_values line
     part_is =
-        let z : n - 0 ≡ n = omega arith in
-        rw (z, r.held) (take_sets (replicate 32768 0) (line_values line) n (sym r.count) (omega (arith, valued_few, length-replicate {A = ℕ} 32768 0)))
+        rw r.held (take_sets (replicate 32768 0) (line_values line) n (sym r.count) (omega (arith, valued_few, length-replicate {A = ℕ} 32768 0)))
 
     module _ (k : ℕ) (e : k ≡ length (job_kinds t)) (h : k ≤ n) where
       is_job_lem : is_job line ≡ true
@@ -194,23 +189,23 @@ module _ {line : List ℕ} {t : Task} {n : ℕ} {all : Bool} {arr : List ℕ} (r
           passes line t r.job (le-leb (length line) 65536 r.few) all_are
           (le-leb (length (job_kinds t)) (length (line_words line)) (omega (arith, as_many, r.count)))
 
-      pub job_fits : (length (job_kinds t) ≤ length (take (n - 0) arr)) × (length (take (n - 0) arr) ≤ 32768)
+      pub job_fits : (length (job_kinds t) ≤ length (take n arr)) × (length (take n arr) ≤ 32768)
       job_fits = rw part_is (omega (arith, r.count), omega (arith, r.count, valued_few))
 
       module _ (s out : List ℕ) where
-        job_text_lem : line_text line s out ≡ job_text t (take (n - 0) arr) s out
+        job_text_lem : line_text line s out ≡ job_text t (take n arr) s out
         job_text_lem = named_is line s out (Some t) r.few r.job ∙ pick_true (is_job line) _ _ is_job_lem ∙ ap (λ (vs : List ℕ). job_text t vs s out) (sym part_is)
 
-        job_out_lem : job_out t (take (n - 0) arr) s out ≡ line_out line s out
+        job_out_lem : job_out t (take n arr) s out ≡ line_out line s out
         unfolding line_out
         job_out_lem = ap (λ (vs : List ℕ). job_out t vs s out) part_is ∙ sym (pick_true (is_job line) _ _ is_job_lem ∙ ap (λ (o : Option Task). named_out o (line_values line) s out) r.job)
 
-        job_length_lem : job_length t (take (n - 0) arr) s out ≡ line_length line s out
+        job_length_lem : job_length t (take n arr) s out ≡ line_length line s out
         unfolding line_length
         job_length_lem = ap (λ (vs : List ℕ). job_length t vs s out) part_is ∙ sym (pick_true (is_job line) _ _ is_job_lem ∙ ap (λ (o : Option Task). named_length o (line_values line) s out) r.job)
 
         pub job_whole : (text text' o : List ℕ) (m f : ℕ)
-            → (let vs = take (n - 0) arr in
+            → (let vs = take n arr in
             ((text' ≡ sets text 0 (job_text t vs s out)) × (m ≡ length (job_text t vs s out))) × ((o ≡ job_out t vs s out) × (f ≡ job_length t vs s out)))
             → ((text' ≡ sets text 0 (line_text line s out)) × (m ≡ length (line_text line s out))) × ((o ≡ line_out line s out) × (f ≡ line_length line s out))
         job_whole text text' o m f p = (text_as job_text_lem text text' m p.0, (p.1.0 ∙ job_out_lem, p.1.1 ∙ job_length_lem))

@@ -1,5 +1,6 @@
 -- The jobs of the program `edit`: a line of text and a pattern file give an answer, and the file afterwards (docs/GUIDE.md, Edits).
 use Rattle.std.specs.Prelude.{ℕ, ◌+◌, Bool, ◌&&◌, false, List, [], ◌∷◌, eqb, leb, drop, length, take, Option, None, Some}
+use Rattle.std.specs.Str.{bytes_eq}
 use Rattle.answer_lines.specs.AnswerLines.{refused_text}
 use Rattle.answers.specs.declared.Answer.{Answer}
 use Rattle.forms.specs.Forms.{values}
@@ -11,7 +12,6 @@ use Rattle.job_lines.specs.declared.Task.TheVariants.{Face, Shell}
 use Rattle.lists.specs.Lists.{pick}
 use Rattle.output.specs.Text.{ascii}
 use Rattle.text.specs.Text.{trimmed, words}
-use Rattle.text.specs.Tokens.{name}
 
 -- ---- the answer as a line
 
@@ -42,7 +42,7 @@ job_length (Face t) vs s out = 0
 -- ---- a line
 
 abbrev pub line_job : List ℕ → Option Task
-line_job l = job_named (name (first_word (words (trimmed l))))
+line_job l = job_named (first_word (words (trimmed l)))
 
 abbrev pub line_words : List ℕ → List (List ℕ)
 line_words l = drop 1 (words (trimmed l))
@@ -66,7 +66,7 @@ is_job l = leb (length l) 65536 && is_whole (line_job l) (line_values l) (line_w
 
 -- the byte order mark of UTF-8
 unfoldable pub has_mark : List ℕ → Bool
-has_mark l = leb 3 (length l) && eqb (name (take 3 l)) (name (239 ∷ 187 ∷ 191 ∷ []))
+has_mark l = bytes_eq (239 ∷ 187 ∷ 191 ∷ []) (take 3 l)
 
 -- a line that begins with no job's name
 unfoldable pub unnamed_text : List ℕ → List ℕ

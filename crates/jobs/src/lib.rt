@@ -15,7 +15,7 @@ use job_lines::{
 };
 use output::put_text;
 use pattern::LONGEST;
-use text::{name_of, trimmed_length};
+use text::trimmed;
 
 // Applies an edit of a face, and writes its answer; returns the length of the answer.
 fn do_face_job(task: FaceTask, v: &[u64], file: &[u8], text: &mut [u8]) -> usize
@@ -76,13 +76,11 @@ fn do_job(task: Task, v: &[u64], file: &[u8], out: &mut [u8], text: &mut [u8]) -
 }
 
 // Whether a line begins with the byte order mark of UTF-8.
+#[tactic(auto, unfolding(crate::specs::Jobs::has_mark))]
 pub fn is_marked(line: &[u8]) -> bool
     ensures { result ≡ has_mark line.now }
 {
-    if line.len() < 3 {
-        return false;
-    }
-    name_of(&line[0..3]) == 0x1efbbbf
+    line.starts_with(b"\xef\xbb\xbf")
 }
 
 // Writes the answer to a line that begins with no job's name.
@@ -116,9 +114,7 @@ fn apply(line: &[u8], file: &[u8], out: &mut [u8], text: &mut [u8; 65536]) -> Jo
             file: 0,
         };
     }
-    let length = trimmed_length(line);
-    let l = &line[0..length];
-    let first = first_of(l);
+    let first = first_of(trimmed(line));
     let Some(task) = first.task else {
         return Job {
             text: put_unnamed(line, text),
@@ -126,7 +122,7 @@ fn apply(line: &[u8], file: &[u8], out: &mut [u8], text: &mut [u8; 65536]) -> Jo
         };
     };
     let mut values = [0u64; 32768];
-    let m = match_job(task, l, first.end, &mut values);
+    let m = match_job(task, first.rest, &mut values);
     let n = m.words;
     if !m.all {
         return Job {
@@ -140,7 +136,7 @@ fn apply(line: &[u8], file: &[u8], out: &mut [u8], text: &mut [u8; 65536]) -> Jo
             file: 0,
         };
     }
-    do_job(task, &values[0..n], file, out, text)
+    do_job(task, &values[..n], file, out, text)
 }
 
 // The same, with room for the longest file.

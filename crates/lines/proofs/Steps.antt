@@ -7,12 +7,11 @@ use native.Mathlib.Numerals.{add-one}
 use native.Mathlib.Omega.{arith}
 use lib.Dec.{leb}
 use lib.ListN.{length, length-append, set}
-use borrow.Author.Tests.{ne_eqb}
 use Rattle.lists.proofs.Sets.{Put, put_then}
 use Rattle.lists.specs.Lists.{pick}
 use Rattle.output.specs.Text.{ascii, decimal, field}
 use Rattle.lines.specs.Lines.{signed, solid_line}
-use Rattle.lines.specs.Parts.{condition_line, connected_line, refused_line}
+use Rattle.lines.specs.Parts.{connected_line, refused_line}
 
 -- a text, and a byte after it
 pub put_byte : (l : List ℕ) (at : ℕ) (xs : List ℕ) (out : List ℕ) (end b : ℕ) → Put l at xs out end → Put l at (xs ++ (b ∷ [])) (set out end b) (end + 1)
@@ -37,19 +36,7 @@ module _ (u : ℕ) {m sign : ℕ} (number : m ≡ u % 32768) (is : sign ∷ [] �
   pub put_sign : (l : List ℕ) (at : ℕ) (out : List ℕ) (end : ℕ) → Put l at (decimal m) out end → Put l at (signed u) (set out end sign) (end + 1)
   put_sign l at out end p = rw signed_is (put_byte l at (decimal m) out end sign p)
 
--- the text of each condition
-pub irregular_is : (w : ℕ) → w ≡ 0 → condition_line w ≡ ascii "condition Irregular\n"
-irregular_is w e = rw e
-
-pub regular_is : (w : ℕ) → w ≡ 1 → condition_line w ≡ ascii "condition Regular\n"
-regular_is w e = rw e
-
-pub oriented_is : (w : ℕ) → w ≡ 2 → condition_line w ≡ ascii "condition Oriented\n"
-oriented_is w e = rw e
-
-pub closed_is : (w : ℕ) → (w ≡ 0 → ⊥) → (w ≡ 1 → ⊥) → (w ≡ 2 → ⊥) → condition_line w ≡ ascii "condition Closed\n"
-closed_is w a b c = rw (ne_eqb w 0 a, ne_eqb w 1 b, ne_eqb w 2 c)
-
+-- whether a shell is connected
 pub yes_is : (c : Bool) → c ≡ true → connected_line c ≡ ascii "connected yes\n"
 yes_is c e = rw e
 

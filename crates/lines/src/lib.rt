@@ -11,7 +11,6 @@ ghost use Rattle.lines.specs.Parts.{item, word_line, word_lines, word_number, wo
 
 use condition::Condition;
 use output::{put_decimal, put_field, put_text};
-use words::index;
 
 // The byte after the number of a use or listing.
 fn sign_of(u: u16) -> u8
@@ -29,7 +28,7 @@ fn put_signed(out: &mut [u8], at: usize, u: u16) -> usize
     ensures { (out.new ≡ sets out.old at (signed u)) × (result ≡ at + length (signed u)) }
 {
     let sign = sign_of(u);
-    let end = put_decimal(out, at, index(u % 32768));
+    let end = put_decimal(out, at, usize::from(u % 32768));
     out[end] = sign;
     end + 1
 }
@@ -74,7 +73,7 @@ fn put_lines(out: &mut [u8], at: usize, word: &[u8], items: &[u16], lens: &[u16]
     let mut end = at;
     let mut start: usize = 0;
     for len in lens {
-        let n = index(*len);
+        let n = usize::from(*len);
         end = put_line(out, end, word, &items[start..start + n]);
         start += n;
     }
@@ -98,7 +97,7 @@ fn put_numbers(out: &mut [u8], at: usize, word: &[u8], points: &[u16]) -> usize
 {
     let mut end = at;
     for point in points {
-        end = put_number(out, end, word, index(*point));
+        end = put_number(out, end, word, usize::from(*point));
     }
     end
 }
@@ -108,19 +107,15 @@ fn put_condition(out: &mut [u8], at: usize, condition: Condition) -> usize
     requires { at + 20 ≤ length out.old }
     ensures { (out.new ≡ sets out.old at (condition_line condition.0)) × (result ≡ at + length (condition_line condition.0)) }
 {
-    if condition == Condition::IRREGULAR {
-        return put_text(out, at, b"condition Irregular\n");
+    match condition {
+        Condition::IRREGULAR => put_text(out, at, b"condition Irregular\n"),
+        Condition::REGULAR => put_text(out, at, b"condition Regular\n"),
+        Condition::ORIENTED => put_text(out, at, b"condition Oriented\n"),
+        _ => put_text(out, at, b"condition Closed\n"),
     }
-    if condition == Condition::REGULAR {
-        return put_text(out, at, b"condition Regular\n");
-    }
-    if condition == Condition::ORIENTED {
-        return put_text(out, at, b"condition Oriented\n");
-    }
-    put_text(out, at, b"condition Closed\n")
 }
 
-// Writes the line that says whether the shell is connected.
+// Writes the line that says whether the shell is connected, a plain yes or no, as here in all functions.
 fn put_connected(out: &mut [u8], at: usize, connected: bool) -> usize
     requires { at + 14 ≤ length out.old }
     ensures { (out.new ≡ sets out.old at (connected_line connected)) × (result ≡ at + length (connected_line connected)) }

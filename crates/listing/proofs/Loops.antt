@@ -97,70 +97,60 @@ sum_small [] h = omega arith
 sum_small (x ∷ xs) h = omega (arith, h 0, sum_small xs (λ k. h (suc k)), mul-suc 65536 (length xs))
 
 -- the faces passed: k of them have `at` wires, and the next begins at place `start`
-pub record Starting (wires counts : List ℕ) (n : ℕ) (out : List ℕ) (k at start : ℕ) : Type 0 where
-  pub few : n ≤ 256
-  pub counted : n ≤ length counts
-  pub summed : sum (take n counts) ≡ length wires
-  pub walk : Walk (take n counts) k at
+pub record Starting (wires counts out : List ℕ) (k at start : ℕ) : Type 0 where
+  pub few : length counts ≤ 256
+  pub summed : sum counts ≡ length wires
+  pub walk : Walk counts k at
   pub here : start ≡ sum (take at wires)
-  pub filling : Filling (face_start (take n counts) wires) (replicate 257 0) out k
+  pub filling : Filling (face_start counts wires) (replicate 257 0) out k
 
-pub starting_start : (wires counts : List ℕ) (n : ℕ) (out : List ℕ) → n ≤ 256 → n ≤ length counts → sum (take n counts) ≡ length wires → out ≡ replicate 257 0
-    → Starting wires counts n out 0 0 0
+pub starting_start : (wires counts out : List ℕ) → length counts ≤ 256 → sum counts ≡ length wires → out ≡ replicate 257 0 → Starting wires counts out 0 0 0
 unfolding sum
-starting_start wires counts n out h l e z = record {
+starting_start wires counts out h e z = record {
   few = h;
-  counted = l;
   summed = e;
-  walk = walk_start (take n counts);
+  walk = walk_start counts;
   here = refl;
-  filling = rw z (filling_start (face_start (take n counts) wires) (replicate 257 0));
+  filling = rw z (filling_start (face_start counts wires) (replicate 257 0));
 }
 
-module _ {wires counts : List ℕ} {n : ℕ} {out : List ℕ} {k at start : ℕ} (s : Starting wires counts n out k at start) where
+module _ {wires counts out : List ℕ} {k at start : ℕ} (s : Starting wires counts out k at start) where
   pub starting_long : length out ≡ 257
-  starting_long = filling_long (face_start (take n counts) wires) (replicate 257 0) out k s.filling ∙ length-replicate {A = ℕ} 257 0
+  starting_long = filling_long (face_start counts wires) (replicate 257 0) out k s.filling ∙ length-replicate {A = ℕ} 257 0
 
-  written : k < 257 → Filling (face_start (take n counts) wires) (replicate 257 0) (set out k start) (k + 1)
+  written : k < 257 → Filling (face_start counts wires) (replicate 257 0) (set out k start) (k + 1)
   written h =
-      filling_next (face_start (take n counts) wires) 0 (replicate 257 0) out k start s.filling (omega (arith, length-replicate {A = ℕ} 257 0))
+      filling_next (face_start counts wires) 0 (replicate 257 0) out k start s.filling (omega (arith, length-replicate {A = ℕ} 257 0))
       (s.here ∙ ap (λ (w : ℕ). sum (take w wires)) s.walk.here)
 
-  module _ {m : ℕ} (h : k < n) (is : m ≡ get_or counts k 0) where
-    same : m ≡ get_or (take n counts) k 0
-    same = is ∙ sym (get_or-take n counts k 0 h)
-
-    inside : k < length (take n counts)
-    inside = omega (arith, length-take-le n counts s.counted)
-
+  module _ {m : ℕ} (h : k < length counts) (is : m ≡ get_or counts k 0) where
     pub starting_fits : at + m ≤ length wires
-    starting_fits = omega (arith, walk_fits (take n counts) k at m s.walk inside same, s.summed)
+    starting_fits = omega (arith, walk_fits counts k at m s.walk h is, s.summed)
 
     -- the face's wires, as the code takes them
-    pub starting_part : m ≤ length (take (at + m - at) (drop at wires))
+    pub starting_part : length (take (at + m - at) (drop at wires)) ≤ length wires
     starting_part = omega (arith, length-take (at + m - at) (drop at wires), length-drop at wires, starting_fits)
 
-    module _ {t : ℕ} (e : t ≡ sum (take m (take (at + m - at) (drop at wires)))) where
+    module _ {t : ℕ} (e : t ≡ sum (take (at + m - at) (drop at wires))) where
       after_face : start + t ≡ sum (take (at + m) wires)
       after_face =
           let z : at + m - at ≡ m = omega arith in
-          let f : t ≡ sum (take m (drop at wires)) = rw (z, take-take m m (drop at wires) (omega arith)) at e in
+          let f : t ≡ sum (take m (drop at wires)) = rw z at e in
           rw (take-add at m wires) (omega (arith, sum_append (take at wires) (take m (drop at wires)), s.here))
 
       pub starting_low : start + t ≤ sum wires
       starting_low = omega (arith, after_face, sum_take_drop (at + m) wires)
 
-      pub starting_next : Starting wires counts n (set out k start) (k + 1) (at + m) (start + t)
+      pub starting_next : Starting wires counts (set out k start) (k + 1) (at + m) (start + t)
       starting_next = record {
         few = s.few;
-        counted = s.counted;
         summed = s.summed;
-        walk = walk_next (take n counts) k at m s.walk inside same;
+        walk = walk_next counts k at m s.walk h is;
         here = after_face;
         filling = written (omega (arith, s.few));
       }
 
-  pub starting_all : n ≤ k → set out n start ≡ padded 257 0 (tabulate (suc n) (face_start (take n counts) wires))
+  pub starting_all : length counts ≤ k → set out (length counts) start ≡ padded 257 0 (tabulate (suc (length counts)) (face_start counts wires))
   starting_all h =
-      let e : k ≡ n = omega (arith, s.walk.low, length-take-le n counts s.counted) in
-      filling_padded (face_start (take n counts) wires) 0 257 (set out n start) (suc n) (rw (e, add-one) at (written (omega (arith, s.few))))
+      let e : k ≡ length counts = omega (arith, s.walk.low) in
+      filling_padded (face_start counts wires) 0 257 (set out (length counts) start) (suc (length counts)) (rw (e, add-one) at (written (omega (arith, s.few))))

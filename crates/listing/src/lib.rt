@@ -6,10 +6,11 @@ ghost use Rattle.std.specs.Prelude.{◌≡◌, map, reverse, ◌+◌, ◌-◌, �
 ghost use Rattle.std.proofs.lemmas.List.Edits.{sets};
 ghost use Rattle.lists.specs.Lists.{padded, pick, sum, tabulate};
 ghost use Rattle.edge.specs.Uses.{turned};
+ghost use Rattle.listing.specs.OfParts.{of_parts};
 ghost use Rattle.listing.specs.Parts.{face_start, part_at, Shows, turned_uses};
 
 use face::FaceID;
-use words::{index, sum_of};
+use words::sum_of;
 
 // A use turned: the same edge the other way.
 fn turn(u: u16) -> u16
@@ -38,54 +39,48 @@ pub fn put_turned_uses(uses: &[u16], wires: &[u16], out: &mut [u16])
 {
     let mut at: usize = 0;
     for &n in wires {
-        let n = index(n);
+        let n = usize::from(n);
         put_turned(out, at, &uses[at..at + n]);
         at += n;
     }
 }
 
-// Writes where the uses of each of the first n faces begin, and where the last one's end. The first n
-// of `counts` are the faces' numbers of wires, `wires` has the wires' lengths.
-pub fn put_face_starts(wires: &[u16], counts: &[u16], n: usize, out: &mut [usize])
-    requires { (n ≤ 256) × (n ≤ length counts.now) × (sum (take n counts.now) ≡ length wires.now) × (length wires.now ≤ 1024) × (out.old ≡ replicate 257 0) }
-    ensures { out.new ≡ padded 257 0 (tabulate (suc n) (face_start (take n counts.now) wires.now)) }
+// Writes where the uses of each face begin, and where the last one's end. `counts` has the faces' numbers
+// of wires, `wires` the wires' lengths.
+pub fn put_face_starts(wires: &[u16], counts: &[u16], out: &mut [usize])
+    requires { (length counts.now ≤ 256) × (sum counts.now ≡ length wires.now) × (length wires.now ≤ 1024) × (out.old ≡ replicate 257 0) }
+    ensures { out.new ≡ padded 257 0 (tabulate (suc (length counts.now)) (face_start counts.now wires.now)) }
 {
     let mut at: usize = 0;
     let mut start: usize = 0;
-    for k in 0..n {
+    for (k, &m) in counts.iter().enumerate() {
         out[k] = start;
-        let m = index(counts[k]);
-        start += sum_of(&wires[at..at + m], m);
+        let m = usize::from(m);
+        start += sum_of(&wires[at..at + m]);
         at += m;
     }
-    out[n] = start;
+    out[counts.len()] = start;
 }
 
-// The uses that a listing shows, from `start` to `end`: of the column of uses, or, reversed, of that
-// of uses turned.
-fn shown<'a>(
-    uses: &'a [u16],
-    turned: &'a [u16],
-    start: usize,
-    end: usize,
-    reversed: bool,
-) -> &'a [u16]
-    requires { (start ≤ end) × (end ≤ length uses.now) × (end ≤ length turned.now) }
-    ensures result_value { result.now ≡ take (end - start) (drop start (pick reversed turned.now uses.now)) }
-    ensures result_len { length result.now ≡ end - start }
-{
-    if reversed {
-        return &turned[start..end];
+// What listings show, in columns: the uses of all faces one after the other, and those that the faces show
+// reversed; `starts` says where those of each face begin in both. Or the same for the lengths of the wires,
+// where one column serves both ways.
+#[derive(Clone, Copy)]
+pub struct Parts<'a> {
+    pub along: &'a [u16],
+    pub back: &'a [u16],
+    pub starts: &'a [usize],
+}
+
+impl<'a> Parts<'a> {
+    // What listing l shows.
+    pub fn part(&self, l: u16) -> &'a [u16]
+        requires { of_parts Shows self.now l }
+        ensures { result.now ≡ of_parts part_at self.now l }
+    {
+        let face = FaceID::of_listing(l);
+        let f = usize::from(face.0);
+        let column = if 32768 <= l { self.back } else { self.along };
+        &column[self.starts[f]..self.starts[f + 1]]
     }
-    &uses[start..end]
-}
-
-// The uses that listing l shows; `starts` says where the uses of each face begin.
-pub fn part_of<'a>(uses: &'a [u16], turned: &'a [u16], starts: &[usize], l: u16) -> &'a [u16]
-    requires { Shows uses.now turned.now starts.now l }
-    ensures { result.now ≡ part_at uses.now turned.now starts.now l }
-{
-    let face = FaceID::of_listing(l);
-    let f = index(face.0);
-    shown(uses, turned, starts[f], starts[f + 1], 32768 <= l)
 }

@@ -3,6 +3,7 @@
 
 ghost use Rattle.std.specs.Prelude.{◌≡◌};
 ghost use Rattle.errors.specs.declared.CallError.TheVariants.{Refused};
+ghost use Rattle.mesh.specs.Mesh.{fault_number};
 
 use errors::CallError;
 
@@ -13,6 +14,19 @@ pub enum LineFault {
     NotNumber,
     NotGiven,
     TooFew,
+}
+
+impl LineFault {
+    // Its number.
+    pub fn number(self) -> usize
+        ensures { result ≡ fault_number self }
+    {
+        match self {
+            LineFault::NotNumber => 30,
+            LineFault::NotGiven => 31,
+            LineFault::TooFew => 32,
+        }
+    }
 }
 
 // Why an import is refused, by itself: a fault with the number of its line; no space (17) with the length that the

@@ -8,7 +8,6 @@ ghost use Rattle.mesh_answers.specs.ImportLines.{import_line, import_values, lin
 use answers::{Answer, done_with, refused, unread};
 use errors::CallError;
 use mesh::{LineFault, MeshError};
-use mesh_corners::fault_number;
 use output::{put_field, put_refusal, put_text};
 
 // The answer as numbers.
@@ -18,7 +17,7 @@ pub fn import_values(a: Result<usize, CallError<MeshError>>) -> Answer
     match a {
         Ok(n) => done_with(n, 0, 0),
         Err(CallError::Unread(r)) => unread(r),
-        Err(CallError::Refused(MeshError::Line(f, n))) => refused(fault_number(f), n as usize),
+        Err(CallError::Refused(MeshError::Line(f, n))) => refused(f.number(), n as usize),
         Err(CallError::Refused(MeshError::NoSpace(n))) => refused(17, n),
     }
 }
@@ -28,8 +27,7 @@ fn put_line(f: LineFault, n: usize, out: &mut [u8]) -> usize
     requires { 96 ≤ length out.old }
     ensures { (out.new ≡ sets out.old 0 (line_refusal f n)) × (result ≡ length (line_refusal f n)) × (result ≤ 96) }
 {
-    let k = fault_number(f);
-    let mut at = put_field(out, 0, b"refused ", k);
+    let mut at = put_field(out, 0, b"refused ", f.number());
     at = put_field(out, at, b" line ", n);
     put_text(out, at, b"\n")
 }

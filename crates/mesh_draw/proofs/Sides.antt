@@ -1,4 +1,5 @@
 -- One side more.
+use Rattle.std.specs.Prelude.{None, Option, Some}
 use Prim.Native.Nat.{◌+◌, ◌<◌, ◌≤◌, suc, ℕ}
 use mathlib.Core.Bool.{false, true}
 use mathlib.Core.List.{List, [], ◌++◌, ◌∷◌}
@@ -19,8 +20,9 @@ use Rattle.mesh.specs.Mesh.{Mesh, between, joins, place, side_use, with_side}
 use Rattle.mesh_draw.proofs.Points.{points_alone}
 use Rattle.mesh_draw.specs.Kept.{EdgesKept, Kept, SidesKept, with_edges}
 use Rattle.mesh_draw.specs.declared.Filled.{Filled}
-use Rattle.mesh_edges.specs.Index.{Indexed}
-use Rattle.pattern.specs.Contents.{Pattern}
+use Rattle.mesh_edges.proofs.Places.{found_at, found_not}
+use Rattle.mesh_edges.specs.Index.{Indexed, found}
+use Rattle.pattern.specs.Contents.{Pattern, zero_edge}
 use Rattle.store.specs.Columns.{with_edges as withTable}
 use Rattle.store.specs.Store.{edge_in, held}
 
@@ -38,21 +40,29 @@ module _ (es : List Edge) (p q : ℕ) where
       (λ (t : ltb (place (joins p q) es) (length es) ≡ false). rw t (omega (arith, more_long)))
       (cases (ltb (place (joins p q) es) (length es)))
 
-  module _ (k : ℕ) (is : k ≡ place (joins p q) es) where
-    found_side : k < length es → with_side es p q ≡ es
-    unfolding with_side
-    found_side h = rw (← is, lt-ltb k (length es) h)
+  module _ (k : ℕ) (is : found (joins p q) es ≡ Some k) where
+    here : (k ≡ place (joins p q) es) × (k < length es)
+    here = found_at (joins p q) zero_edge es k is
 
-    made_side : length es ≤ k → with_side es p q ≡ es ++ (between p q ∷ [])
+    found_side : with_side es p q ≡ es
     unfolding with_side
-    made_side h = rw (← is, le-ltb k (length es) h)
+    found_side = rw (← here.0, lt-ltb k (length es) here.1)
 
-    use_is : side_use es p q ≡ pick (eqb (front_number (get_or es k (between p q))) p) k (k + 32768)
+    found_use : side_use es p q ≡ pick (eqb (front_number (get_or es k (between p q))) p) k (k + 32768)
     unfolding side_use
-    use_is = rw is
+    found_use = rw here.0
 
-    made_use : length es ≤ k → side_use es p q ≡ k
-    made_use h = use_is ∙ rw (get_or-eq_default es (between p q) {n = k} h, eq-eqb p p refl)
+  module _ (is : found (joins p q) es ≡ None) where
+    none : place (joins p q) es ≡ length es
+    none = found_not (joins p q) zero_edge es is
+
+    made_side : with_side es p q ≡ es ++ (between p q ∷ [])
+    unfolding with_side
+    made_side = rw (none, le-ltb (length es) (length es) (omega arith))
+
+    made_use : side_use es p q ≡ length es
+    unfolding side_use
+    made_use = rw (none, get_or-eq_default es (between p q) {n = length es} (omega arith), eq-eqb p p refl)
 
 -- ---- the tables
 
@@ -97,20 +107,25 @@ module _ {m : Mesh} {us : List ℕ} {f : Filled} (t : List ℕ) (spans : List Fl
       firsts : take f.edges P.edges ≡ Es
       firsts = rw long at sides.edges
 
-      module _ {r : ℕ} (low : r ≤ f.edges) (tells : Indexed (take f.edges P.edges) index → r ≡ place (joins p q) (take f.edges P.edges)) where
-        sought : r ≡ place (joins p q) Es
+      module _ {o : Option ℕ} (tells : Indexed (take f.edges P.edges) index → o ≡ found (joins p q) (take f.edges P.edges)) where
+        sought : o ≡ found (joins p q) Es
         sought = rw firsts at tells sides.indexed
 
         -- an edge of the mesh
-        pub kept_found : {g : Filled} {p' : Pattern} → r < f.edges
+        pub kept_found : {r : ℕ} {g : Filled} {p' : Pattern} → o ≡ Some r
             → Kept m (us ++ (pick (eqb (front_number (edge_in t spans r)) p) r (r + 32768) ∷ [])) g p' index → Done g p' index
-        kept_found h kept =
+        kept_found {r} e kept =
+            let is = sym sought ∙ e in
+            let h : r < f.edges = omega (arith, long, (here Es p q r is).1) in
             let at : get_or Es r (between p q) ≡ edge_in t spans r = rw (← firsts) (get_or-take f.edges P.edges r (between p q) h ∙ get_d_tabulate 1024 (edge_in t spans) r (between p q) (omega arith)) in
-            rw (found_side Es p q r sought (omega (arith, long)), use_is Es p q r sought, at) kept
+            rw (found_side Es p q r is, found_use Es p q r is, at) kept
 
-        module _ (none : f.edges ≤ r) where
+        module _ (no : o ≡ None) where
+          is_none : found (joins p q) Es ≡ None
+          is_none = sym sought ∙ no
+
           sides_more : with_side Es p q ≡ More
-          sides_more = made_side Es p q r sought (omega (arith, long))
+          sides_more = made_side Es p q is_none
 
           -- one more than the limit
           pub kept_full : f.edges ≡ 1024 → Done (edged f (f.edges + 1)) P index
@@ -138,7 +153,7 @@ module _ {m : Mesh} {us : List ℕ} {f : Filled} (t : List ℕ) (spans : List Fl
                     count = omega (arith, long, more_long Es p q);
                     sides = λ l. record {
                       edges = more_kept;
-                      indexed = noted Es long (sym sought ∙ omega arith) sides.indexed;
+                      indexed = noted Es long (none Es p q is_none ∙ long) sides.indexed;
                       used = sides.used;
                       uses = sides.uses;
                       faces = sides.faces;
@@ -158,6 +173,5 @@ module _ {m : Mesh} {us : List ℕ} {f : Filled} (t : List ℕ) (spans : List Fl
                 → Kept m (us ++ (pick (eqb (front_number (edge_in t' spans' f.edges)) p) f.edges (f.edges + 32768) ∷ [])) g p' index)
                 → Done g p' index'
             kept_made uses =
-                let same : r ≡ f.edges = omega arith in
                 let u : pick (eqb (front_number (edge_in t' spans' f.edges)) p) f.edges (f.edges + 32768) ≡ f.edges = rw (eq-eqb (front_number (edge_in t' spans' f.edges)) p (ap front_number new_edge_lem)) in
-                rw (sides_more, made_use Es p q r sought (omega (arith, long)), same) (rw u at uses (with_edges m More) us index' made)
+                rw (sides_more, made_use Es p q is_none, long) (rw u at uses (with_edges m More) us index' made)

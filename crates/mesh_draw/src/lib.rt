@@ -40,38 +40,35 @@ pub fn no_mesh() -> Filled
 }
 
 // Adds a point.
-pub fn add_point(f: Filled, label: u32, t: &mut Tables) -> Filled
+pub fn add_point(mut f: Filled, label: u32, t: &mut Tables) -> Filled
     ensures { (m : Mesh) (us : List ℕ) (spans : List Float) (index : List ℕ) (n : ℕ) → label ≡ n % 4294967296 → Kept m us f (held t.old spans) index → Kept (with_point m n) us result (held t.new spans) index }
 {
     tables_known(t);
     let n = f.points;
-    let mut r = f;
     if n < 2048 {
         store_label(t, n, label);
-        r.points = n + 1;
-        return r;
+        f.points = n + 1;
+        return f;
     }
     if n < 999999999 {
-        r.points = n + 1;
-        return r;
+        f.points = n + 1;
     }
-    r
+    f
 }
 
 // Adds a use of an edge.
-fn add_use(f: Filled, u: u16, t: &mut Tables) -> Filled
+fn add_use(mut f: Filled, u: u16, t: &mut Tables) -> Filled
     ensures { (m : Mesh) (us : List ℕ) (spans : List Float) (index : List ℕ) → Kept m us f (held t.old spans) index → Kept m (us ++ (u ∷ [])) result (held t.new spans) index }
 {
     tables_known(t);
     let n = f.uses;
-    let mut r = f;
     if n < 4096 {
         store_uses(t, n, &[u]);
-        r.uses = n + 1;
-        return r;
+        f.uses = n + 1;
+        return f;
     }
-    r.uses = 4097;
-    r
+    f.uses = 4097;
+    f
 }
 
 // The edge from p to q as it is made.
@@ -95,7 +92,7 @@ fn use_edge(f: Filled, k: usize, p: u16, t: &mut Tables, spans: &Spans) -> Fille
 
 // Adds a side from p to q to the face that is being read.
 pub fn add_side(
-    f: Filled,
+    mut f: Filled,
     p: u16,
     q: u16,
     t: &mut Tables,
@@ -111,38 +108,35 @@ pub fn add_side(
     if n > 1024 {
         return f;
     }
-    let k = find_edge(t, spans, index, n, p, q);
-    if k < n {
+    if let Some(k) = find_edge(t, spans, index, n, p, q) {
         return use_edge(f, k, p, t, spans);
     }
-    let mut r = f;
-    r.edges = n + 1;
+    f.edges = n + 1;
     if n == 1024 {
-        return r;
+        return f;
     }
     store_edge(t, spans, n, unit_edge(p, q));
     note_edge(index, n, p, q);
-    use_edge(r, n, p, t, spans)
+    use_edge(f, n, p, t, spans)
 }
 
 // Adds the face that was read.
-pub fn add_face(f: Filled, t: &mut Tables) -> Filled
+pub fn add_face(mut f: Filled, t: &mut Tables) -> Filled
     ensures { (m : Mesh) (us : List ℕ) (spans : List Float) (index : List ℕ) → Kept m us f (held t.old spans) index → Kept (with_wire m us) [] result (held t.new spans) index }
 {
     tables_known(t);
     let n = f.faces;
     let begun = f.begun;
     let uses = f.uses;
-    let mut r = f;
-    r.begun = uses;
+    f.begun = uses;
     if n >= 1024 {
-        r.faces = 1025;
-        return r;
+        f.faces = 1025;
+        return f;
     }
-    r.faces = n + 1;
+    f.faces = n + 1;
     if uses < begun {
-        return r;
+        return f;
     }
     store_wires(t, n, &[saturated((uses - begun) as u64)]);
-    r
+    f
 }

@@ -1,8 +1,9 @@
 -- A search in the index: the edges of one bucket, the latest first.
+use Rattle.std.specs.Prelude.{None, Option, Some}
 use Prim.Native.Nat.{◌+◌, ◌-◌, ◌<◌, ◌≤◌, ℕ}
-use mathlib.Core.Bool.{Bool, ◌&&◌, ◌||◌, and-false, false, or_comm, or_self, true, true≢false}
+use mathlib.Core.Bool.{Bool, ◌&&◌, ◌||◌, false, or_comm, true, true≢false}
 use mathlib.Core.List.{List}
-use mathlib.Core.Logic.{◌≢◌, ◌⊎◌, inl, inr, ⊎_elim}
+use mathlib.Core.Logic.{◌⊎◌, inl, inr, ⊎_elim}
 use mathlib.Core.Path.{◌∙◌, ◌≡◌, ap, sym}
 use native.Mathlib.Nat.{max_comm, min_comm}
 use native.Mathlib.Omega.{arith}
@@ -10,15 +11,15 @@ use lib.Dec.{eqb, ltb}
 use lib.Ieee.{Float}
 use lib.ListN.{get_or, length, take}
 use lib.Seq.{get_or-take, length-take-le}
-use borrow.Author.Tests.{eq-eqb, eqb-false, eqb-true, ltb-false, ltb-true, ne_eqb}
+use borrow.Author.Tests.{eqb-false, eqb-true, ltb-false, ltb-true}
 use Rattle.edge.specs.Edges.{back_number, front_number}
 use Rattle.edge.specs.declared.Edge.{Edge}
 use Rattle.lists.proofs.Flat.{get_d_tabulate}
 use Rattle.lists.proofs.Laws.{cases, left_true, length_tabulate, right_true}
 use Rattle.lists.specs.Lists.{tabulate}
-use Rattle.mesh.specs.Mesh.{joins, place}
-use Rattle.mesh_edges.proofs.Places.{latest_fails, latest_le, latest_passes, place_here, place_none}
-use Rattle.mesh_edges.specs.Index.{Indexed, bucket_at, bucket_of, latest}
+use Rattle.mesh.specs.Mesh.{joins}
+use Rattle.mesh_edges.proofs.Places.{found_here, found_none, latest_fails, latest_le, latest_passes, place_here, place_none}
+use Rattle.mesh_edges.specs.Index.{Indexed, bucket_at, bucket_of, found, latest}
 use Rattle.pattern.specs.Contents.{zero_edge}
 use Rattle.store.specs.Store.{edge_in, held}
 
@@ -40,25 +41,6 @@ joins_ends p q e h =
     (λ (o : (eqb (front_number e) p && eqb (back_number e) q) ≡ true). inl (both_equal (front_number e) p (back_number e) q o))
     (λ (o : (eqb (front_number e) q && eqb (back_number e) p) ≡ true). inr (both_equal (front_number e) q (back_number e) p o))
     (or_cases (eqb (front_number e) p && eqb (back_number e) q) (eqb (front_number e) q && eqb (back_number e) p) h)
-
-pub joins_along : (p q : ℕ) (e : Edge) → front_number e ≡ p → back_number e ≡ q → joins p q e ≡ true
-joins_along p q e f b = rw (eq-eqb (front_number e) p f, eq-eqb (back_number e) q b)
-
-pub joins_back : (p q : ℕ) (e : Edge) → front_number e ≡ q → joins p q e ≡ eqb (back_number e) p
-joins_back p q e f =
-    ⊎_elim
-    (λ (o : eqb (front_number e) p ≡ true).
-    let z : q ≡ p = sym f ∙ eqb-true (front_number e) p o in
-    rw (z, o, or_self))
-    (λ (o : eqb (front_number e) p ≡ false). rw (o, eq-eqb (front_number e) q f))
-    (cases (eqb (front_number e) p))
-
-pub joins_not : (p q : ℕ) (e : Edge) → front_number e ≢ q → (front_number e ≢ p) ⊎ (back_number e ≢ q) → joins p q e ≡ false
-joins_not p q e f g =
-    ⊎_elim
-    (λ (o : front_number e ≢ p). rw (ne_eqb (front_number e) p o, ne_eqb (front_number e) q f))
-    (λ (o : back_number e ≢ q). rw (ne_eqb (back_number e) q o, and-false, ne_eqb (front_number e) q f))
-    g
 
 joins_bucket : (p q : ℕ) (e : Edge) → joins p q e ≡ true → bucket_of (front_number e) (back_number e) ≡ bucket_of p q
 joins_bucket p q e h =
@@ -112,17 +94,18 @@ module _ (es : List Edge) (index : List ℕ) (p q : ℕ) (known : Indexed es ind
 
   module _ (c : ℕ) (s : Sought es p q c) where
     -- an edge that joins the points is the first that does
-    pub sought_found : 0 < c → joins p q (At (c - 1)) ≡ true → c - 1 ≡ place (joins p q) es
+    pub sought_found : 0 < c → joins p q (At (c - 1)) ≡ true → Some (c - 1) ≡ found (joins p q) es
     sought_found b j =
-        sym (place_here (joins p q) zero_edge es (c - 1) (omega (arith, s.low)) j
+        found_here (joins p q) zero_edge es (c - 1) (sym (place_here (joins p q) zero_edge es (c - 1) (omega (arith, s.low)) j
         (λ k l.
         ⊎_elim
         (λ (e : joins p q (At k) ≡ true). absurd (true≢false (sym (joins_both p q (At k) (At (c - 1)) e j) ∙ known.apart k (c - 1) l (omega (arith, s.low)))))
         (λ (e : joins p q (At k) ≡ false). e)
-        (cases (joins p q (At k)))))
+        (cases (joins p q (At k))))))
+        (omega (arith, s.low))
 
-    pub sought_none : c ≤ 0 → length es ≡ place (joins p q) es
-    sought_none z = sym (place_none (joins p q) zero_edge es (λ k l. s.past k (omega arith) l))
+    pub sought_none : c ≤ 0 → None ≡ found (joins p q) es
+    sought_none z = found_none (joins p q) zero_edge es (place_none (joins p q) zero_edge es (λ k l. s.past k (omega arith) l))
 
     module _ (c' : ℕ) (b : 0 < c) (next : c' ≡ get_or index (16384 + (c - 1)) 0) where
       earlier_is : c' ≡ latest (Test (bucket_at es (c - 1))) (c - 1)
@@ -158,8 +141,8 @@ firsts t spans n = take n (held t spans).edges
 abbrev pub Seeking : List ℕ → List Float → List ℕ → ℕ → ℕ → ℕ → ℕ → Type 0
 Seeking t spans index n p q c = Indexed (firsts t spans n) index → Sought (firsts t spans n) p q c
 
-abbrev Found : List ℕ → List Float → List ℕ → ℕ → ℕ → ℕ → ℕ → Type 0
-Found t spans index n p q r = Indexed (firsts t spans n) index → r ≡ place (joins p q) (firsts t spans n)
+abbrev Found : List ℕ → List Float → List ℕ → ℕ → ℕ → ℕ → Option ℕ → Type 0
+Found t spans index n p q r = Indexed (firsts t spans n) index → r ≡ found (joins p q) (firsts t spans n)
 
 module _ (t : List ℕ) (spans : List Float) (index : List ℕ) (n p q : ℕ) where
   pub seek_start : (h c : ℕ) → h ≡ bucket_of p q → h < 16384 → c ≡ get_or index h 0 → Seeking t spans index n p q c
@@ -169,16 +152,12 @@ module _ (t : List ℕ) (spans : List Float) (index : List ℕ) (n p q : ℕ) wh
     firsts_long : length (firsts t spans n) ≡ n
     firsts_long = length-take-le n (tabulate 1024 (edge_in t spans)) (omega (arith, length_tabulate 1024 (edge_in t spans)))
 
-    pub seek_none : c ≤ 0 → Found t spans index n p q n
-    seek_none z known = sym firsts_long ∙ sought_none (firsts t spans n) index p q known c (seek known) z
+    pub seek_none : c ≤ 0 → Found t spans index n p q None
+    seek_none z known = sought_none (firsts t spans n) index p q known c (seek known) z
 
     module _ (some : 0 < c) where
-      -- a number that no edge has
-      pub seek_over : n ≤ c - 1 → Found t spans index n p q n
-      seek_over h known = absurd (omega (arith, (seek known).low, firsts_long))
-
       -- the next is no lower
-      pub seek_wrong : (c' : ℕ) → c' ≡ get_or index (16384 + (c - 1)) 0 → c - 1 < c' → Found t spans index n p q n
+      pub seek_wrong : (c' : ℕ) → c' ≡ get_or index (16384 + (c - 1)) 0 → c - 1 < c' → Found t spans index n p q None
       seek_wrong c' e h known = absurd (omega (arith, sought_lower (firsts t spans n) index p q known c (seek known) c' some e))
 
       module _ (here : c - 1 < n) (x : Edge) (r : Bool) (is : x ≡ edge_in t spans (c - 1)) (tells : r ≡ joins p q x) where
@@ -188,7 +167,7 @@ module _ (t : List ℕ) (spans : List Float) (index : List ℕ) (n p q : ℕ) wh
             ∙ ap (joins p q)
             (is ∙ sym (get_or-take n (tabulate 1024 (edge_in t spans)) (c - 1) zero_edge here ∙ get_d_tabulate 1024 (edge_in t spans) (c - 1) zero_edge (omega arith)))
 
-        pub seek_found : r ≡ true → Found t spans index n p q (c - 1)
+        pub seek_found : r ≡ true → Found t spans index n p q (Some (c - 1))
         seek_found j known = sought_found (firsts t spans n) index p q known c (seek known) some (sym told ∙ j)
 
         pub seek_next : r ≡ false → (c' : ℕ) → c' ≡ get_or index (16384 + (c - 1)) 0 → Seeking t spans index n p q c'

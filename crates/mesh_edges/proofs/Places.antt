@@ -1,16 +1,17 @@
 -- The last number, and the first element, that passes a test.
 use Prim.Native.Nat.{◌<◌, ◌≤◌, suc, zero, ℕ}
+use Rattle.std.specs.Prelude.{None, Option, Some}
 use mathlib.Core.Bool.{Bool, false, true}
 use mathlib.Core.List.{List, [], ◌∷◌}
 use mathlib.Core.Logic.{⊎_elim}
 use mathlib.Core.Path.{◌∙◌, ◌≡◌, ap, refl, sym}
 use native.Mathlib.Omega.{arith}
-use lib.Dec.{eqb}
+use lib.Dec.{eqb, ltb}
 use lib.ListN.{get_or, length}
-use borrow.Author.Tests.{eqb-false, eqb-true}
+use borrow.Author.Tests.{eqb-false, eqb-true, le-ltb, lt-ltb, ltb-false, ltb-true}
 use Rattle.lists.proofs.Laws.{cases}
 use Rattle.mesh.specs.Mesh.{place}
-use Rattle.mesh_edges.specs.Index.{latest}
+use Rattle.mesh_edges.specs.Index.{found, latest}
 
 module _ (test : ℕ → Bool) where
   pub latest_here : (n : ℕ) → test n ≡ true → latest test (suc n) ≡ suc n
@@ -70,6 +71,36 @@ module _ {A : Type 0} (test : A → Bool) (d : A) where
   place_here (x ∷ xs) zero h here before = rw here
   place_here (x ∷ xs) (suc e) h here before =
       rw (before 0 (omega arith)) (ap suc (place_here xs e (omega arith) here (λ k b. before (suc k) (omega arith))))
+
+  place_le : (xs : List A) → place test xs ≤ length xs
+  unfolding place
+  place_le [] = omega arith
+  place_le (x ∷ xs) =
+      ⊎_elim
+      (λ (h : test x ≡ true). rw h (omega arith))
+      (λ (h : test x ≡ false). rw h (omega (arith, place_le xs)))
+      (cases (test x))
+
+  -- what is found is the place; where nothing is, that is past the last
+  pub found_here : (xs : List A) (k : ℕ) → k ≡ place test xs → k < length xs → Some k ≡ found test xs
+  found_here xs k e h = rw (← e, lt-ltb k (length xs) h)
+
+  pub found_none : (xs : List A) → place test xs ≡ length xs → None ≡ found test xs
+  found_none xs e = rw (e, le-ltb (length xs) (length xs) (omega arith))
+
+  pub found_at : (xs : List A) (k : ℕ) → found test xs ≡ Some k → (k ≡ place test xs) × (k < length xs)
+  found_at xs k e =
+      ⊎_elim
+      (λ (h : ltb (place test xs) (length xs) ≡ true). let i : ◌≡◌ {A = Option ℕ} (Some (place test xs)) (Some k) = rw h at e in let j : place test xs ≡ k = cc in (sym j, rw j at (ltb-true (place test xs) (length xs) h)))
+      (λ (h : ltb (place test xs) (length xs) ≡ false). let i : ◌≡◌ {A = Option ℕ} None (Some k) = rw h at e in cc)
+      (cases (ltb (place test xs) (length xs)))
+
+  pub found_not : (xs : List A) → found test xs ≡ None → place test xs ≡ length xs
+  found_not xs e =
+      ⊎_elim
+      (λ (h : ltb (place test xs) (length xs) ≡ true). let i : ◌≡◌ {A = Option ℕ} (Some (place test xs)) None = rw h at e in cc)
+      (λ (h : ltb (place test xs) (length xs) ≡ false). omega (arith, ltb-false (place test xs) (length xs) h, place_le xs))
+      (cases (ltb (place test xs) (length xs)))
 
   first : (x : A) (xs : List A) → test x ≡ false → ((k : ℕ) → k < length xs → test (get_or xs k d) ≡ false)
       → (k : ℕ) → k < suc (length xs) → test (get_or (x ∷ xs) k d) ≡ false

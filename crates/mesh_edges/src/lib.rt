@@ -1,11 +1,11 @@
 // The edges of a mesh, found by their two points.
 #![tactic(auto)]
 
-ghost use Rattle.std.specs.Prelude.{◌≡◌, List, [], ◌++◌, ◌∷◌, ◌<◌, ◌≤◌, length, replicate, take};
+ghost use Rattle.std.specs.Prelude.{◌≡◌, List, [], ◌++◌, ◌∷◌, ◌<◌, ◌≤◌, IfSome, length, replicate, take};
 ghost use Rattle.edge.specs.declared.Edge.{Edge};
 ghost use Rattle.mesh.specs.Mesh.{between, joins, place};
 ghost use Rattle.store.specs.Store.{held};
-ghost use Rattle.mesh_edges.specs.Index.{Indexed, bucket_of};
+ghost use Rattle.mesh_edges.specs.Index.{Indexed, bucket_of, found};
 
 use edge::Edge;
 use store::{Spans, Tables, edge_in};
@@ -32,26 +32,14 @@ fn index_known(index: &Index) -> usize
 fn bucket(p: u16, q: u16) -> usize
     ensures { (result ≡ bucket_of p q) × (result < 16384) }
 {
-    let low = if p < q { p } else { q };
-    let high = if p < q { q } else { p };
-    ((low % 2048) as usize) * 8 + (high % 8) as usize
+    usize::from(p.min(q) % 2048) * 8 + usize::from(p.max(q) % 8)
 }
 
 // Whether an edge joins two points, one way or the other.
 fn is_between(e: Edge, p: u16, q: u16) -> bool
     ensures { result ≡ joins p q e }
 {
-    let front = e.front.0;
-    let back = e.back.0;
-    if front == p {
-        if back == q {
-            return true;
-        }
-    }
-    if front == q {
-        return back == p;
-    }
-    false
+    (e.front.0 == p && e.back.0 == q) || (e.front.0 == q && e.back.0 == p)
 }
 
 // An index of no edges.
@@ -62,29 +50,36 @@ pub fn clear_index(index: &mut Index)
     index.fill(0);
 }
 
-// The edge between two points among the first n; n where there is none. Any content of the index is taken to an answer.
-pub fn find_edge(t: &Tables, spans: &Spans, index: &Index, n: usize, p: u16, q: u16) -> usize
+// The edge between two points among the first n. Any content of the index is taken to an answer.
+pub fn find_edge(
+    t: &Tables,
+    spans: &Spans,
+    index: &Index,
+    n: usize,
+    p: u16,
+    q: u16,
+) -> Option<usize>
     requires { n ≤ 1024 }
-    ensures upper_bound { result ≤ n }
-    ensures value { Indexed (take n (held t.now spans.now).edges) index.now → result ≡ place (joins p q) (take n (held t.now spans.now).edges) }
+    ensures upper_bound { IfSome result (λ e. e < n) }
+    ensures value { Indexed (take n (held t.now spans.now).edges) index.now → result ≡ found (joins p q) (take n (held t.now spans.now).edges) }
 {
     index_known(index);
-    let mut c = words::index(index[bucket(p, q)]);
+    let mut c = usize::from(index[bucket(p, q)]);
     // No `for`: it follows a chain of the index, to its end.
     while c > 0 {
         let e = c - 1;
         if e >= n {
-            return n;
+            return None;
         }
         if is_between(edge_in(t, spans, e), p, q) {
-            return e;
+            return Some(e);
         }
-        c = words::index(index[EARLIER + e]);
+        c = usize::from(index[EARLIER + e]);
         if c > e {
-            return n;
+            return None;
         }
     }
-    n
+    None
 }
 
 // Edge n is made between two points that no edge joins yet.

@@ -3,7 +3,6 @@
 
 ghost use Rattle.std.specs.Prelude.{List, [], ◌++◌, ◌∷◌, ◌≡◌, ◌≤◌, ℕ, Float};
 ghost use Rattle.mesh.specs.Mesh.{Mesh, imported, imported_in};
-ghost use Rattle.mesh.specs.Reading.{fault_at};
 ghost use Rattle.mesh_draw.specs.Kept.{Kept};
 ghost use Rattle.mesh_file.specs.Judging.{Judged, answer_of, filled_counts, with_listed, with_rest};
 ghost use Rattle.mesh_read.specs.Pieces.{HasRead};
@@ -13,11 +12,11 @@ ghost use Rattle.store.specs.Store.{held};
 
 use errors::CallError;
 use face::Face;
-use mesh::{LineFault, MeshError};
+use mesh::MeshError;
 use mesh_draw::Filled;
 use mesh_edges::{INDEX, Index};
 use mesh_read::{end_line, step};
-use mesh_words::Reader;
+use mesh_words::{Place, Reader};
 use pattern::{Counts, check_counts};
 use store::{
     LISTINGS, SHELLS, SPANS, Spans, TABLES, Tables, store_count, store_face, tables_known,
@@ -81,7 +80,7 @@ fn answer_of(w: Result<usize, CallError<NoSpace>>) -> Result<usize, CallError<Me
     match w {
         Ok(n) => Ok(n),
         Err(CallError::Unread(r)) => Err(CallError::Unread(r)),
-        Err(CallError::Refused(e)) => Err(CallError::Refused(MeshError::NoSpace(e.needed))),
+        Err(CallError::Refused(e)) => Err(MeshError::NoSpace(e.needed).into()),
     }
 }
 
@@ -102,19 +101,6 @@ fn judge(
     answer_of(put_file(t, spans, out))
 }
 
-// What is wrong with the line of a reader that has stopped.
-fn fault_at(place: usize) -> LineFault
-    ensures { result ≡ fault_at place }
-{
-    if place == 30 {
-        return LineFault::NotNumber;
-    }
-    if place == 31 {
-        return LineFault::NotGiven;
-    }
-    LineFault::TooFew
-}
-
 // The answer of an import, and the reader after its last line.
 #[derive(Clone, Copy)]
 pub struct Finished {
@@ -132,16 +118,15 @@ pub fn finish(
 ) -> Finished
     ensures { (s : List ℕ) → HasRead s from (held t.old spans.old) index.old → (result.answer ≡ imported s out.old) × (out.new ≡ imported_in s out.old) × HasRead (s ++ (10 ∷ [])) result.reader (held t.new spans.new) index.new }
 {
-    let r = end_line(from, t, spans, index);
-    if r.place >= 30 {
+    let reader = end_line(from, t, spans, index);
+    if let Place::Refused(fault) = reader.place {
         return Finished {
-            answer: Err(CallError::Refused(MeshError::Line(fault_at(r.place), r.line))),
-            reader: r,
+            answer: Err(MeshError::Line(fault, reader.line).into()),
+            reader,
         };
     }
-    let f = r.filled;
-    let answer = judge(f, t, spans, out);
-    Finished { answer, reader: r }
+    let answer = judge(reader.filled, t, spans, out);
+    Finished { answer, reader }
 }
 
 // Writes the pattern file of a mesh, or answers what is wrong with it.

@@ -1,7 +1,7 @@
 -- The end of a line.
 use Rattle.mesh.specs.declared.LineFault.{LineFault}
 use Rattle.std.specs.Prelude.{Err, Ok, Result}
-use Rattle.std.proofs.Common.{◌≡◌, ℕ, suc, ◌%◌, ◌<◌, ◌≤◌, true, false, eqb, leb, List, [], ◌∷◌, ◌++◌, length, refl, ◌∙◌, ⊎_elim, arith, eq-eqb, ne_eqb, le-leb, leb-false, leb-true}
+use Rattle.std.proofs.Common.{◌≡◌, ℕ, suc, ◌%◌, ◌<◌, ◌≤◌, true, false, eqb, leb, List, [], ◌∷◌, ◌++◌, length, refl, sym, ap, ◌∙◌, ⊎_elim, arith, eq-eqb, ne_eqb, le-leb, leb-false, leb-true}
 use borrow.Author.Tests.{eqb-false, lt-leb}
 use Rattle.lists.proofs.Laws.{cases}
 use Rattle.mesh.specs.Mesh.{Mesh, letter, numbered, side_use, with_side}
@@ -10,7 +10,9 @@ use Rattle.mesh.specs.declared.LineFault.TheVariants.{NotGiven, NotNumber, TooFe
 use Rattle.mesh_draw.proofs.Points.{points_alone}
 use Rattle.mesh_draw.specs.Kept.{Kept, with_edges, with_wire}
 use Rattle.mesh_draw.specs.declared.Filled.{Filled}
-use Rattle.mesh_words.specs.Following.{Follows, Reads}
+use Rattle.mesh_words.proofs.Places.{place_is}
+use Rattle.mesh_words.specs.Following.{Follows, Reads, place_number}
+use Rattle.mesh_words.specs.declared.Place.TheVariants.{Between}
 use Rattle.mesh_words.specs.declared.Reader.{Reader}
 use Rattle.pattern.specs.Contents.{Pattern}
 
@@ -66,27 +68,27 @@ module _ (st : State) {r : Reader} {p : Pattern} {index : List ℕ} (g : Follows
   abbrev last : State
   last = end_word st
 
-  pub line_refused : 30 ≤ r.place → Follows (end_line st) r p index
+  pub line_refused : 30 ≤ place_number r.place → Follows (end_line st) r p index
   unfolding end_line next_line
   line_refused h = rw (le-leb 30 last.place (omega arith)) g
 
-  module _ (h : r.place < 30) (r' : Reader) where
-    pub line_plain : (r.place ≡ 3 → ⊥)
+  module _ (h : place_number r.place < 30) (r' : Reader) where
+    pub line_plain : (r.place ≡ Between → ⊥)
         → ((n : ℕ) (m : Mesh) (q : Pattern) (index' : List ℕ) → r.line ≡ n % 18446744073709551616 → Kept m [] r.filled q index' → Follows (start (suc n) m) r' q index')
         → Follows (end_line st) r' p index
     unfolding end_line next_line
     line_plain n go =
         let k = g.going (omega arith) in
-        let other : last.place ≡ 3 → ⊥ = λ e. n (g.place ∙ e) in
+        let other : last.place ≡ 3 → ⊥ = λ e. n (place_is (g.place ∙ e)) in
         let none : last.face.uses ≡ [] = k.begun (k.idle (omega (arith, other, ended_place st))) in
         rw (lt-leb 30 last.place (omega arith), ne_eqb last.place 3 other) (go last.line last.mesh p index g.line (rw none at k.kept))
 
-    module _ (e : r.place ≡ 3) (q : Pattern) (index' : List ℕ) where
-      pub line_few : r.corners < 3 → r'.line ≡ r.line → r'.place ≡ 32 → Follows (end_line st) r' q index'
+    module _ (e : r.place ≡ Between) (q : Pattern) (index' : List ℕ) where
+      pub line_few : r.corners < 3 → r'.line ≡ r.line → place_number r'.place ≡ 32 → Follows (end_line st) r' q index'
       unfolding end_line next_line
       line_few few l d =
           let k = g.going (omega arith) in
-          rw (lt-leb 30 last.place (omega arith), eq-eqb last.place 3 (omega arith), lt-leb 3 last.face.corners (omega (arith, k.corners)))
+          rw (lt-leb 30 last.place (omega arith), eq-eqb last.place 3 (sym g.place ∙ ap place_number e), lt-leb 3 last.face.corners (omega (arith, k.corners)))
           record { line = l ∙ g.line; place = d; going = λ n. absurd (omega arith) }
 
       pub line_closed : 3 ≤ r.corners
@@ -96,4 +98,4 @@ module _ (st : State) {r : Reader} {p : Pattern} {index : List ℕ} (g : Follows
       line_closed some go =
           let k = g.going (omega arith) in
           let three : 3 ≤ last.face.corners = omega (arith, k.corners) in
-          rw (lt-leb 30 last.place (omega arith), eq-eqb last.place 3 (omega arith), le-leb 3 last.face.corners three) (go g (omega arith) (omega arith))
+          rw (lt-leb 30 last.place (omega arith), eq-eqb last.place 3 (sym g.place ∙ ap place_number e), le-leb 3 last.face.corners three) (go g (omega arith) (omega arith))

@@ -8,7 +8,8 @@ use Rattle.mesh.proofs.Theorem.{pieces}
 use Rattle.mesh.specs.Mesh.{no_mesh}
 use Rattle.mesh.specs.Reading.{State, byte, end_line, end_word, holding, ink, next_line, read_bytes, reading, release, start}
 use Rattle.mesh_read.specs.Pieces.{HasRead}
-use Rattle.mesh_words.specs.Following.{Follows}
+use Rattle.mesh_words.specs.Following.{Follows, place_number}
+use Rattle.mesh_words.specs.declared.Place.TheVariants.{Rest}
 use Rattle.mesh_words.specs.declared.Reader.{Reader}
 use Rattle.pattern.specs.Contents.{Pattern}
 use Rattle.text.proofs.Words.{before_past, take_before}
@@ -98,7 +99,7 @@ stepping_start piece r p index = record { low = omega arith; follows = λ st f. 
 
 module _ {piece : List ℕ} {from : Reader} {p₀ : Pattern} {index₀ : List ℕ} {i : ℕ} {r : Reader} {p : Pattern} {index : List ℕ} (s : Stepping piece from p₀ index₀ i r p index) where
   -- what is passed over
-  pub stepping_past : (j : ℕ) → r.place ≡ 2 → j ≡ i + length (before is_feed (drop i piece)) → j ≤ length piece → Stepping piece from p₀ index₀ j r p index
+  pub stepping_past : (j : ℕ) → r.place ≡ Rest → j ≡ i + length (before is_feed (drop i piece)) → j ≤ length piece → Stepping piece from p₀ index₀ j r p index
   stepping_past j e is h =
       record {
         low = h;
@@ -106,7 +107,7 @@ module _ {piece : List ℕ} {from : Reader} {p₀ : Pattern} {index₀ : List �
             let g = s.follows st f in
             let parts : take j piece ≡ take i piece ++ before is_feed (drop i piece) =
             rw is (take-add i (length (before is_feed (drop i piece))) piece ∙ ap (λ (l : List ℕ). take i piece ++ l) (take_before is_feed (drop i piece))) in
-            rw (parts, pieces (take i piece) (before is_feed (drop i piece)) st, rest_passed (drop i piece) (read_bytes (take i piece) st) (sym g.place ∙ e)) g;
+            rw (parts, pieces (take i piece) (before is_feed (drop i piece)) st, rest_passed (drop i piece) (read_bytes (take i piece) st) (sym g.place ∙ ap place_number e)) g;
       }
 
   pub stepping_next : (r' : Reader) (p' : Pattern) (index' : List ℕ) → i < length piece

@@ -1,14 +1,16 @@
 -- Bytes that are read alike: up to the first that stops them.
-use Rattle.std.proofs.Common.{◌≡◌, ℕ, ◌+◌, ◌-◌, ◌<◌, ◌≤◌, Bool, true, false, List, [], ◌∷◌, ◌++◌, length, take, drop, sym, refl, ap, ◌∙◌, ⊎_elim, true≢false, arith, take-append-drop, take-add, eq-eqb, ne_eqb}
+use Rattle.std.proofs.Common.{◌≡◌, ℕ, ◌+◌, ◌-◌, ◌<◌, ◌≤◌, Bool, true, false, List, [], ◌∷◌, ◌++◌, length, take, drop, sym, refl, ap, ◌∙◌, ⊎_elim, true≢false, arith, take-append-drop, take-add}
 use Rattle.lists.proofs.Laws.{cases}
 use Rattle.mesh.proofs.Theorem.{pieces}
 use Rattle.mesh.specs.Reading.{State, byte, ink, read_bytes, release}
 use Rattle.mesh_words.proofs.Runs.{ink_kept}
-use Rattle.mesh_words.specs.Following.{Follows, inks}
+use Rattle.mesh_words.proofs.Places.{place_is}
+use Rattle.mesh_words.specs.Following.{Follows, inks, place_number}
+use Rattle.mesh_words.specs.declared.Place.TheVariants.{Rest}
 use Rattle.mesh_words.specs.declared.Reader.{Reader}
 use Rattle.pattern.specs.Contents.{Pattern}
 use Rattle.text.proofs.Words.{before_past, take_before}
-use Rattle.text.specs.Text.{before, is_feed}
+use Rattle.text.specs.Text.{before}
 use Rattle.mesh_read.proofs.Pieces.{Inner, Stepping, byte_ink, byte_refused}
 use Rattle.mesh_read.specs.Runs.{is_break, stops}
 
@@ -24,16 +26,11 @@ unfolding before
 before_none [] = refl
 before_none (b ∷ s) = refl
 
-module _ (place : ℕ) (held : Bool) (s : List ℕ) where
-  pub stops_rest : place ≡ 2 → before (stops place held) s ≡ before is_feed s
-  stops_rest e = before_same (stops place held) is_feed (λ b. rw (eq-eqb place 2 e)) s
+pub stops_held : {held : Bool} → held ≡ true → (s : List ℕ) → before (stops held) s ≡ []
+stops_held {held} h s = before_same (stops held) (λ (b : ℕ). true) (λ b. rw h) s ∙ before_none s
 
-  module _ (other : place ≡ 2 → ⊥) where
-    pub stops_held : held ≡ true → before (stops place held) s ≡ []
-    stops_held h = before_same (stops place held) (λ (b : ℕ). true) (λ b. rw (ne_eqb place 2 other, h)) s ∙ before_none s
-
-    pub stops_ink : held ≡ false → before (stops place held) s ≡ before is_break s
-    stops_ink h = before_same (stops place held) is_break (λ b. rw (ne_eqb place 2 other, h)) s
+pub stops_ink : {held : Bool} → held ≡ false → (s : List ℕ) → before (stops held) s ≡ before is_break s
+stops_ink {held} h s = before_same (stops held) is_break (λ b. rw h) s
 
 -- ---- the bytes of a word
 
@@ -59,14 +56,14 @@ read_inks (b ∷ s) st going other free =
 
 -- ---- a run of a piece
 
-module _ {st : State} {r : Reader} {p : Pattern} {index : List ℕ} (g : Follows st r p index) (going : r.place < 30) (other : r.place ≡ 2 → ⊥) (s : List ℕ) where
-  run_read : let run = before (stops r.place r.held) s in read_bytes run st ≡ inks run st
+module _ {st : State} {r : Reader} {p : Pattern} {index : List ℕ} (g : Follows st r p index) (going : place_number r.place < 30) (other : place_number r.place ≡ 2 → ⊥) (s : List ℕ) where
+  run_read : let run = before (stops r.held) s in read_bytes run st ≡ inks run st
   unfolding read_bytes inks
   run_read =
       let h = (g.going (omega (arith, g.place))).held in
       ⊎_elim
-      (λ (e : r.held ≡ true). rw (stops_held r.place r.held s other e))
-      (λ (e : r.held ≡ false). rw (stops_ink r.place r.held s other e) (read_inks s st (omega (arith, g.place)) (λ z. other (g.place ∙ z)) (sym h ∙ e)))
+      (λ (e : r.held ≡ true). rw (stops_held e s))
+      (λ (e : r.held ≡ false). rw (stops_ink e s) (read_inks s st (omega (arith, g.place)) (λ z. other (g.place ∙ z)) (sym h ∙ e)))
       (cases r.held)
 
 refused_stays : (s : List ℕ) (st : State) → 30 ≤ st.place → read_bytes s st ≡ st
@@ -75,23 +72,23 @@ refused_stays [] st h = refl
 refused_stays (b ∷ s) st h = rw (byte_refused b st h) (refused_stays s st h)
 
 module _ {piece : List ℕ} {from : Reader} {p₀ : Pattern} {index₀ : List ℕ} {i : ℕ} {r : Reader} {p : Pattern} {index : List ℕ} (s : Stepping piece from p₀ index₀ i r p index) where
-  pub stepping_run : (j : ℕ) (r' : Reader) → r.place < 30 → (r.place ≡ 2 → ⊥) → j ≡ i + length (before (stops r.place r.held) (drop i piece)) → j ≤ length piece
+  pub stepping_run : (j : ℕ) (r' : Reader) → place_number r.place < 30 → (r.place ≡ Rest → ⊥) → j ≡ i + length (before (stops r.held) (drop i piece)) → j ≤ length piece
       → ((st : State) (p : Pattern) (index : List ℕ) → Follows st r p index → Follows (inks (take (j - i) (drop i piece)) st) r' p index)
       → Stepping piece from p₀ index₀ j r' p index
   stepping_run j r' going other is h go =
-      let run = before (stops r.place r.held) (drop i piece) in
+      let run = before (stops r.held) (drop i piece) in
       record {
         low = h;
         follows = λ st f.
             let g = s.follows st f in
-            let all : take (length run) (drop i piece) ≡ run = take_before (stops r.place r.held) (drop i piece) in
+            let all : take (length run) (drop i piece) ≡ run = take_before (stops r.held) (drop i piece) in
             let cut : take (j - i) (drop i piece) ≡ run = let l : j - i ≡ length run = omega arith in rw l all in
             let parts : take j piece ≡ take i piece ++ run = rw is (take-add i (length run) piece ∙ ap (λ (l : List ℕ). take i piece ++ l) all) in
-            rw (parts, pieces (take i piece) run st, run_read g going other (drop i piece)) (rw cut at (go (read_bytes (take i piece) st) p index g));
+            rw (parts, pieces (take i piece) run st, run_read g going (λ e. other (place_is e)) (drop i piece)) (rw cut at (go (read_bytes (take i piece) st) p index g));
       }
 
   -- once refused nothing changes
-  pub stepping_refused : 30 ≤ r.place → (st : State) → Follows st from p₀ index₀ → Follows (read_bytes piece st) r p index
+  pub stepping_refused : 30 ≤ place_number r.place → (st : State) → Follows st from p₀ index₀ → Follows (read_bytes piece st) r p index
   stepping_refused h st f =
       let g = s.follows st f in
       let all : read_bytes piece st ≡ read_bytes (take i piece) st =

@@ -1,12 +1,11 @@
 -- Which bytes end a run of bytes that are read alike. Cited by inner contracts.
 use Rattle.std.specs.Prelude.{ℕ, Bool, ◌||◌, ◌==◌}
-use Rattle.lists.specs.Lists.{pick}
 use Rattle.text.specs.Text.{is_blank, is_feed}
 
 -- not surely a byte of a word: a carriage return may end the line
 abbrev pub is_break : ℕ → Bool
 is_break b = is_blank b || (is_feed b || b == 13)
 
--- at a place, with a carriage return held back or not
-abbrev pub stops : ℕ → Bool → ℕ → Bool
-stops place held b = pick (place == 2) (is_feed b) (held || is_break b)
+-- with a carriage return held back or not
+abbrev pub stops : Bool → ℕ → Bool
+stops held b = held || is_break b

@@ -6,6 +6,7 @@ use mathlib.Core.Path.{◌≡◌}
 use lib.ListN.{get_or, length}
 use Rattle.lists.proofs.Laws.{tabulate_get_d}
 use Rattle.lists.specs.Lists.{tabulate}
+use Rattle.mesh_words.specs.declared.Place.{Place}
 use Rattle.mesh_words.specs.declared.Reader.{Reader}
 
 -- a list of eleven, from its elements
@@ -15,6 +16,6 @@ pub eleven : (w : List ℕ) → length w ≡ 11 → {a b c d e f g h i j k : ℕ
 unfolding tabulate
 eleven w long p0 p1 p2 p3 p4 p5 p6 p7 p8 p9 p10 = rw (p0, p1, p2, p3, p4, p5, p6, p7, p8, p9, p10) (rw long at (tabulate_get_d w 0))
 
-pub same : (r : Reader) {held slashed : Bool} {first last : ℕ} {word : List ℕ} → held ≡ r.held → slashed ≡ r.slashed → first ≡ r.first → last ≡ r.last → word ≡ r.word
-    → record { line = r.line; place = r.place; held = held; word = word; length = r.length; slashed = slashed; corners = r.corners; first = first; last = last; filled = r.filled } ≡ r
-same r h s f l w = rw (h, s, f, l, w)
+pub same : (r : Reader) {place : Place} {held slashed : Bool} {first last : ℕ} {word : List ℕ} → place ≡ r.place → held ≡ r.held → slashed ≡ r.slashed → first ≡ r.first → last ≡ r.last → word ≡ r.word
+    → record { line = r.line; place = place; held = held; word = word; length = r.length; slashed = slashed; corners = r.corners; first = first; last = last; filled = r.filled } ≡ r
+same r p h s f l w = rw (p, h, s, f, l, w)

@@ -1,33 +1,52 @@
 // A reader of a mesh in a lent list of numbers.
 #![tactic(auto)]
 
-ghost use Rattle.std.specs.Prelude.{not, ◌≡◌, ◌%◌, eqb};
+ghost use Rattle.std.specs.Prelude.{◌≡◌};
 ghost use Rattle.mesh_state.specs.State.{filled_in, reader_in};
+ghost use Rattle.mesh_words.specs.Following.{place_in, place_number};
 
+use mesh::LineFault;
 use mesh_draw::Filled;
-use mesh_words::Reader;
+use mesh_words::{Place, Reader};
 
 // The numbers of a reader.
 pub const NUMBERS: usize = 24;
 
 pub type Numbers = [u64; NUMBERS];
 
-fn wide8(x: u8) -> u64
-    ensures { result % 256 ≡ x }
+// The number of a place in a line.
+fn place_number(k: Place) -> u64
+    ensures { result ≡ place_number k }
 {
-    x as u64
+    match k {
+        Place::Start => 0,
+        Place::Key => 1,
+        Place::Rest => 2,
+        Place::Between => 3,
+        Place::Word => 4,
+        Place::Refused(f) => f.number() as u64,
+    }
 }
 
-fn wide16(x: u16) -> u64
-    ensures { result % 65536 ≡ x }
+// The place that a number says, any number: one under 30 that no place has is read as 2, one over as 32.
+fn place_in(n: u64) -> Place
+    ensures { result ≡ place_in n }
 {
-    x as u64
-}
-
-fn bit(b: bool) -> u64
-    ensures { not (eqb result 0) ≡ b }
-{
-    if b { 1 } else { 0 }
+    match n {
+        0 => Place::Start,
+        1 => Place::Key,
+        3 => Place::Between,
+        4 => Place::Word,
+        30 => Place::Refused(LineFault::NotNumber),
+        31 => Place::Refused(LineFault::NotGiven),
+        _ => {
+            if n < 30 {
+                Place::Rest
+            } else {
+                Place::Refused(LineFault::TooFew)
+            }
+        }
+    }
 }
 
 fn filled_in(numbers: &Numbers) -> Filled
@@ -48,7 +67,7 @@ pub fn reader_in(numbers: &Numbers) -> Reader
 {
     Reader {
         line: numbers[0],
-        place: numbers[1] as usize,
+        place: place_in(numbers[1]),
         held: numbers[2] != 0,
         word: [
             (numbers[13] % 256) as u8,
@@ -78,29 +97,29 @@ fn numbers_of(r: Reader) -> Numbers
 {
     [
         r.line,
-        r.place as u64,
-        bit(r.held),
+        place_number(r.place),
+        u64::from(r.held),
         r.length as u64,
-        bit(r.slashed),
+        u64::from(r.slashed),
         r.corners as u64,
-        wide16(r.first),
-        wide16(r.last),
+        u64::from(r.first),
+        u64::from(r.last),
         r.filled.points as u64,
         r.filled.edges as u64,
         r.filled.uses as u64,
         r.filled.begun as u64,
         r.filled.faces as u64,
-        wide8(r.word[0]),
-        wide8(r.word[1]),
-        wide8(r.word[2]),
-        wide8(r.word[3]),
-        wide8(r.word[4]),
-        wide8(r.word[5]),
-        wide8(r.word[6]),
-        wide8(r.word[7]),
-        wide8(r.word[8]),
-        wide8(r.word[9]),
-        wide8(r.word[10]),
+        u64::from(r.word[0]),
+        u64::from(r.word[1]),
+        u64::from(r.word[2]),
+        u64::from(r.word[3]),
+        u64::from(r.word[4]),
+        u64::from(r.word[5]),
+        u64::from(r.word[6]),
+        u64::from(r.word[7]),
+        u64::from(r.word[8]),
+        u64::from(r.word[9]),
+        u64::from(r.word[10]),
     ]
 }
 

@@ -12,18 +12,19 @@ use lib.Seq.{get_or-take}
 use borrow.Author.Tests.{eq-eqb, leb-false, leb-true, ne_eqb}
 use Rattle.lists.proofs.Laws.{cases}
 use Rattle.lists.specs.Lists.{flat}
-use Rattle.mesh.specs.Mesh.{Mesh, fault_number, letter, no_mesh, numbered, point_of, side_use, with_point, with_side}
+use Rattle.mesh.specs.Mesh.{Mesh, letter, no_mesh, numbered, point_of, side_use, with_point, with_side}
 use Rattle.mesh.specs.Reading.{State, corner_at, cornered, end_word, keyed, moved, side_to}
 use Rattle.mesh.specs.declared.LineFault.{LineFault}
-use Rattle.mesh.specs.declared.LineFault.TheVariants.{NotGiven, NotNumber, TooFew}
 use Rattle.mesh_draw.proofs.Points.{points_alone}
 use Rattle.mesh_draw.proofs.Tables.{tabled_whole}
 use Rattle.mesh_draw.specs.Kept.{Kept, with_edges}
 use Rattle.mesh_draw.specs.declared.Filled.{Filled}
 use Rattle.mesh_edges.specs.Index.{Indexed}
 use Rattle.mesh_words.proofs.Naming.{named_at, named_near, named_not, numbered_first}
+use Rattle.mesh_words.proofs.Places.{fault_high}
 use Rattle.mesh_words.proofs.Spelling.{facing, placed, reads_drawn, reads_moved}
 use Rattle.mesh_words.specs.Following.{Follows, Reads}
+use Rattle.mesh_words.specs.declared.Place.TheVariants.{Between, Refused, Rest}
 use Rattle.mesh_words.specs.declared.Reader.{Reader}
 use Rattle.pattern.specs.Contents.{Pattern}
 use Rattle.words.specs.Words.{short}
@@ -67,18 +68,18 @@ module _ {st : State} {r : Reader} {p : Pattern} {index : List ℕ} (f : Follows
       let is : take 1 r.word ≡ st.word = rw one at (tabled_whole 11 r.word st.word (omega arith) reads.word) in
       rw (one, ← is, get_or-take 1 r.word 0 0 (omega arith))
 
-  key_rest : (letter 118 st.word ≡ false) → (letter 102 st.word ≡ false) → Follows (keyed st) (placed 2 r) p index
+  key_rest : (letter 118 st.word ≡ false) → (letter 102 st.word ≡ false) → Follows (keyed st) (placed Rest r) p index
   unfolding keyed
-  key_rest v k = rw (v, k) (record { line = f.line; place = refl; going = λ l. reads_moved reads 2 (omega arith) (λ b. idle) })
+  key_rest v k = rw (v, k) (record { line = f.line; place = refl; going = λ l. reads_moved reads Rest 2 (omega arith) (λ b. idle) })
 
-  pub key_long : (r.length ≡ 1 → ⊥) → Follows (keyed st) (placed 2 r) p index
+  pub key_long : (r.length ≡ 1 → ⊥) → Follows (keyed st) (placed Rest r) p index
   key_long h = key_rest (letter_long h 118) (letter_long h 102)
 
   module _ (one : r.length ≡ 1) where
-    pub key_other : (get_or r.word 0 0 ≡ 118 → ⊥) → (get_or r.word 0 0 ≡ 102 → ⊥) → Follows (keyed st) (placed 2 r) p index
+    pub key_other : (get_or r.word 0 0 ≡ 118 → ⊥) → (get_or r.word 0 0 ≡ 102 → ⊥) → Follows (keyed st) (placed Rest r) p index
     key_other v k = key_rest (letter_one one 118 ∙ ne_eqb (get_or r.word 0 0) 118 v) (letter_one one 102 ∙ ne_eqb (get_or r.word 0 0) 102 k)
 
-    pub key_face : get_or r.word 0 0 ≡ 102 → Follows (keyed st) (placed 3 r) p index
+    pub key_face : get_or r.word 0 0 ≡ 102 → Follows (keyed st) (placed Between r) p index
     unfolding keyed
     key_face h =
         rw (letter_one one 118, letter_one one 102, h)
@@ -90,7 +91,7 @@ module _ {st : State} {r : Reader} {p : Pattern} {index : List ℕ} (f : Follows
 
     pub key_point : get_or r.word 0 0 ≡ 118 → {p' : Pattern} {filled : Filled}
         → (Kept st.mesh st.face.uses r.filled p index → Kept (with_point st.mesh st.line) st.face.uses filled p' index)
-        → Follows (keyed st) (facing 2 r.corners r.first r.last filled r) p' index
+        → Follows (keyed st) (facing Rest r.corners r.first r.last filled r) p' index
     unfolding keyed
     key_point h more =
         rw (letter_one one 118, h)
@@ -120,7 +121,7 @@ module _ {st : State} {r : Reader} {p : Pattern} {index : List ℕ} (f : Follows
   within : Reads st r p index
   within = f.going (omega arith)
 
-  pub corner_first : r.corners ≡ 0 → Follows (moved 3 (corner_at q st)) (facing 3 1 a a r.filled r) p index
+  pub corner_first : r.corners ≡ 0 → Follows (moved 3 (corner_at q st)) (facing Between 1 a a r.filled r) p index
   unfolding corner_at
   corner_first h =
       let none : st.face.corners ≡ 0 = omega (arith, within.corners) in
@@ -133,7 +134,7 @@ module _ {st : State} {r : Reader} {p : Pattern} {index : List ℕ} (f : Follows
 
   pub corner_next : (r.corners ≡ 0 → ⊥) → {n : ℕ} → n ≡ min (r.corners + 1) 3 → {p' : Pattern} {index' : List ℕ} {filled : Filled}
       → (Kept st.mesh st.face.uses r.filled p index → SideKept st.mesh st.face.uses filled p' index' r.last a)
-      → Follows (moved 3 (corner_at q st)) (facing 3 n r.first a filled r) p' index'
+      → Follows (moved 3 (corner_at q st)) (facing Between n r.first a filled r) p' index'
   unfolding corner_at side_to
   corner_next h is {p'} {index'} {filled} more =
       let some : 0 < st.face.corners = omega (arith, within.corners, h) in
@@ -161,11 +162,6 @@ module _ (st : State) where
   unfolding end_word
   end_none h k = rw (ne_eqb st.place 1 h, ne_eqb st.place 4 k)
 
-fault_high : (f : LineFault) → 30 ≤ fault_number f
-fault_high NotNumber = omega arith
-fault_high NotGiven = omega arith
-fault_high TooFew = omega arith
-
 module _ {st : State} {r : Reader} {p : Pattern} {index : List ℕ} (f : Follows st r p index) (at : st.place ≡ 4) where
   -- what it names, and what the reader is told of it
   abbrev Named : Result ℕ LineFault
@@ -183,7 +179,7 @@ module _ {st : State} {r : Reader} {p : Pattern} {index : List ℕ} (f : Follows
       let n : r.length - 0 ≡ min (length st.word) 11 = omega (arith, g.long) in
       rw (g.kept.points, n, g.word) (numbered_first (min (length st.mesh.points) 999999999) st.word)
 
-  pub end_not : {fault : LineFault} → Told ≡ Err fault → Follows (end_word st) (placed (fault_number fault) r) p index
+  pub end_not : {fault : LineFault} → Told ≡ Err fault → Follows (end_word st) (placed (Refused fault) r) p index
   end_not {fault} e =
       rw (end_corner st at, named_not (length st.mesh.points) st.word fault (sym told ∙ e))
       (record { line = f.line; place = refl; going = λ l. absurd (omega (arith, fault_high fault)) })

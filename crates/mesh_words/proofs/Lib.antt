@@ -1,3 +1,4 @@
+pub mod Places
 pub mod Naming
 pub mod Spelling
 pub mod Runs

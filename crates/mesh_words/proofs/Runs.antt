@@ -14,7 +14,9 @@ use Rattle.lists.proofs.Laws.{cases}
 use Rattle.mesh.specs.Mesh.{is_slash}
 use Rattle.mesh.specs.Reading.{State, ink, moved, spell, spelled}
 use Rattle.mesh_words.proofs.Spelling.{ink_first, ink_later, ink_word, spell_next, spell_over, spell_past, spell_slash, worded}
+use Rattle.mesh_words.proofs.Places.{place_is}
 use Rattle.mesh_words.specs.Following.{Follows, inks}
+use Rattle.mesh_words.specs.declared.Place.TheVariants.{Between, Start, Word}
 use Rattle.mesh_words.specs.declared.Reader.{Reader}
 use Rattle.pattern.specs.Contents.{Pattern}
 
@@ -85,12 +87,12 @@ ink_kept b st =
 
 -- in a word
 pub record Within (r : Reader) : Type 0 where
-  pub no_start : r.place ≡ 0 → ⊥
-  pub no_gap : r.place ≡ 3 → ⊥
+  pub no_start : r.place ≡ Start → ⊥
+  pub no_gap : r.place ≡ Between → ⊥
 
 module _ (b : ℕ) {st : State} {r : Reader} {p : Pattern} {index : List ℕ} (f : Follows st r p index) (w : Within r) where
   pub inked : (r' : Reader) → Follows (spell b st) r' p index → Follows (ink b st) r' p index
-  inked r' g = rw (ink_later b st (λ e. w.no_start (f.place ∙ e)) (λ e. w.no_gap (f.place ∙ e))) g
+  inked r' g = rw (ink_later b st (λ e. w.no_start (place_is (f.place ∙ e))) (λ e. w.no_gap (place_is (f.place ∙ e)))) g
 
 -- after a slash nothing changes
 pub inks_past : (s : List ℕ) {st : State} {r : Reader} {p : Pattern} {index : List ℕ} → Follows st r p index → Within r → r.slashed ≡ true → Follows (inks s st) r p index
@@ -125,7 +127,7 @@ module _ {from : Reader} {bytes : List ℕ} {r : Reader} {word : List ℕ} {n i 
         let v : Within (worded word n r.slashed r) = record { no_start = (within w).no_start; no_gap = (within w).no_gap } in
         rw (inks_next bytes i h st) (inked (get_or bytes i 0) g v (worded w' n' r.slashed r) (go (inks (take i bytes) st) p index g))
 
-    module _ (plain : r.place ≡ 4 → get_or bytes i 0 ≡ 47 → ⊥) where
+    module _ (plain : r.place ≡ Word → get_or bytes i 0 ≡ 47 → ⊥) where
       pub run_next : n < 11 → Run from bytes r (set word n (get_or bytes i 0)) (n + 1) (i + 1)
       run_next l = record {
         low = omega arith;
@@ -145,7 +147,7 @@ module _ {from : Reader} {bytes : List ℕ} {r : Reader} {word : List ℕ} {n i 
       }
 
     -- its slash: the rest is passed over
-    pub run_slash : r.place ≡ 4 → get_or bytes i 0 ≡ 47 → (st : State) (p : Pattern) (index : List ℕ) → Follows st from p index → Within from → Follows (inks bytes st) (worded word n true r) p index
+    pub run_slash : r.place ≡ Word → get_or bytes i 0 ≡ 47 → (st : State) (p : Pattern) (index : List ℕ) → Follows st from p index → Within from → Follows (inks bytes st) (worded word n true r) p index
     run_slash at is st p index f w =
         let g = u.follows st p index f w in
         let b = get_or bytes i 0 in

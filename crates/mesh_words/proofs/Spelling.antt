@@ -3,7 +3,7 @@ use Prim.Native.Nat.{◌+◌, ◌<◌, ◌≤◌, min, ℕ}
 use mathlib.Core.Bool.{Bool, ◌&&◌, ◌||◌, false, true}
 use mathlib.Core.List.{List, [], ◌++◌, ◌∷◌}
 use mathlib.Core.Logic.{⊎_elim}
-use mathlib.Core.Path.{◌∙◌, ◌≡◌, refl, sym}
+use mathlib.Core.Path.{◌∙◌, ◌≡◌, ap, refl, sym}
 use native.Mathlib.Omega.{arith}
 use lib.Dec.{eqb, ltb}
 use lib.ListN.{length, length-append, set}
@@ -14,7 +14,10 @@ use Rattle.mesh.specs.Reading.{Drawing, State, drawn, holding, ink, moved, relea
 use Rattle.mesh_draw.proofs.Tables.{tabled_next, tabled_over}
 use Rattle.mesh_draw.specs.Kept.{Kept, Tabled}
 use Rattle.mesh_draw.specs.declared.Filled.{Filled}
-use Rattle.mesh_words.specs.Following.{Follows, Reads}
+use Rattle.mesh_words.proofs.Places.{place_is}
+use Rattle.mesh_words.specs.Following.{Follows, Reads, place_number}
+use Rattle.mesh_words.specs.declared.Place.{Place}
+use Rattle.mesh_words.specs.declared.Place.TheVariants.{Word}
 use Rattle.mesh_words.specs.declared.Reader.{Reader}
 use Rattle.pattern.specs.Contents.{Pattern}
 
@@ -26,10 +29,10 @@ written h w n s r = record { line = r.line; place = r.place; held = h; word = w;
 abbrev pub worded : List ℕ → ℕ → Bool → Reader → Reader
 worded w n s r = written r.held w n s r
 
-abbrev pub facing : ℕ → ℕ → ℕ → ℕ → Filled → Reader → Reader
+abbrev pub facing : Place → ℕ → ℕ → ℕ → Filled → Reader → Reader
 facing k n a b f r = record { line = r.line; place = k; held = r.held; word = r.word; length = r.length; slashed = r.slashed; corners = n; first = a; last = b; filled = f }
 
-abbrev pub placed : ℕ → Reader → Reader
+abbrev pub placed : Place → Reader → Reader
 placed k r = facing k r.corners r.first r.last r.filled r
 
 module _ {st : State} {r : Reader} {p : Pattern} {index : List ℕ} (g : Reads st r p index) where
@@ -48,9 +51,9 @@ module _ {st : State} {r : Reader} {p : Pattern} {index : List ℕ} (g : Reads s
     kept = g.kept;
   }
 
-  pub reads_drawn : {k n a b : ℕ} {f : Filled} {m : Mesh} {d : Drawing} {p' : Pattern} {index' : List ℕ} → k < 5 → n ≡ min d.corners 3
+  pub reads_drawn : {k n a b : ℕ} {at : Place} {f : Filled} {m : Mesh} {d : Drawing} {p' : Pattern} {index' : List ℕ} → k < 5 → n ≡ min d.corners 3
       → (length m.points ≤ 2048 → 0 < d.corners → (a ≡ d.first) × (b ≡ d.last)) → (d.corners ≡ 0 → d.uses ≡ [])
-      → (k < 3 → d.corners ≡ 0) → Kept m d.uses f p' index' → Reads (moved k (drawn m d st)) (facing k n a b f r) p' index'
+      → (k < 3 → d.corners ≡ 0) → Kept m d.uses f p' index' → Reads (moved k (drawn m d st)) (facing at n a b f r) p' index'
   reads_drawn known corners ends begun idle kept = record {
     known = known;
     held = g.held;
@@ -64,8 +67,8 @@ module _ {st : State} {r : Reader} {p : Pattern} {index : List ℕ} (g : Reads s
     kept = kept;
   }
 
-  pub reads_moved : (k : ℕ) → k < 5 → (k < 3 → st.face.corners ≡ 0) → Reads (moved k st) (placed k r) p index
-  reads_moved k known idle = reads_drawn known g.corners (λ few some. let e = g.ends few some in (e.first, e.last)) g.begun idle g.kept
+  pub reads_moved : (at : Place) (k : ℕ) → k < 5 → (k < 3 → st.face.corners ≡ 0) → Reads (moved k st) (placed at r) p index
+  reads_moved at k known idle = reads_drawn known g.corners (λ few some. let e = g.ends few some in (e.first, e.last)) g.begun idle g.kept
 
 -- ---- a byte
 
@@ -102,17 +105,17 @@ module _ (b : ℕ) {st : State} {r : Reader} {p : Pattern} {index : List ℕ} (f
       rw (sym g.slashed ∙ h) (record { line = f.line; place = f.place; going = λ l. reads_written g g.held h g.long g.word }))
 
   module _ (unslashed : r.slashed ≡ false) where
-    pub spell_slash : r.place ≡ 4 → b ≡ 47 → Spells (worded r.word r.length true r)
+    pub spell_slash : r.place ≡ Word → b ≡ 47 → Spells (worded r.word r.length true r)
     spell_slash at is =
         spell_going r.word r.length true (λ g.
-        rw (sym g.slashed ∙ unslashed, eq-eqb st.place 4 (sym f.place ∙ at), eq-eqb b 47 is)
+        rw (sym g.slashed ∙ unslashed, eq-eqb st.place 4 (sym f.place ∙ ap place_number at), eq-eqb b 47 is)
         (record { line = f.line; place = f.place; going = λ l. reads_written g g.held refl g.long g.word }))
 
-    module _ (plain : r.place ≡ 4 → b ≡ 47 → ⊥) where
+    module _ (plain : r.place ≡ Word → b ≡ 47 → ⊥) where
       spell_more : (w : List ℕ) (n : ℕ) → (Reads st r p index → (n ≡ min (length (st.word ++ (b ∷ []))) 11) × Tabled 11 w (st.word ++ (b ∷ []))) → Spells (worded w n r.slashed r)
       spell_more w n more =
           spell_going w n r.slashed (λ g.
-          rw (sym g.slashed ∙ unslashed, not_slash st.place b (λ e. plain (f.place ∙ e)))
+          rw (sym g.slashed ∙ unslashed, not_slash st.place b (λ e. plain (place_is (f.place ∙ e))))
           (record { line = f.line; place = f.place; going = λ l. let m = more g in reads_written g g.held unslashed m.0 m.1 }))
 
       pub spell_over : 11 ≤ r.length → Spells r
@@ -128,8 +131,8 @@ module _ (b : ℕ) {st : State} {r : Reader} {p : Pattern} {index : List ℕ} (f
 -- ---- the first byte of a word, at another place
 
 module _ {st : State} {r : Reader} {p : Pattern} {index : List ℕ} (f : Follows st r p index) (going : st.place < 30) where
-  pub begun : (k : ℕ) → k < 5 → (k < 3 → st.place < 3) → Follows (spelled [] false (moved k st)) (worded r.word 0 false (placed k r)) p index
-  begun k known h = let g = f.going going in record { line = f.line; place = refl; going = λ l. reads_written (reads_moved g k known (λ b. g.idle (h b))) g.held refl refl refl }
+  pub begun : (at : Place) → let k = place_number at in k < 5 → (k < 3 → st.place < 3) → Follows (spelled [] false (moved k st)) (worded r.word 0 false (placed at r)) p index
+  begun at known h = let g = f.going going in record { line = f.line; place = refl; going = λ l. reads_written (reads_moved g at _ known (λ b. g.idle (h b))) g.held refl refl refl }
 
 module _ (b : ℕ) (st : State) where
   pub ink_first : st.place ≡ 0 → ink b st ≡ spell b (spelled [] false (moved 1 st))

@@ -1,9 +1,26 @@
 -- What a reader holds of the bytes of a mesh. Cited by inner contracts.
-use Rattle.std.specs.Prelude.{◌%◌, ◌<◌, ◌≤◌, min, ℕ, List, [], ◌∷◌, ◌≡◌, length}
-use Rattle.mesh.specs.Reading.{Drawing, State, ink}
+use Rattle.std.specs.Prelude.{◌%◌, ◌<◌, ◌≤◌, min, ℕ, List, [], ◌∷◌, ◌≡◌, eqb, leb, length}
+use Rattle.lists.specs.Lists.{pick}
+use Rattle.mesh.specs.Mesh.{fault_number}
+use Rattle.mesh.specs.Reading.{Drawing, State, fault_at, ink}
 use Rattle.mesh_draw.specs.Kept.{Kept, Tabled}
 use Rattle.pattern.specs.Contents.{Pattern}
+use Rattle.mesh_words.specs.declared.Place.{Place}
+use Rattle.mesh_words.specs.declared.Place.TheVariants.{Between, Key, Refused, Rest, Start, Word}
 use Rattle.mesh_words.specs.declared.Reader.{Reader}
+
+-- the number of a place, as the bytes in turn have it
+abbrev pub place_number : Place → ℕ
+place_number Start = 0
+place_number Key = 1
+place_number Rest = 2
+place_number Between = 3
+place_number Word = 4
+place_number (Refused f) = fault_number f
+
+-- the place of a number, any number
+abbrev pub place_in : ℕ → Place
+place_in n = pick (eqb n 0) Start (pick (eqb n 1) Key (pick (eqb n 3) Between (pick (eqb n 4) Word (pick (leb 30 n) (Refused (fault_at n)) Rest))))
 
 -- the first and the last point of the face that is being read
 pub record Ends (d : Drawing) (r : Reader) : Type 0 where
@@ -26,7 +43,7 @@ pub record Reads (st : State) (r : Reader) (p : Pattern) (index : List ℕ) : Ty
 -- a reader with its tables has come to this state
 pub record Follows (st : State) (r : Reader) (p : Pattern) (index : List ℕ) : Type 0 where
   pub line : r.line ≡ st.line % 18446744073709551616
-  pub place : r.place ≡ st.place
+  pub place : place_number r.place ≡ st.place
   pub going : st.place < 30 → Reads st r p index
 
 -- the bytes of a word in turn

@@ -5,45 +5,51 @@ ghost use Rattle.std.specs.Prelude.{false, List, [], ◌≡◌, ◌<◌, ◌≤�
 ghost use Rattle.mesh.specs.Mesh.{no_mesh};
 ghost use Rattle.mesh.specs.Reading.{State, corner_at, end_word, ink, keyed, moved, release, spell, spelled, start};
 ghost use Rattle.mesh_edges.specs.Index.{Indexed};
-ghost use Rattle.mesh_words.specs.Following.{Follows, inks};
+ghost use Rattle.mesh_words.specs.Following.{Follows, inks, place_number};
+ghost use Rattle.mesh_words.specs.declared.Place.TheVariants.{Between, Start};
 ghost use Rattle.pattern.specs.Contents.{Pattern};
 ghost use Rattle.store.specs.Store.{held};
 
-use mesh_corners::{corner_of, fault_number};
+use mesh::LineFault;
+use mesh_corners::corner_of;
 use mesh_draw::{Filled, add_point, add_side, no_mesh};
 use mesh_edges::Index;
 use store::{Spans, Tables};
 use words::saturated;
 
-// Places in a line: before its first word, in it, in what is passed over, between the words of an `f`, in one of them.
-// Once refused, the place is the number of the refusal: 30, 31, 32.
-pub const START: usize = 0;
+// A place in a line: before its first word, in it, in what is passed over, between the words of an `f`, in one of them; or
+// what is wrong with the line, once the mesh is refused.
+#[derive(Clone, Copy)]
+pub enum Place {
+    Start,
+    Key,
+    Rest,
+    Between,
+    Word,
+    Refused(LineFault),
+}
 
-pub const KEY: usize = 1;
-
-pub const REST: usize = 2;
-
-pub const BETWEEN: usize = 3;
-
-pub const WORD: usize = 4;
-
-// How far a mesh is read: the number of the line, modulo 2 to the 64th; the place in it; whether a carriage return is held
-// back; the first bytes of the word, up to its slash, how many, and whether the slash was met; of the face that is being
-// read how many points, 3 for more, the first and the last; how far the tables are filled.
+// How far a mesh is read: the number of the line, modulo 2 to the 64th; how many bytes of the word are kept; of the face that
+// is being read how many points, 3 for more, which is all that is asked of them; how far the tables are filled; of the face
+// the first point and the last; the place in the line; whether a carriage return is held back, and whether the word's slash
+// was met, each a plain yes or no; the first bytes of the word, up to its slash, in fixed memory, since there is no heap.
+// The larger fields come first: a reader goes from hand to hand by value, and is copied a tenth faster so.
 #[derive(Clone, Copy)]
 pub struct Reader {
     pub line: u64,
-    pub place: usize,
-    pub held: bool,
-    pub word: [u8; 11],
     pub length: usize,
-    pub slashed: bool,
     pub corners: usize,
+    pub filled: Filled,
     pub first: u16,
     pub last: u16,
-    pub filled: Filled,
+    pub place: Place,
+    pub held: bool,
+    pub slashed: bool,
+    pub word: [u8; 11],
 }
 
+// Tables, spans and index are lent one by one: had a struct these three references, each function would have to promise of
+// each that it is still the one that was lent.
 impl Reader {
     // Before the first byte.
     pub fn new() -> Reader
@@ -51,7 +57,7 @@ impl Reader {
     {
         Reader {
             line: 1,
-            place: START,
+            place: Place::Start,
             held: false,
             word: [0; 11],
             length: 0,
@@ -70,7 +76,7 @@ impl Reader {
         if self.slashed {
             return self;
         }
-        if self.place == WORD {
+        if let Place::Word = self.place {
             if b == b'/' {
                 self.slashed = true;
                 return self;
@@ -86,8 +92,8 @@ impl Reader {
     }
 
     // The first byte of a word.
-    fn begin(mut self, place: usize, b: u8) -> Reader
-        ensures { (st : State) (p : Pattern) (index : List ℕ) → Follows st self p index → st.place < 30 → place < 5 → (place < 3 → st.place < 3) → Follows (spell b (spelled [] false (moved place st))) result p index }
+    fn begin(mut self, place: Place, b: u8) -> Reader
+        ensures { (st : State) (p : Pattern) (index : List ℕ) → Follows st self p index → st.place < 30 → place_number place < 5 → (place_number place < 3 → st.place < 3) → Follows (spell b (spelled [] false (moved (place_number place) st))) result p index }
     {
         self.place = place;
         self.length = 0;
@@ -99,18 +105,16 @@ impl Reader {
     pub fn ink(self, b: u8) -> Reader
         ensures { (st : State) (p : Pattern) (index : List ℕ) → Follows st self p index → Follows (ink b st) result p index }
     {
-        if self.place == START {
-            return self.begin(KEY, b);
+        match self.place {
+            Place::Start => self.begin(Place::Key, b),
+            Place::Between => self.begin(Place::Word, b),
+            _ => self.spell(b),
         }
-        if self.place == BETWEEN {
-            return self.begin(WORD, b);
-        }
-        self.spell(b)
     }
 
     // More bytes of a word. Its table is filled beside the reader, which is slow to copy.
     fn spell_all(mut self, bytes: &[u8]) -> Reader
-        ensures { (st : State) (p : Pattern) (index : List ℕ) → Follows st self p index → (self.place ≡ 0 → ⊥) → (self.place ≡ 3 → ⊥) → Follows (inks bytes.now st) result p index }
+        ensures { (st : State) (p : Pattern) (index : List ℕ) → Follows st self p index → (self.place ≡ Start → ⊥) → (self.place ≡ Between → ⊥) → Follows (inks bytes.now st) result p index }
     {
         if self.slashed {
             return self;
@@ -119,7 +123,7 @@ impl Reader {
         let mut word = self.word;
         let mut n = self.length;
         for b in bytes {
-            if place == WORD {
+            if let Place::Word = place {
                 if *b == b'/' {
                     self.word = word;
                     self.length = n;
@@ -164,13 +168,13 @@ impl Reader {
     fn key(mut self, t: &mut Tables) -> Reader
         ensures { (st : State) (spans : List Float) (index : List ℕ) → Follows st self (held t.old spans) index → st.place ≡ 1 → Follows (keyed st) result (held t.new spans) index }
     {
-        self.place = REST;
+        self.place = Place::Rest;
         if self.length != 1 {
             return self;
         }
         let b = self.word[0];
         if b == b'f' {
-            self.place = BETWEEN;
+            self.place = Place::Between;
             return self;
         }
         if b != b'v' {
@@ -187,7 +191,7 @@ impl Reader {
     {
         let k = self.corners;
         let last = self.last;
-        self.place = BETWEEN;
+        self.place = Place::Between;
         self.last = p;
         if k == 0 {
             self.corners = 1;
@@ -213,7 +217,7 @@ impl Reader {
         let named = corner_of(&bytes[0..n], self.filled.points);
         match named {
             Err(f) => {
-                self.place = fault_number(f);
+                self.place = Place::Refused(f);
                 self
             }
             Ok(p) => self.corner(saturated(p as u64), t, spans, index),
@@ -224,12 +228,10 @@ impl Reader {
     pub fn end_word(self, t: &mut Tables, spans: &mut Spans, index: &mut Index) -> Reader
         ensures { (st : State) → Follows st self (held t.old spans.old) index.old → Follows (end_word st) result (held t.new spans.new) index.new }
     {
-        if self.place == KEY {
-            return self.key(t);
+        match self.place {
+            Place::Key => self.key(t),
+            Place::Word => self.end_corner(t, spans, index),
+            _ => self,
         }
-        if self.place == WORD {
-            return self.end_corner(t, spans, index);
-        }
-        self
     }
 }

@@ -4,14 +4,15 @@
 
 ghost use Rattle.std.specs.Prelude.{◌≡◌, [], ◌∷◌, ◌+◌, ◌<◌, ◌≤◌, suc, length, set};
 ghost use Rattle.lists.specs.Lists.{only};
-ghost use Rattle.edge.specs.Uses.{front_of, back_of, edge_number};
+ghost use Rattle.edge.specs.OfEnds.{back_in, front_in};
+ghost use Rattle.edge.specs.Uses.{edge_number};
 ghost use Rattle.wire.specs.Named.{Named};
 ghost use Rattle.shell.specs.Openings.{look_up, chain, keep};
 ghost use Rattle.shell.specs.OnePass.{pass};
 ghost use Rattle.openings.specs.Slots.{slots, kept_in, Holding};
 ghost use Rattle.openings.specs.Passes.{is_odd, Keepable, Followed, Ready, Passed};
 
-use edge::{back_of, front_of};
+use edge::Ends;
 
 // What a lookup answers: the use that is kept, or none; with the count of lookups.
 #[derive(Clone, Copy)]
@@ -64,14 +65,13 @@ pub fn look_up(kept: &mut [u16], p: usize, lookups: usize) -> Looked
 pub fn follow_from(
     kept: &mut [u16],
     p: usize,
-    fronts: &[u16],
-    backs: &[u16],
+    ends: &Ends,
     out: &mut [u16],
     at: usize,
     lookups: usize,
 ) -> Step
-    requires { (p < length kept.old) × Holding fronts.now backs.now kept.old × (at + kept_in kept.old ≤ length out.old) × (lookups + kept_in kept.old < 1000000) }
-    ensures { Followed (chain (front_of fronts.now backs.now) (back_of fronts.now backs.now) (suc (length kept.old)) p (slots kept.old) lookups) fronts.now backs.now kept.old out.old at lookups kept.new out.new result }
+    requires { (p < length kept.old) × Holding ends.now.fronts.now ends.now.backs.now kept.old × (at + kept_in kept.old ≤ length out.old) × (lookups + kept_in kept.old < 1000000) }
+    ensures { Followed (chain (front_in ends.now) (back_in ends.now) (suc (length kept.old)) p (slots kept.old) lookups) ends.now.fronts.now ends.now.backs.now kept.old out.old at lookups kept.new out.new result }
 {
     let mut q = p;
     let mut m = at;
@@ -83,7 +83,7 @@ pub fn follow_from(
         let Some(u) = l.answer else { break };
         out[m] = u;
         m += 1;
-        q = back_of(u, fronts, backs);
+        q = ends.back_of(u);
     }
     Step { at: m, lookups: n }
 }
@@ -97,15 +97,15 @@ pub fn keep_at(kept: &mut [u16], p: usize, u: u16)
 }
 
 // Keeps the uses of the part whose edges have an odd number of uses, each at its front, in sequence.
-pub fn keep_part(kept: &mut [u16], part: &[u16], odd: &[u8], fronts: &[u16], backs: &[u16])
-    requires { Keepable fronts.now backs.now odd.now part.now kept.old }
-    ensures kept_after { slots kept.new ≡ keep (front_of fronts.now backs.now) (back_of fronts.now backs.now) (only (is_odd odd.now) part.now) (slots kept.old) }
-    ensures holding { Holding fronts.now backs.now kept.new }
+pub fn keep_part(kept: &mut [u16], part: &[u16], odd: &[u8], ends: &Ends)
+    requires { Keepable ends.now.fronts.now ends.now.backs.now odd.now part.now kept.old }
+    ensures kept_after { slots kept.new ≡ keep (front_in ends.now) (back_in ends.now) (only (is_odd odd.now) part.now) (slots kept.old) }
+    ensures holding { Holding ends.now.fronts.now ends.now.backs.now kept.new }
 {
     for &u in part {
         let e = (u % 32768) as usize;
         if odd[e] / 16 % 2 == 1 {
-            let p = front_of(u, fronts, backs);
+            let p = ends.front_of(u);
             keep_at(kept, p, u);
         }
     }
@@ -115,25 +115,24 @@ pub fn keep_part(kept: &mut [u16], part: &[u16], odd: &[u8], fronts: &[u16], bac
 fn walk_use(
     kept: &mut [u16],
     u: u16,
-    fronts: &[u16],
-    backs: &[u16],
+    ends: &Ends,
     out: &mut [u16],
     lens: &mut [u16],
     state: Walked,
 ) -> Walked
-    requires u_in_bounds { (edge_number u < length fronts.now) × (front_of fronts.now backs.now u < 2048) }
-    requires ready { Ready fronts.now backs.now kept.old out.old lens.old state }
-    ensures passed { Passed (pass (front_of fronts.now backs.now) (back_of fronts.now backs.now) (u ∷ []) (slots kept.old) state.lookups) out.old lens.old state kept.new out.new lens.new result }
-    ensures ready_2 { Ready fronts.now backs.now kept.new out.new lens.new result }
+    requires u_in_bounds { (edge_number u < length ends.now.fronts.now) × (front_in ends.now u < 2048) }
+    requires ready { Ready ends.now.fronts.now ends.now.backs.now kept.old out.old lens.old state }
+    ensures passed { Passed (pass (front_in ends.now) (back_in ends.now) (u ∷ []) (slots kept.old) state.lookups) out.old lens.old state kept.new out.new lens.new result }
+    ensures ready_2 { Ready ends.now.fronts.now ends.now.backs.now kept.new out.new lens.new result }
 {
-    let p = front_of(u, fronts, backs);
+    let p = ends.front_of(u);
     if kept[p] == 65535 {
         return state;
     }
     let at = state.at;
     let openings = state.openings;
     let lookups = state.lookups;
-    let s = follow_from(kept, p, fronts, backs, out, at, lookups);
+    let s = follow_from(kept, p, ends, out, at, lookups);
     let end = s.at;
     lens[openings] = (end - at) as u16;
     Walked {
@@ -148,20 +147,19 @@ fn walk_use(
 pub fn walk_part(
     kept: &mut [u16],
     part: &[u16],
-    fronts: &[u16],
-    backs: &[u16],
+    ends: &Ends,
     out: &mut [u16],
     lens: &mut [u16],
     state: Walked,
 ) -> Walked
-    requires named { Named fronts.now backs.now part.now }
-    requires ready { Ready fronts.now backs.now kept.old out.old lens.old state }
-    ensures passed { Passed (pass (front_of fronts.now backs.now) (back_of fronts.now backs.now) part.now (slots kept.old) state.lookups) out.old lens.old state kept.new out.new lens.new result }
-    ensures ready_2 { Ready fronts.now backs.now kept.new out.new lens.new result }
+    requires named { Named ends.now.fronts.now ends.now.backs.now part.now }
+    requires ready { Ready ends.now.fronts.now ends.now.backs.now kept.old out.old lens.old state }
+    ensures passed { Passed (pass (front_in ends.now) (back_in ends.now) part.now (slots kept.old) state.lookups) out.old lens.old state kept.new out.new lens.new result }
+    ensures ready_2 { Ready ends.now.fronts.now ends.now.backs.now kept.new out.new lens.new result }
 {
     let mut w = state;
     for &u in part {
-        w = walk_use(kept, u, fronts, backs, out, lens, w);
+        w = walk_use(kept, u, ends, out, lens, w);
     }
     w
 }

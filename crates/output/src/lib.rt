@@ -1,4 +1,6 @@
-// What the programs print: texts, decimal numbers and the line of a refusal, as bytes.
+// What the programs print: texts, decimal numbers and the line of a refusal, as bytes. A function that writes takes the
+// place and returns the place after it, and a contract says by `sets` which bytes stand where; a struct of bytes and place
+// with methods would not be plainer, since each contract and each proof would still speak of both.
 #![tactic(auto)]
 
 ghost use Rattle.std.specs.Prelude.{◌≡◌, ◌++◌, ◌+◌, ◌≤◌, length};

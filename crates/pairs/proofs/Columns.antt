@@ -3,7 +3,6 @@ use Prim.Native.Nat.{◌+◌, ◌-◌, ◌<◌, ◌≤◌, suc, ℕ}
 use mathlib.Core.Bool.{Bool, false, true}
 use mathlib.Core.List.{List, map}
 use mathlib.Core.Path.{◌∙◌, ◌≡◌, ap, refl}
-use native.Mathlib.Nat.{sub-zero}
 use native.Mathlib.Omega.{arith}
 use lib.Dec.{leb}
 use lib.ListN.{drop, get_or, length, length-replicate, replicate, take}
@@ -17,7 +16,8 @@ use Rattle.shell.specs.Shells.{face_number}
 use Rattle.pairs.proofs.Loops.{pairs_all, pairs_few}
 use Rattle.pairs.proofs.Once.{no_dup_once}
 use Rattle.pairs.proofs.Room.{Of, rows_room, rows_short, rows_shows}
-use Rattle.pairs.specs.Pairs.{Listed, Pairs, Parted, Rows, Showing, has_wires_at, lens_at, pairs_in, pairs_of}
+use Rattle.pairs.specs.declared.Pairs.{Pairs}
+use Rattle.pairs.specs.Pairs.{Listed, Parted, Rows, Showing, has_wires_at, lens_at, pairs_in, pairs_of}
 
 -- a list stored from the front of an array of 0
 pub sets_padded : (n : ℕ) (xs : List ℕ) → length xs ≤ n → sets (replicate n 0) 0 xs ≡ padded n 0 xs
@@ -72,35 +72,35 @@ module _ {listings uses turned starts wires firsts : List ℕ} (s : Showing list
     pairs_padded : pairs ≡ padded 512 0 (pairs_in listings firsts)
     pairs_padded = is ∙ sets_padded 512 ps showing_few
 
-    pub first_pairs : take (number - 0) (drop 0 pairs) ≡ pairs_in listings firsts
-    first_pairs = rw (sub-zero number, n, pairs_padded) (take-append_seam ps (replicate (512 - length ps) 0))
+    pub first_pairs : take number pairs ≡ pairs_in listings firsts
+    first_pairs = rw (n, pairs_padded) (take-append_seam ps (replicate (512 - length ps) 0))
 
     pub first_end_lem : number ≤ length pairs
     first_end_lem = omega (arith, ap length is, length-sets (replicate 512 0) 0 ps, length-replicate {A = ℕ} 512 0, showing_few)
 
-    pub first_few : length (take (number - 0) (drop 0 pairs)) ≤ 512
+    pub first_few : length (take number pairs) ≤ 512
     first_few = omega (arith, ap length first_pairs, showing_few)
 
-    pub uses_parted : Parted uses turned starts (take (number - 0) (drop 0 pairs))
+    pub uses_parted : Parted uses turned starts (take number pairs)
     uses_parted = rw first_pairs (rows_parted s.shown (omega arith) ps of_faces)
 
-    pub wires_parted : Parted wires wires firsts (take (number - 0) (drop 0 pairs))
+    pub wires_parted : Parted wires wires firsts (take number pairs)
     wires_parted = rw first_pairs (rows_parted s.wired (omega arith) ps of_faces)
 
-    pub uses_fit : (out : List ℕ) → out ≡ replicate 8192 0 → length (parts_of uses turned starts (take (number - 0) (drop 0 pairs))) ≤ length out
+    pub uses_fit : (out : List ℕ) → out ≡ replicate 8192 0 → length (parts_of uses turned starts (take number pairs)) ≤ length out
     uses_fit out e = rw (first_pairs, e, length-replicate {A = ℕ} 8192 0) uses_room
 
-    pub wires_fit : (out : List ℕ) → out ≡ replicate 2048 0 → length (parts_of wires wires firsts (take (number - 0) (drop 0 pairs))) ≤ length out
+    pub wires_fit : (out : List ℕ) → out ≡ replicate 2048 0 → length (parts_of wires wires firsts (take number pairs)) ≤ length out
     wires_fit out e = rw (first_pairs, e, length-replicate {A = ℕ} 2048 0) wires_room
 
     -- the columns
     pub built : {wiresAll usesAll : ℕ} {counts spans lens₀ lens shown₀ shown : List ℕ} → lens₀ ≡ replicate 2048 0 → shown₀ ≡ replicate 8192 0
-        → counts ≡ padded 512 0 (map (λ (l : ℕ). length (part_at wires wires firsts l)) (take (number - 0) (drop 0 pairs)))
-        → spans ≡ padded 512 0 (map (λ (l : ℕ). length (part_at uses turned starts l)) (take (number - 0) (drop 0 pairs)))
-        → lens ≡ sets lens₀ 0 (parts_of wires wires firsts (take (number - 0) (drop 0 pairs)))
-        → wiresAll ≡ length (parts_of wires wires firsts (take (number - 0) (drop 0 pairs)))
-        → shown ≡ sets shown₀ 0 (parts_of uses turned starts (take (number - 0) (drop 0 pairs)))
-        → usesAll ≡ length (parts_of uses turned starts (take (number - 0) (drop 0 pairs)))
+        → counts ≡ padded 512 0 (map (λ (l : ℕ). length (part_at wires wires firsts l)) (take number pairs))
+        → spans ≡ padded 512 0 (map (λ (l : ℕ). length (part_at uses turned starts l)) (take number pairs))
+        → lens ≡ sets lens₀ 0 (parts_of wires wires firsts (take number pairs))
+        → wiresAll ≡ length (parts_of wires wires firsts (take number pairs))
+        → shown ≡ sets shown₀ 0 (parts_of uses turned starts (take number pairs))
+        → usesAll ≡ length (parts_of uses turned starts (take number pairs))
         → ◌≡◌ {A = Pairs} (record { number = number; wires = wiresAll; uses = usesAll; pairs = pairs; counts = counts; spans = spans; lens = lens; shown = shown })
         (pairs_of listings uses turned starts wires firsts)
     unfolding pairs_of

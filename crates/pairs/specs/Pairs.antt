@@ -3,26 +3,7 @@ use Rattle.std.specs.Prelude.{ℕ, ◌*◌, ◌+◌, ◌/◌, ◌<◌, ◌≤◌
 use Rattle.lists.specs.Lists.{flat, once, only, padded, pick}
 use Rattle.listing.specs.Parts.{Shows, between, part_at}
 use Rattle.shell.specs.Shells.{face_number}
-use Rattle.pairs.specs.declared.PairCounts.{PairCounts}
-
--- the pairs of a shell, with their wires and uses
-pub record Pairs : Type 0 where
-  -- how many pairs
-  pub number : ℕ
-  -- how many wires in all
-  pub wires : ℕ
-  -- how many uses in all
-  pub uses : ℕ
-  -- the pairs: a face's number, plus 32,768 if reversed
-  pub pairs : List ℕ
-  -- how many wires each has
-  pub counts : List ℕ
-  -- how many uses each shows
-  pub spans : List ℕ
-  -- how many uses each wire has
-  pub lens : List ℕ
-  -- the uses
-  pub shown : List ℕ
+use Rattle.pairs.specs.declared.Pairs.{Pairs}
 
 -- the face of a listing has wires; `firsts` says where the wires of each face begin
 abbrev pub has_wires_at : List ℕ → ℕ → Bool
@@ -51,22 +32,18 @@ pairs_of listings uses turned starts wires firsts =
       shown = padded 8192 0 (flat (map (part_at uses turned starts) ps));
     }
 
--- the same as the code has them: the numbers and the columns
-abbrev pub pairs_with : PairCounts → List ℕ → List ℕ → List ℕ → List ℕ → List ℕ → Pairs
-pairs_with r pairs counts spans lens shown = record {
-  number = r.number;
-  wires = r.wires;
-  uses = r.uses;
-  pairs = pairs;
-  counts = counts;
-  spans = spans;
-  lens = lens;
-  shown = shown;
+-- no pairs
+abbrev pub no_pairs : Pairs
+no_pairs = record {
+  number = 0;
+  wires = 0;
+  uses = 0;
+  pairs = replicate 512 0;
+  counts = replicate 512 0;
+  spans = replicate 512 0;
+  lens = replicate 2048 0;
+  shown = replicate 8192 0;
 }
-
--- columns with nothing written
-abbrev pub Cleared : List ℕ → List ℕ → List ℕ → List ℕ → List ℕ → Type 0
-Cleared pairs counts spans lens shown = (pairs ≡ replicate 512 0) × (counts ≡ replicate 512 0) × (spans ≡ replicate 512 0) × (lens ≡ replicate 2048 0) × (shown ≡ replicate 8192 0)
 
 -- the parts of the faces follow each other in both columns, up to place `most` at most
 pub record Rows (uses turned starts : List ℕ) (faces most : ℕ) : Type 0 where

@@ -6,19 +6,26 @@ ghost use Rattle.std.specs.Prelude.{◌≡◌, map, ℕ, ◌+◌, ◌<◌, ◌�
 ghost use Rattle.std.proofs.lemmas.List.Edits.{sets};
 ghost use Rattle.lists.specs.Lists.{padded};
 ghost use Rattle.lists.specs.Marks.{stamped};
+ghost use Rattle.listing.specs.OfParts.{of_parts};
 ghost use Rattle.listing.specs.Parts.{part_at, parts_of};
-ghost use Rattle.pairs.specs.Pairs.{Cleared, has_wires_at, is_new, Listed, mark_of, new_pair, pairs_in, pairs_of, pairs_with, Parted, Showing};
+ghost use Rattle.pairs.specs.Pairs.{has_wires_at, is_new, Listed, mark_of, new_pair, no_pairs, pairs_in, pairs_of, Parted, Showing};
 
 use face::FaceID;
-use listing::part_of;
-use words::{copy_u16s, index};
+use listing::Parts;
+use words::copy_to;
 
-// How many pairs a shell has, how many wires and how many uses they have in all.
-#[derive(Clone, Copy)]
-pub struct PairCounts {
+// The pairs of a shell, with their wires and uses: how many of each; the pairs, how many wires each has
+// and how many uses each shows; how many uses each wire has; the uses. The columns are 0 after the last.
+#[derive(Drop)]
+pub struct Pairs {
     pub number: usize,
     pub wires: usize,
     pub uses: usize,
+    pub pairs: [u16; 512],
+    pub counts: [u16; 512],
+    pub spans: [u16; 512],
+    pub lens: [u16; 2048],
+    pub shown: [u16; 8192],
 }
 
 // Whether the face of a listing has wires.
@@ -27,7 +34,7 @@ fn has_wires(firsts: &[usize], l: u16) -> bool
     ensures { result ≡ has_wires_at firsts.now l }
 {
     let face = FaceID::of_listing(l);
-    let f = index(face.0);
+    let f = usize::from(face.0);
     firsts[f] < firsts[f + 1]
 }
 
@@ -35,7 +42,7 @@ fn has_wires(firsts: &[usize], l: u16) -> bool
 fn mark_of(l: u16) -> usize
     ensures { result ≡ mark_of l }
 {
-    index(l % 32768) * 2 + index(l / 32768)
+    usize::from(l % 32768) * 2 + usize::from(l / 32768)
 }
 
 // Whether a listing makes a pair that has no mark yet.
@@ -88,19 +95,13 @@ fn short(n: usize) -> u16
 }
 
 // Writes how many each pair shows, from the front on.
-fn put_spans<'a>(
-    pairs: &[u16],
-    uses: &'a [u16],
-    turned: &'a [u16],
-    starts: &[usize],
-    out: &mut [u16],
-)
+fn put_spans(pairs: &[u16], parts: &Parts, out: &mut [u16])
     requires pairs_len_bound { (length pairs.now ≤ 512) × (out.old ≡ replicate 512 0) }
-    requires parted { Parted uses.now turned.now starts.now pairs.now }
-    ensures { out.new ≡ padded 512 0 (map (λ (l : ℕ). length (part_at uses.now turned.now starts.now l)) pairs.now) }
+    requires parted { of_parts Parted parts.now pairs.now }
+    ensures { out.new ≡ padded 512 0 (map (λ (l : ℕ). length (of_parts part_at parts.now l)) pairs.now) }
 {
     for (k, &pair) in pairs.iter().enumerate() {
-        let part = part_of(uses, turned, starts, pair);
+        let part = parts.part(pair);
         out[k] = short(part.len());
     }
 }
@@ -111,58 +112,58 @@ fn put_part(out: &mut [u16], at: usize, part: &[u16]) -> usize
     ensures out_after { out.new ≡ sets out.old at part.now }
     ensures value { result ≡ at + length part.now }
 {
-    copy_u16s(part, out, at);
+    copy_to(part, out, at);
     at + part.len()
 }
 
 // Writes what the pairs show, one after the other, from the front on. Returns how many they are.
-fn put_parts<'a>(
-    pairs: &[u16],
-    uses: &'a [u16],
-    turned: &'a [u16],
-    starts: &[usize],
-    out: &mut [u16],
-) -> usize
-    requires pairs_in_bounds { length (parts_of uses.now turned.now starts.now pairs.now) ≤ length out.old }
-    requires parted { Parted uses.now turned.now starts.now pairs.now }
-    ensures out_after { out.new ≡ sets out.old 0 (parts_of uses.now turned.now starts.now pairs.now) }
-    ensures value { result ≡ length (parts_of uses.now turned.now starts.now pairs.now) }
+fn put_parts(pairs: &[u16], parts: &Parts, out: &mut [u16]) -> usize
+    requires pairs_in_bounds { length (of_parts parts_of parts.now pairs.now) ≤ length out.old }
+    requires parted { of_parts Parted parts.now pairs.now }
+    ensures out_after { out.new ≡ sets out.old 0 (of_parts parts_of parts.now pairs.now) }
+    ensures value { result ≡ length (of_parts parts_of parts.now pairs.now) }
 {
     let mut at: usize = 0;
     for &pair in pairs {
-        at = put_part(out, at, part_of(uses, turned, starts, pair));
+        at = put_part(out, at, parts.part(pair));
     }
     at
 }
 
-// Writes the pairs of the listings: the pairs, how many wires each has and how many uses each shows;
-// how many uses each wire has; the uses. `starts` says where the uses of each face begin, in `uses`
-// and in `turned`; `firsts` says where its wires begin in `wires`.
-pub fn shell_pairs<'a>(
-    listings: &[u16],
-    uses: &'a [u16],
-    turned: &'a [u16],
-    starts: &[usize],
-    wires: &[u16],
-    firsts: &[usize],
-    pairs: &mut [u16],
-    counts: &mut [u16],
-    spans: &mut [u16],
-    lens: &mut [u16],
-    shown: &mut [u16],
-) -> PairCounts
-    requires showing { Showing listings.now uses.now turned.now starts.now wires.now firsts.now }
-    requires cleared { Cleared pairs.old counts.old spans.old lens.old shown.old }
-    ensures { pairs_with result pairs.new counts.new spans.new lens.new shown.new ≡ pairs_of listings.now uses.now turned.now starts.now wires.now firsts.now }
-{
-    let number = distinct(listings, firsts, pairs);
-    put_spans(&pairs[0..number], wires, wires, firsts, counts);
-    put_spans(&pairs[0..number], uses, turned, starts, spans);
-    let wires_in_all = put_parts(&pairs[0..number], wires, wires, firsts, lens);
-    let uses_in_all = put_parts(&pairs[0..number], uses, turned, starts, shown);
-    PairCounts {
-        number: number,
-        wires: wires_in_all,
-        uses: uses_in_all,
+impl Pairs {
+    // No pairs.
+    pub fn new() -> Pairs
+        ensures { result ≡ no_pairs }
+    {
+        Pairs {
+            number: 0,
+            wires: 0,
+            uses: 0,
+            pairs: [0u16; 512],
+            counts: [0u16; 512],
+            spans: [0u16; 512],
+            lens: [0u16; 2048],
+            shown: [0u16; 8192],
+        }
+    }
+
+    // Writes the pairs of the listings. `parts` has the uses that listings show; `firsts` says where the
+    // wires of each face begin in `wires`.
+    pub fn fill(&mut self, listings: &[u16], parts: &Parts, wires: &[u16], firsts: &[usize])
+        requires showing { Showing listings.now parts.now.along.now parts.now.back.now parts.now.starts.now wires.now firsts.now }
+        requires none { self.old ≡ no_pairs }
+        ensures { self.new ≡ pairs_of listings.now parts.now.along.now parts.now.back.now parts.now.starts.now wires.now firsts.now }
+    {
+        self.number = distinct(listings, firsts, &mut self.pairs);
+        let listed = &self.pairs[..self.number];
+        let lengths = Parts {
+            along: wires,
+            back: wires,
+            starts: firsts,
+        };
+        put_spans(listed, &lengths, &mut self.counts);
+        put_spans(listed, parts, &mut self.spans);
+        self.wires = put_parts(listed, &lengths, &mut self.lens);
+        self.uses = put_parts(listed, parts, &mut self.shown);
     }
 }

@@ -7,7 +7,7 @@ use mathlib.Core.Logic.{⊎_elim}
 use mathlib.Core.Path.{◌∙◌, ◌≡◌, ap, sym}
 use native.Mathlib.Omega.{arith}
 use lib.Dec.{eqb, leb, ltb}
-use lib.ListN.{get_or, length, length-map, take}
+use lib.ListN.{get_or, length, length-map, length-take, take}
 use lib.Seq.{get_or-take, length-take-le}
 use borrow.Author.Tests.{eqb-true, ltb-true}
 use Rattle.edge.specs.Edges.{back_number, front_number}
@@ -67,56 +67,23 @@ front_low fronts backs n u h f b =
     (λ (r : leb 32768 u ≡ false). rw r (f (edge_number u) h))
     (cases (leb 32768 u))
 
-module _ {counts fronts backs uses wires faces shells listings : List ℕ} (c : Checkable counts fronts backs uses wires faces shells listings) where
-  abbrev E : List ℕ
-  E = take (get_or counts 1 0) fronts
+module _ {fronts backs wires faces shells : List ℕ} (c : Checkable fronts backs wires faces shells) (uses listings : List ℕ) where
+  pub columns_first : first (column_faults fronts backs uses wires faces shells listings) ≡ and_then (first (list_faults (length fronts) uses wires faces shells listings)) (first (face_rule fronts backs 0 (split faces (split wires uses))))
+  columns_first = first_append (list_faults (length fronts) uses wires faces shells listings) (face_rule fronts backs 0 (split faces (split wires uses)))
 
-  abbrev B : List ℕ
-  B = take (get_or counts 1 0) backs
+  pub columns_refused : (f : Refusal) → first (list_faults (length fronts) uses wires faces shells listings) ≡ Err f → Err f ≡ first (column_faults fronts backs uses wires faces shells listings)
+  columns_refused f h = sym (columns_first ∙ ap (λ (r : Result Unit Refusal). and_then r (first (face_rule fronts backs 0 (split faces (split wires uses))))) h)
 
-  abbrev U : List ℕ
-  U = take (get_or counts 2 0) uses
+  module _ (ok : list_faults (length fronts) uses wires faces shells listings ≡ []) where
+    pub columns_passed : first (face_rule fronts backs 0 (split faces (split wires uses))) ≡ first (column_faults fronts backs uses wires faces shells listings)
+    columns_passed = sym (columns_first ∙ ap (λ (fs : List Refusal). and_then (first fs) (first (face_rule fronts backs 0 (split faces (split wires uses))))) ok)
 
-  abbrev W : List ℕ
-  W = take (get_or counts 3 0) wires
-
-  abbrev F : List ℕ
-  F = take (get_or counts 4 0) faces
-
-  abbrev S : List ℕ
-  S = take (get_or counts 5 0) shells
-
-  abbrev L : List ℕ
-  L = take (get_or counts 6 0) listings
-
-  fronts_taken : length E ≡ get_or counts 1 0
-  fronts_taken = length-take-le (get_or counts 1 0) fronts c.fronts_long
-
-  pub columns_first : first (column_faults E B U W F S L) ≡ and_then (first (list_faults (get_or counts 1 0) U W F S L)) (first (face_rule E B 0 (split F (split W U))))
-  columns_first = rw fronts_taken (first_append (list_faults (get_or counts 1 0) U W F S L) (face_rule E B 0 (split F (split W U))))
-
-  pub columns_refused : (f : Refusal) → first (list_faults (get_or counts 1 0) U W F S L) ≡ Err f → Err f ≡ first (column_faults E B U W F S L)
-  columns_refused f h = sym (columns_first ∙ ap (λ (r : Result Unit Refusal). and_then r (first (face_rule E B 0 (split F (split W U))))) h)
-
-  module _ (ok : list_faults (get_or counts 1 0) U W F S L ≡ []) where
-    pub columns_passed : first (face_rule E B 0 (split F (split W U))) ≡ first (column_faults E B U W F S L)
-    columns_passed = sym (columns_first ∙ ap (λ (fs : List Refusal). and_then (first fs) (first (face_rule E B 0 (split F (split W U))))) ok)
-
-    pub columns_wires : sum W ≡ get_or counts 2 0
-    columns_wires = lists_wires (get_or counts 1 0) U W F S L ok ∙ length-take-le (get_or counts 2 0) uses c.uses_long
-
-    pub columns_faces : sum F ≡ get_or counts 3 0
-    columns_faces = lists_faces (get_or counts 1 0) U W F S L ok ∙ length-take-le (get_or counts 3 0) wires c.wires_long
-
-    pub columns_named : Named E B U
-    columns_named =
-        let below : (xs : List ℕ) → ((e : ℕ) → e < get_or counts 1 0 → get_or xs e 0 < 2048) → (e : ℕ) → e < get_or counts 1 0 → get_or (take (get_or counts 1 0) xs) e 0 < 2048 =
-        λ xs f e h. rw (get_or-take (get_or counts 1 0) xs e 0 h) (f e h) in
-        record {
-          alike = length-take-le (get_or counts 1 0) backs c.backs_long ∙ sym fronts_taken;
-          edge = λ k h. rw fronts_taken (lists_named (get_or counts 1 0) U W F S L ok k h);
-          point = λ k h. front_low E B (get_or counts 1 0) (get_or U k 0) (lists_named (get_or counts 1 0) U W F S L ok k h) (below fronts c.front_named) (below backs c.back_named);
-        }
+    pub columns_named : Named fronts backs uses
+    columns_named = record {
+      alike = c.alike;
+      edge = λ k h. lists_named (length fronts) uses wires faces shells listings ok k h;
+      point = λ k h. front_low fronts backs (length fronts) (get_or uses k 0) (lists_named (length fronts) uses wires faces shells listings ok k h) c.front_named c.back_named;
+    }
 
 -- ---- the tables of a pattern as columns, its edges without fault
 module _ (p : Pattern) (s : Limited p.counts) (full : Full p) (fine : edge_faults_lem p ≡ []) (fronts backs counts : List ℕ)
@@ -135,25 +102,27 @@ module _ (p : Pattern) (s : Limited p.counts) (full : Full p) (fine : edge_fault
       let same : get_or xs k 0 ≡ get_or (map g (content p).edges) k 0 = sym (get_or-take e xs k 0 h) ∙ ap (λ (l : List ℕ). get_or l k 0) (is ∙ sym (map_take g e p.edges)) in
       omega (arith, same, named k (omega (arith, edges_counted p s full)), points_counted p s full, s.points)
 
-  pub checkable : Checkable p.counts fronts backs p.uses p.wires counts p.shells p.listings
+  taken : (xs : List ℕ) → length xs ≡ 1024 → length (take e xs) ≡ e
+  taken xs h = length-take-le e xs (omega (arith, s.edges, h))
+
+  below : (xs : List ℕ) → length xs ≡ 1024 → ((k : ℕ) → k < e → get_or xs k 0 < 2048) → (k : ℕ) → k < length (take e fronts) → get_or (take e xs) k 0 < 2048
+  below xs long named k h =
+      let inside : k < e = omega (arith, h, taken fronts lf) in
+      rw (get_or-take e xs k 0 inside) (named k inside)
+
+  pub checkable : Checkable (take e fronts) (take e backs) (take (get_or p.counts 3 0) p.wires) (take (get_or p.counts 4 0) counts) (take (get_or p.counts 5 0) p.shells)
   checkable = record {
-    fronts_long = omega (arith, s.edges, lf);
-    backs_long = omega (arith, s.edges, lb);
-    uses_long = omega (arith, s.uses, full.uses);
-    wires_long = omega (arith, s.wires, full.wires);
-    wires_few = s.wires;
-    faces_long = omega (arith, s.faces, full.faces, ap length w, length-map p.faces wire_count);
-    faces_few = s.faces;
-    shells_long = omega (arith, s.shells, full.shells);
-    shells_few = s.shells;
-    listings_long = omega (arith, s.listings, full.listings);
-    front_named = low front_number fronts f (front_named (content p) edges_fine);
-    back_named = low back_number backs b (back_named (content p) edges_fine);
+    alike = taken backs lb ∙ sym (taken fronts lf);
+    wires_few = omega (arith, s.wires, length-take (get_or p.counts 3 0) p.wires);
+    faces_few = omega (arith, s.faces, length-take (get_or p.counts 4 0) counts);
+    shells_few = omega (arith, s.shells, length-take (get_or p.counts 5 0) p.shells);
+    front_named = below fronts lf (low front_number fronts f (front_named (content p) edges_fine));
+    back_named = below backs lb (low back_number backs b (back_named (content p) edges_fine));
   }
 
   pub content_columns : first (column_faults (take e fronts) (take e backs) (content p).uses (content p).wires (take (get_or p.counts 4 0) counts) (content p).shells (content p).listings) ≡ first (content_faults (content p))
   content_columns =
-      columns_first checkable
-      ∙ ap (λ (r : Result Unit Refusal). and_then r (first (face_rule (take e fronts) (take e backs) 0 (split (take (get_or p.counts 4 0) counts) (split (content p).wires (content p).uses))))) (lists_with p counts w ∙ sym (records_are p s full fine))
+      columns_first checkable _ _
+      ∙ rw (taken fronts lf) (ap (λ (r : Result Unit Refusal). and_then r (first (face_rule (take e fronts) (take e backs) 0 (split (take (get_or p.counts 4 0) counts) (split (content p).wires (content p).uses))))) (lists_with p counts w ∙ sym (records_are p s full fine))
       ∙ ap (and_then (first (record_faults (content p)))) (rule_with p fronts backs counts f b w)
-      ∙ sym (first_append (record_faults (content p)) (rule p))
+      ∙ sym (first_append (record_faults (content p)) (rule p)))

@@ -60,16 +60,15 @@ row_first [] b c d e f = refl
 row_first (x ∷ a) b c d e f = refl
 
 -- the checks of numbers, one after the other, as the code makes them
-pub lists_first : (edges u w f n l : ℕ) (uses wires counts shells listings : List ℕ) → u ≤ length uses → w ≤ length wires → f ≤ length counts → l ≤ length listings
-    → first (list_faults edges (take u uses) (take w wires) (take f counts) (take n shells) (take l listings)) ≡
+pub lists_first : (fronts uses wires counts shells listings : List ℕ)
+    → first (list_faults (length fronts) uses wires counts shells listings) ≡
     and_then (and_then (and_then (and_then
-    (first (each (name_faults 2 edges) 0 (take u uses)))
-    (first (sum_faults 3 (take w wires) u)))
-    (first (sum_faults 4 (take f counts) w)))
-    (first (sum_faults 5 (take n shells) l)))
-    (first (each (name_faults 6 f) 0 (take l listings)))
-lists_first edges u w f n l uses wires counts shells listings hu hw hf hl =
-    rw (length-take-le u uses hu, length-take-le w wires hw, length-take-le f counts hf, length-take-le l listings hl) (simp first_append)
+    (first (each (name_faults 2 (length fronts)) 0 uses))
+    (first (sum_faults 3 wires (length uses))))
+    (first (sum_faults 4 counts (length wires))))
+    (first (sum_faults 5 shells (length listings))))
+    (first (each (name_faults 6 (length counts)) 0 listings))
+lists_first fronts uses wires counts shells listings = simp first_append
 
 module _ (p : Pattern) (s : Limited p.counts) (full : Full p) where
   pub points_counted : length (content p).points ≡ get_or p.counts 0 0

@@ -29,9 +29,8 @@ module _ (p : Pattern) (ok : pattern_faults p ≡ []) (s : Limited p.counts) (fu
   pub no_wire : get_or p.counts 3 0 ≤ w → (Err (Refused not_there)) ≡ wire_place p w
   no_wire h = rw (ok, wires_counted p s full, le-ltb w (get_or p.counts 3 0) h)
 
-  pub wire_there : w < get_or p.counts 3 0 → (Ok (sum (take w p.wires), get_or p.wires w 0)) ≡ wire_place p w
-  wire_there h =
-      rw (ok, wires_counted p s full, lt-ltb w (get_or p.counts 3 0) h, take-take w (get_or p.counts 3 0) p.wires (omega arith), get_or-take (get_or p.counts 3 0) p.wires w 0 h)
+  pub wire_there : w < get_or p.counts 3 0 → (Ok (sum (take w (content p).wires), get_or (content p).wires w 0)) ≡ wire_place p w
+  wire_there h = rw (ok, wires_counted p s full, lt-ltb w (get_or p.counts 3 0) h)
 
 -- the place that is answered is that of the wire: what `wire::outline` hands back there is its outline
 pub outline_of_place : (p : Pattern) (w : ℕ) → record_faults (content p) ≡ [] → w < length (content p).wires

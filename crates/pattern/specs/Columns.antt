@@ -1,5 +1,5 @@
 -- The checks on columns of numbers. Cited by inner contracts.
-use Rattle.std.specs.Prelude.{ℕ, ◌<◌, ◌≤◌, List, ◌++◌, get_or, length}
+use Rattle.std.specs.Prelude.{ℕ, ◌≡◌, ◌<◌, ◌≤◌, List, ◌++◌, get_or, length}
 use Rattle.lists.specs.Lists.{split}
 use Rattle.errors.specs.declared.Refusal.{Refusal}
 use Rattle.errors.specs.Faults.{each}
@@ -20,17 +20,11 @@ abbrev pub column_faults : List ℕ → List ℕ → List ℕ → List ℕ → L
 column_faults fronts backs uses wires counts shells listings =
     list_faults (length fronts) uses wires counts shells listings ++ face_rule fronts backs 0 (split counts (split wires uses))
 
--- columns with so many numbers, of edges that name points
-pub record Checkable (counts fronts backs uses wires faces shells listings : List ℕ) : Type 0 where
-  pub fronts_long : get_or counts 1 0 ≤ length fronts
-  pub backs_long : get_or counts 1 0 ≤ length backs
-  pub uses_long : get_or counts 2 0 ≤ length uses
-  pub wires_long : get_or counts 3 0 ≤ length wires
-  pub wires_few : get_or counts 3 0 ≤ 1024
-  pub faces_long : get_or counts 4 0 ≤ length faces
-  pub faces_few : get_or counts 4 0 ≤ 256
-  pub shells_long : get_or counts 5 0 ≤ length shells
-  pub shells_few : get_or counts 5 0 ≤ 16
-  pub listings_long : get_or counts 6 0 ≤ length listings
-  pub front_named : (e : ℕ) → e < get_or counts 1 0 → get_or fronts e 0 < 2048
-  pub back_named : (e : ℕ) → e < get_or counts 1 0 → get_or backs e 0 < 2048
+-- lists that are no longer than those of a pattern, of edges that name points
+pub record Checkable (fronts backs wires faces shells : List ℕ) : Type 0 where
+  pub alike : length backs ≡ length fronts
+  pub wires_few : length wires ≤ 1024
+  pub faces_few : length faces ≤ 256
+  pub shells_few : length shells ≤ 16
+  pub front_named : (e : ℕ) → e < length fronts → get_or fronts e 0 < 2048
+  pub back_named : (e : ℕ) → e < length fronts → get_or backs e 0 < 2048

@@ -1,16 +1,17 @@
 // The pattern in storage, and the reading checks from the counts on.
 #![tactic(auto)]
 
-ghost use Rattle.std.specs.Prelude.{◌≡◌, ◌+◌, ◌<◌, ◌≤◌, length, get_or, take};
+ghost use Rattle.std.specs.Prelude.{◌≡◌, ◌≤◌, length};
 ghost use Rattle.errors.specs.Faults.{first as firstFault, each};
 ghost use Rattle.pattern.specs.Contents.{layout};
 ghost use Rattle.pattern.specs.Checks.{count_faults, edge_faults, name_faults, sum_faults};
 ghost use Rattle.pattern.specs.Columns.{Checkable, column_faults, list_faults};
 
-use edge::Edge;
+use edge::{Edge, Ends};
 use errors::Refusal;
 use face::check_faces;
-use words::{index, sum_of};
+use wire::Wire;
+use words::sum_of;
 
 // How many bodies a file has, and how many bytes the longest file.
 pub const BODIES: usize = 7;
@@ -57,8 +58,8 @@ pub fn check_counts(counts: Counts) -> Result<(), Refusal>
 pub fn check_edge(e: Edge, k: usize, points: usize) -> Result<(), Refusal>
     ensures { result ≡ firstFault (edge_faults points k e) }
 {
-    let front = index(e.front.0);
-    let back = index(e.back.0);
+    let front = usize::from(e.front.0);
+    let back = usize::from(e.back.0);
     let curve = e.curve;
     let span = curve.is_span();
     if front >= points {
@@ -76,85 +77,65 @@ pub fn check_edge(e: Edge, k: usize, points: usize) -> Result<(), Refusal>
     Ok(())
 }
 
-// The first n uses or listings: 3.
-fn check_names(numbers: &[u16], n: usize, body: usize, names: usize) -> Result<(), Refusal>
-    requires { n ≤ length numbers.now }
-    ensures { result ≡ firstFault (each (name_faults body names) 0 (take n numbers.now)) }
+// Uses or listings: 3.
+fn check_names(numbers: &[u16], body: usize, names: usize) -> Result<(), Refusal>
+    ensures { result ≡ firstFault (each (name_faults body names) 0 numbers.now) }
 {
-    for (k, number) in numbers[..n].iter().enumerate() {
-        if index(*number % 32768) >= names {
+    for (k, number) in numbers.iter().enumerate() {
+        if usize::from(*number % 32768) >= names {
             return Err(Refusal::Unnamed(body, k));
         }
     }
     Ok(())
 }
 
-// The sum of the first n numbers against a count: 3.
-fn check_sum(ns: &[u16], n: usize, body: usize, total: usize) -> Result<(), Refusal>
-    requires { (n ≤ length ns.now) × (n ≤ 4096) }
-    ensures { result ≡ firstFault (sum_faults body (take n ns.now) total) }
+// The sum of numbers against a count: 3.
+fn check_sum(ns: &[u16], body: usize, total: usize) -> Result<(), Refusal>
+    requires { length ns.now ≤ 4096 }
+    ensures { result ≡ firstFault (sum_faults body ns.now total) }
 {
-    if sum_of(ns, n) == total {
+    if sum_of(ns) == total {
         Ok(())
     } else {
-        Err(Refusal::Unnamed(body, n))
+        Err(Refusal::Unnamed(body, ns.len()))
     }
 }
 
-// The records after the edges, of which there are `ecount`: uses, sums, listings.
-fn check_lists<'a>(
-    uses: &'a [u16],
-    ucount: usize,
-    ecount: usize,
-    wires: &'a [u16],
-    wcount: usize,
-    counts: &[u16],
-    fcount: usize,
-    shells: &'a [u16],
-    scount: usize,
-    listings: &'a [u16],
-    lcount: usize,
-) -> Result<(), Refusal>
-    requires { (ucount ≤ length uses.now) × (wcount ≤ length wires.now) × (wcount ≤ 1024) × (fcount ≤ length counts.now) × (fcount ≤ 256) × (scount ≤ length shells.now) × (scount ≤ 16) × (lcount ≤ length listings.now) }
-    ensures { result ≡ firstFault (list_faults ecount (take ucount uses.now) (take wcount wires.now) (take fcount counts.now) (take scount shells.now) (take lcount listings.now)) }
-{
-    check_names(uses, ucount, 2, ecount)?;
-    check_sum(wires, wcount, 3, ucount)?;
-    check_sum(counts, fcount, 4, wcount)?;
-    check_sum(shells, scount, 5, lcount)?;
-    check_names(listings, lcount, 6, fcount)
+// The lists of a pattern, each as long as its count: the ends of the edges, the uses, the lengths of the
+// wires, the faces' numbers of wires, the shells' numbers of listings, the listings.
+#[derive(Clone, Copy)]
+pub struct Lists<'a> {
+    pub ends: Ends<'a>,
+    pub uses: &'a [u16],
+    pub wires: &'a [u16],
+    pub faces: &'a [u16],
+    pub shells: &'a [u16],
+    pub listings: &'a [u16],
 }
 
-// The reading checks after those of the edges, on columns: the other records, the face rule. Of each
-// column the first numbers count; `faces` has the faces' numbers of wires.
-pub fn check_columns<'a>(
-    counts: Counts,
-    fronts: &'a [u16],
-    backs: &'a [u16],
-    uses: &'a [u16],
-    wires: &'a [u16],
-    faces: &'a [u16],
-    shells: &'a [u16],
-    listings: &'a [u16],
-) -> Result<(), Refusal>
-    requires { Checkable counts fronts.now backs.now uses.now wires.now faces.now shells.now listings.now }
-    ensures { result ≡ firstFault (column_faults (take (get_or counts 1 0) fronts.now) (take (get_or counts 1 0) backs.now) (take (get_or counts 2 0) uses.now) (take (get_or counts 3 0) wires.now) (take (get_or counts 4 0) faces.now) (take (get_or counts 5 0) shells.now) (take (get_or counts 6 0) listings.now)) }
-{
-    let ecount = counts[1];
-    let ucount = counts[2];
-    let wcount = counts[3];
-    let fcount = counts[4];
-    let scount = counts[5];
-    let lcount = counts[6];
-    check_lists(
-        uses, ucount, ecount, wires, wcount, faces, fcount, shells, scount, listings, lcount,
-    )?;
-    check_faces(
-        &uses[0..ucount],
-        &wires[0..wcount],
-        faces,
-        fcount,
-        &fronts[0..ecount],
-        &backs[0..ecount],
-    )
+impl<'a> Lists<'a> {
+    // The records after the edges: uses, sums, listings.
+    fn check_numbers(&self) -> Result<(), Refusal>
+        requires { (length self.now.wires.now ≤ 1024) × (length self.now.faces.now ≤ 256) × (length self.now.shells.now ≤ 16) }
+        ensures { result ≡ firstFault (list_faults (length self.now.ends.fronts.now) self.now.uses.now self.now.wires.now self.now.faces.now self.now.shells.now self.now.listings.now) }
+    {
+        check_names(self.uses, 2, self.ends.fronts.len())?;
+        check_sum(self.wires, 3, self.uses.len())?;
+        check_sum(self.faces, 4, self.wires.len())?;
+        check_sum(self.shells, 5, self.listings.len())?;
+        check_names(self.listings, 6, self.faces.len())
+    }
+
+    // The reading checks after those of the edges: the other records, the face rule.
+    pub fn check(&self) -> Result<(), Refusal>
+        requires { Checkable self.now.ends.fronts.now self.now.ends.backs.now self.now.wires.now self.now.faces.now self.now.shells.now }
+        ensures { result ≡ firstFault (column_faults self.now.ends.fronts.now self.now.ends.backs.now self.now.uses.now self.now.wires.now self.now.faces.now self.now.shells.now self.now.listings.now) }
+    {
+        self.check_numbers()?;
+        let wires = Wire {
+            uses: self.uses,
+            ends: self.ends,
+        };
+        check_faces(&wires, self.wires, self.faces)
+    }
 }

@@ -4,7 +4,7 @@ use mathlib.Core.List.{[], ◌∷◌}
 use mathlib.Core.Path.{◌≡◌, refl}
 use Rattle.output.specs.Text.{ascii}
 use Rattle.text.specs.Tokens.{name, name_after}
-use Rattle.queue.specs.Command.{asked, named_word}
+use Rattle.queue.specs.Command.{asked, word_of}
 use Rattle.queue.specs.Queue.{is_done}
 use Rattle.queue.specs.declared.Asked.TheVariants.{File, Misused, Options, Usage}
 
@@ -18,7 +18,7 @@ asked_of : (asked [] ≡ Options false false)
     × (asked (ascii "coat" ∷ ascii "--stop" ∷ []) ≡ Misused)
     × (asked (ascii "-x" ∷ ascii "coat" ∷ []) ≡ Misused)
     × (asked ([] ∷ []) ≡ File false false)
-unfolding named_word name name_after
+unfolding word_of
 asked_of = (refl, refl, refl, refl, refl, refl, refl, refl, refl, refl)
 
 done_or_not : (is_done (ascii "done edge 50\n") ≡ true) × (is_done (ascii "done\n") ≡ true) × (is_done (ascii "donee 1\n") ≡ false) × (is_done (ascii "refused 14\n") ≡ false) × (is_done (ascii "done") ≡ false)

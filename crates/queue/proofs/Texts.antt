@@ -1,5 +1,5 @@
 -- The file after a job, and the answer to a line.
-use Prim.Native.Nat.{ℕ, ◌+◌, ◌-◌, ◌<◌, ◌≤◌, min}
+use Prim.Native.Nat.{ℕ, ◌+◌, ◌<◌, ◌≤◌, min}
 use mathlib.Core.Bool.{Bool, ◌&&◌, and-false, false, not, true}
 use mathlib.Core.List.{List, ◌++◌}
 use mathlib.Core.Path.{◌∙◌, ◌≡◌, ap, refl, sym}
@@ -11,21 +11,22 @@ use lib.Seq.{length-sets, length-take-le, sets, sets-eq, take_all}
 use borrow.Author.Tests.{le-leb, lt-leb, ltb-false, ltb-true, ne_eqb}
 use Rattle.jobs.specs.Jobs.{line_length, line_out, line_text}
 use Rattle.lists.proofs.Laws.{cases}
+use Rattle.std.specs.Bool.{then_some}
 use Rattle.lists.proofs.Sets.{Put, take_sets}
 use Rattle.output.specs.Text.{ascii}
 use Rattle.text.specs.Tokens.{name, name_after}
-use Rattle.queue.specs.Queue.{answer_text, edited, file_after, is_done, room}
+use Rattle.queue.specs.Queue.{answer_text, edited, edited_length, file_after, is_done, room}
 use Rattle.queue.specs.declared.Ending.{Ending}
 use Rattle.queue.specs.declared.Ending.TheVariants.{Done, Kept, Skipped, Unread, Unsynced}
 
 -- ---- the first bytes
 
 -- as many as there are, or n
-pub first_are : (xs : List ℕ) (n m k : ℕ) → length xs ≡ k → m ≡ min n k → take (m - 0) xs ≡ take n xs
+pub first_are : (xs : List ℕ) (n m k : ℕ) → length xs ≡ k → m ≡ min n k → take m xs ≡ take n xs
 first_are xs n m k l e =
     ⊎_elim
-    (λ (h : ltb k n ≡ true). let z : m - 0 ≡ k = omega (arith, ltb-true k n h) in rw z (take_all k xs (omega arith) ∙ sym (take_all n xs (omega (arith, ltb-true k n h)))))
-    (λ (h : ltb k n ≡ false). let z : m - 0 ≡ n = omega (arith, ltb-false k n h) in rw z)
+    (λ (h : ltb k n ≡ true). let z : m ≡ k = omega (arith, ltb-true k n h) in rw z (take_all k xs (omega arith) ∙ sym (take_all n xs (omega (arith, ltb-true k n h)))))
+    (λ (h : ltb k n ≡ false). let z : m ≡ n = omega (arith, ltb-false k n h) in rw z)
     (cases (ltb k n))
 
 -- ---- the file after a job
@@ -53,31 +54,28 @@ module _ (file out : List ℕ) (n k : ℕ) where
   unfolding edited
   edited_long l h = stays (rw (lt-leb k (length out) l, and-false)) h
 
-  pub edited_put : (k ≡ 0 → ⊥) → k ≤ length out → (file' : List ℕ) (r : ℕ) → Put file 0 (take (k - 0) out) file' r → Held file' r
+  pub edited_put : (k ≡ 0 → ⊥) → k ≤ length out → (file' : List ℕ) (r : ℕ) → Put file 0 (take k out) file' r → Held file' r
   unfolding edited
-  edited_put some h file' r p =
-      let z : k - 0 ≡ k = omega arith in
-      let q = rw z at p in
-      rw (le-leb 1 k (omega arith), le-leb k (length out) h) (q.0, omega (arith, q.1))
+  edited_put some h file' r p = rw (le-leb 1 k (omega arith), le-leb k (length out) h) (p.0, omega (arith, p.1))
 
 -- the job on the first n bytes, which are the first m
 module _ (line file out : List ℕ) (n m k : ℕ) (few : length file ≡ 41049) (least : m ≡ min n 41049) where
-  same : take (m - 0) file ≡ take n file
+  same : take m file ≡ take n file
   same = first_are file n m 41049 few least
 
   pub stepped : (text text' file' : List ℕ) (t r : ℕ)
-      → ((text' ≡ sets text 0 (line_text line (take (m - 0) file) room)) × (t ≡ length (line_text line (take (m - 0) file) room)))
-      × ((out ≡ line_out line (take (m - 0) file) room) × (k ≡ line_length line (take (m - 0) file) room))
+      → ((text' ≡ sets text 0 (line_text line (take m file) room)) × (t ≡ length (line_text line (take m file) room)))
+      × ((out ≡ line_out line (take m file) room) × (k ≡ line_length line (take m file) room))
       → Held file out m k file' r
       → ((text' ≡ sets text 0 (line_text line (take n file) room)) × (t ≡ length (line_text line (take n file) room)))
-      × ((file' ≡ sets file 0 (file_after line (take n file))) × (r ≡ length (file_after line (take n file))) × (ltb 0 k ≡ ltb 0 (line_length line (take n file) room)))
+      × ((file' ≡ sets file 0 (file_after line (take n file))) × (then_some (ltb 0 k) r ≡ edited_length line (take n file)))
   unfolding file_after
   stepped text text' file' t r p q =
-      let z : m - 0 ≡ m = omega arith in
-      let e : take m file ≡ take n file = ap (λ (j : ℕ). take j file) (sym z) ∙ same in
-      let p' = rw same at p in
+      let e = same in
+      let p' = rw e at p in
       let f : edited (take m file) out k ≡ edited (take n file) (line_out line (take n file) room) (line_length line (take n file) room) = rw (e, ← p'.1.0, ← p'.1.1) refl in
-      ((p'.0.0, p'.0.1), (q.0 ∙ ap (sets file 0) f, q.1 ∙ ap length f, ap (ltb 0) p'.1.1))
+      let s : r ≡ length (file_after line (take n file)) = q.1 ∙ ap length f in
+      ((p'.0.0, p'.0.1), (q.0 ∙ ap (sets file 0) f, rw (s, p'.1.1)))
 
 -- ---- the answer
 
@@ -135,18 +133,17 @@ module _ (t : List ℕ) where
 -- ---- the end of a line
 
 module _ (e : Ending) (text : List ℕ) (n m : ℕ) (few : length text ≡ 65536) (least : m ≡ min n 65536) (answer answer' : List ℕ) (r : ℕ)
-    (put : (answer' ≡ sets answer 0 (answer_text e (take (m - 0) text))) × (r ≡ length (answer_text e (take (m - 0) text))) × (r ≤ length answer')) where
+    (put : (answer' ≡ sets answer 0 (answer_text e (take m text))) × (r ≡ length (answer_text e (take m text))) × (r ≤ length answer')) where
   pub told : (answer' ≡ sets answer 0 (answer_text e (take n text))) × (r ≡ length (answer_text e (take n text))) × (r ≤ length answer')
   told = rw (first_are text n m 65536 few least) at put
 
-  pub told_done : (d : Bool) → d ≡ is_done (take (r - 0) answer') → d ≡ is_done (answer_text e (take n text))
+  pub told_done : (d : Bool) → d ≡ is_done (take r answer') → d ≡ is_done (answer_text e (take n text))
   told_done d is =
-      let z : r - 0 ≡ r = omega arith in
       let t = answer_text e (take n text) in
-      is ∙ ap is_done (rw (z, told.0) (take_sets answer t r (sym told.1) (omega (arith, told.2, ap length told.0, length-sets answer 0 t))))
+      is ∙ ap is_done (rw (told.0) (take_sets answer t r (sym told.1) (omega (arith, told.2, ap length told.0, length-sets answer 0 t))))
 
 pub stops : (stop d : Bool) {x : Bool} → stop ≡ true → d ≡ x → not d ≡ (stop && not x)
 stops stop d e p = rw (e, p)
 
-pub goes_on : (stop : Bool) (x : Bool) → stop ≡ false → false ≡ (stop && not x)
+pub goes_on : (stop : Bool) (x : Bool) → stop ≡ false → stop ≡ (stop && not x)
 goes_on stop x e = rw e

@@ -1,23 +1,20 @@
 -- The command line of the program `edit`: options, and the name of a file.
 use Rattle.std.specs.Prelude.{ℕ, Bool, ◌||◌, false, true, List, [], ◌∷◌, eqb, get_or}
+use Rattle.std.specs.Str.{bytes_eq}
 use Rattle.lists.specs.Lists.{pick}
 use Rattle.output.specs.Text.{ascii}
-use Rattle.text.specs.Tokens.{name}
 use Rattle.queue.specs.declared.Asked.{Asked}
 use Rattle.queue.specs.declared.Asked.TheVariants.{File, Misused, Options, Usage}
 use Rattle.queue.specs.declared.Word.{Word}
 use Rattle.queue.specs.declared.Word.TheVariants.{Help, Name, Stop, Try, Unknown}
 
--- a word by its name and its first byte: one that begins with `-` is an option, or unknown
-unfoldable pub named_word : ℕ → ℕ → Word
-named_word n first =
-    pick (eqb n (name (ascii "--stop"))) Stop
-    (pick (eqb n (name (ascii "--try"))) Try
-    (pick (eqb n (name (ascii "--help")) || eqb n (name (ascii "-h"))) Help
-    (pick (eqb first 45) Unknown Name)))
-
-abbrev pub word_of : List ℕ → Word
-word_of w = named_word (name w) (get_or w 0 0)
+-- one that begins with `-` is an option, or unknown
+unfoldable pub word_of : List ℕ → Word
+word_of w =
+    pick (bytes_eq w (ascii "--stop")) Stop
+    (pick (bytes_eq w (ascii "--try")) Try
+    (pick (bytes_eq w (ascii "--help") || bytes_eq w (ascii "-h")) Help
+    (pick (eqb (get_or w 0 0) 45) Unknown Name)))
 
 abbrev pub after_options : Bool → Bool → Word → Asked
 after_options stop trial Stop = Options true trial

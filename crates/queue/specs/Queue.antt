@@ -1,5 +1,6 @@
 -- The queue of the program `edit`: the lines of its input, each with how it ends, give answers and a file.
-use Rattle.std.specs.Prelude.{ℕ, Bool, ◌&&◌, ◌||◌, false, not, true, List, [], ◌∷◌, ◌++◌, ◌≡◌, eqb, leb, get_or, length, replicate, take}
+use Rattle.std.specs.Prelude.{ℕ, Bool, ◌&&◌, ◌||◌, false, not, true, List, [], ◌∷◌, ◌++◌, ◌≡◌, eqb, leb, ltb, get_or, length, replicate, take, Option}
+use Rattle.std.specs.Bool.{then_some}
 use Rattle.jobs.specs.Jobs.{line_length, line_out, line_text}
 use Rattle.lists.specs.Lists.{pick}
 use Rattle.output.specs.Text.{ascii}
@@ -22,6 +23,10 @@ edited s out k = pick (leb 1 k && leb k (length out)) (take k out) s
 -- file s after the job of a line
 unfoldable pub file_after : List ℕ → List ℕ → List ℕ
 file_after l s = edited s (line_out l s room) (line_length l s room)
+
+-- the length of that file, where the job edits one
+abbrev pub edited_length : List ℕ → List ℕ → Option ℕ
+edited_length l s = then_some (ltb 0 (line_length l s room)) (length (file_after l s))
 
 -- what is done with a line: nothing where the queue is stopped; where it only tries, its job in memory if the file was read; else its job on the file
 abbrev pub chosen : Bool → Bool → Bool → Choice

@@ -2,10 +2,10 @@
 // answer that is printed, and whether the queue stops there.
 #![tactic(auto)]
 
-ghost use Rattle.std.specs.Prelude.{◌≡◌, ◌&&◌, not, ◌≤◌, min, ltb, length, take};
+ghost use Rattle.std.specs.Prelude.{◌≡◌, ◌&&◌, not, ◌≤◌, length, take};
 ghost use Rattle.std.proofs.lemmas.List.Edits.{sets};
 ghost use Rattle.jobs.specs.Jobs.{line_length, line_text};
-ghost use Rattle.queue.specs.Queue.{answer_text, chosen, edited, file_after, is_done, room};
+ghost use Rattle.queue.specs.Queue.{answer_text, chosen, edited, edited_length, file_after, is_done, room};
 ghost use Rattle.queue.specs.Command.{next_asked, word_of};
 
 use output::put_text;
@@ -32,29 +32,17 @@ pub enum Asked {
     Misused,
 }
 
+#[tactic(auto, unfolding(crate::specs::Command::word_of))]
 pub fn word_of(word: &[u8]) -> Word
     ensures { result ≡ word_of word.now }
 {
-    let name = name_of(word);
-    if name == 0x12d2d73746f70 {
-        return Word::Stop;
+    match word {
+        b"--stop" => Word::Stop,
+        b"--try" => Word::Try,
+        b"--help" | b"-h" => Word::Help,
+        [b'-', ..] => Word::Unknown,
+        _ => Word::Name,
     }
-    if name == 0x12d2d747279 {
-        return Word::Try;
-    }
-    if name == 0x12d2d68656c70 {
-        return Word::Help;
-    }
-    if name == 0x12d68 {
-        return Word::Help;
-    }
-    if word.len() == 0 {
-        return Word::Name;
-    }
-    if word[0] == b'-' {
-        return Word::Unknown;
-    }
-    Word::Name
 }
 
 // What the words ask with one more.
@@ -62,39 +50,28 @@ pub fn next(asked: Asked, word: Word) -> Asked
     ensures { result ≡ next_asked asked word }
 {
     match asked {
-        Asked::File(_, _) => Asked::Misused,
-        Asked::Usage => Asked::Misused,
-        Asked::Misused => Asked::Misused,
+        Asked::File(_, _) | Asked::Usage | Asked::Misused => Asked::Misused,
         Asked::Options(stop, trial) => match word {
             Word::Stop => Asked::Options(true, trial),
             Word::Try => Asked::Options(stop, true),
             Word::Name => Asked::File(stop, trial),
             Word::Unknown => Asked::Misused,
             Word::Help => {
-                if stop {
-                    return Asked::Misused;
+                if stop || trial {
+                    Asked::Misused
+                } else {
+                    Asked::Usage
                 }
-                if trial {
-                    return Asked::Misused;
-                }
-                Asked::Usage
             }
         },
     }
 }
 
-fn least(a: usize, b: usize) -> usize
-    ensures { result ≡ min a b }
-{
-    if a < b { a } else { b }
-}
-
-// The lengths of a job's text and of the file after it, and whether that is an edited one.
+// The length of a job's text, and that of the edited file, where there is one.
 #[derive(Clone, Copy)]
 pub struct Stepped {
     pub text: usize,
-    pub file: usize,
-    pub edited: bool,
+    pub edited: Option<usize>,
 }
 
 // Puts the first k bytes of an edited file, where there is one, in the place of a file of n bytes, and
@@ -103,31 +80,28 @@ fn put_edited(file: &mut [u8; 41049], n: usize, out: &[u8; LONGEST], k: usize) -
     requires { n ≤ length file.old }
     ensures { (file.new ≡ sets file.old 0 (edited (take n file.old) out.now k)) × (result ≡ length (edited (take n file.old) out.now k)) }
 {
-    let whole: &[u8] = out;
     if k == 0 {
         return n;
     }
-    if k > whole.len() {
+    if k > out.len() {
         return n;
     }
-    put_text(file, 0, &whole[0..k])
+    put_text(file, 0, &out[..k])
 }
 
 // Does the job that a line asks for on the file that the first n bytes hold, and puts the edited file in its
-// place.
+// place. A length beside the list: the edited file may be longer than the one that is there.
 pub fn step(line: &[u8], file: &mut [u8; 41049], n: usize, text: &mut [u8; 65536]) -> Stepped
     ensures text_after { (text.new ≡ sets text.old 0 (line_text line.now (take n file.old) room)) × (result.text ≡ length (line_text line.now (take n file.old) room)) }
-    ensures file_after { (file.new ≡ sets file.old 0 (file_after line.now (take n file.old))) × (result.file ≡ length (file_after line.now (take n file.old))) × (result.edited ≡ ltb 0 (line_length line.now (take n file.old) room)) }
+    ensures file_after { (file.new ≡ sets file.old 0 (file_after line.now (take n file.old))) × (result.edited ≡ edited_length line.now (take n file.old)) }
 {
     let mut out = [0u8; LONGEST];
-    let m = least(n, 41049);
-    let whole: &[u8] = file;
-    let job = jobs::run(line, &whole[0..m], &mut out, text);
-    let k = job.file;
+    let m = n.min(file.len());
+    let job = jobs::run(line, &file[..m], &mut out, text);
+    let length = put_edited(file, m, &out, job.file);
     Stepped {
         text: job.text,
-        file: put_edited(file, m, &out, k),
-        edited: k > 0,
+        edited: (job.file > 0).then_some(length),
     }
 }
 
@@ -206,7 +180,8 @@ fn put_answer(ending: Ending, text: &[u8], answer: &mut [u8]) -> usize
     }
 }
 
-// The length of an answer, and whether the queue is stopped after it.
+// The length of an answer, and whether the queue is stopped after it: yes or no by itself, as are whether it is to
+// stop, whether it only tries and whether the file was read. An enum would say no more.
 #[derive(Clone, Copy)]
 pub struct Answered {
     pub length: usize,
@@ -214,7 +189,8 @@ pub struct Answered {
 }
 
 // The answer to a line, of which the first n bytes of `text` are the job's text. Where the queue is to stop it
-// is stopped after an answer that is not done.
+// is stopped after an answer that is not done. A length beside the list: `step` says that the text's length is n,
+// and not that the list holds it.
 pub fn finish(
     stop: bool,
     ending: Ending,
@@ -225,19 +201,11 @@ pub fn finish(
     ensures answer_after { (answer.new ≡ sets answer.old 0 (answer_text ending (take n text.now))) × (result.length ≡ length (answer_text ending (take n text.now))) × (result.length ≤ length answer.new) }
     ensures stopped_value { result.stopped ≡ (stop && not (is_done (answer_text ending (take n text.now)))) }
 {
-    let m = least(n, 65536);
-    let whole: &[u8] = text;
-    let length = put_answer(ending, &whole[0..m], answer);
-    let said: &[u8] = answer;
-    let done = is_done(&said[0..length]);
-    if stop {
-        return Answered {
-            length: length,
-            stopped: !done,
-        };
-    }
+    let m = n.min(text.len());
+    let length = put_answer(ending, &text[..m], answer);
+    let done = is_done(&answer[..length]);
     Answered {
-        length: length,
-        stopped: false,
+        length,
+        stopped: stop && !done,
     }
 }

@@ -1,12 +1,10 @@
 -- What the reading checks say of the tables; the storage after a removal.
 use Rattle.std.specs.Prelude.{Err, Ok, Result}
-use native.Mathlib.Nat.{sub-zero}
 use native.Mathlib.Omega.{arith}
-use Prim.Native.Nat.{◌+◌, ◌-◌, ◌<◌, suc, ℕ, ◌≤◌}
+use Prim.Native.Nat.{◌+◌, ◌<◌, suc, ℕ, ◌≤◌}
 use lib.Dec.{eqb, ltb}
-use lib.Ieee.{Float}
 use lib.ListN.{get_or, length, length-map, length-replicate, replicate, set, take}
-use lib.Seq.{sets}
+use lib.Seq.{length-sets, sets}
 use mathlib.Core.Bool.{false, true≢false, ◌||◌}
 use mathlib.Core.List.{◌++◌, [], List, map, ◌∷◌}
 use mathlib.Core.Path.{ap, sym, ◌∙◌, ◌≡◌}
@@ -28,30 +26,29 @@ use Rattle.errors.specs.Faults.{each}
 use Rattle.face.proofs.Laws.{none_mapped}
 use Rattle.face.specs.Faces.{face_faults, face_rule, outline_faults, shared_faults, wire_count}
 use Rattle.lists.proofs.Count.{All, all_each, all_split}
-use Rattle.lists.proofs.Laws.{eqb_sym, length_split, map_take}
+use Rattle.lists.proofs.Laws.{eqb_sym, length_split}
 use Rattle.lists.proofs.Parts.{all_flat, all_place, flat_split}
 use Rattle.lists.proofs.Sets.{take_sets}
 use Rattle.lists.specs.Lists.{flat, only, split, unless}
-use Rattle.pattern.proofs.Counts.{edges_counted, points_counted, shells_counted, wires_counted}
+use Rattle.pattern.proofs.Counts.{wires_counted}
 use Rattle.pattern.proofs.Named.{ends_apart, faces_summed, use_named, wires_summed}
 use Rattle.pattern.proofs.Passed.{content_passed, pattern_passed}
-use Rattle.pattern.specs.Checks.{content_faults, outlines, pattern_faults, record_faults}
+use Rattle.pattern.specs.Checks.{content_faults, outlines, record_faults}
 use Rattle.pattern.specs.Contents.{Content, Pattern, content}
+use Rattle.pattern.specs.declared.Lists.{Lists}
 use Rattle.shell.specs.Shells.{listings_of}
 use Rattle.shell_edits.proofs.Storage.{seven_are}
 use Rattle.shell_edits.proofs.Wires.{each_long}
 use Rattle.shell_edits.specs.Edits.{each_wire, edge_of, end_faults, ending_wires, end_use, joined_edge, join_faults, last_wire, listed_wires, matched, near_faults, next_use, remove_faults, wires_in, wires_of}
 use Rattle.shell_edits.specs.NewEdges.{joined_ends}
 use Rattle.shell_wires.proofs.Facts.{Fine, stored_edited}
-use Rattle.shell_wires.proofs.Held.{held_lent}
-use Rattle.shell_wires.proofs.Made.{ends_named, ends_room, lent_fine, uses_room, wires_room}
+use Rattle.shell_wires.proofs.Made.{edges_few, uses_few, wires_few, wires_summed_lem}
 use Rattle.shell_wires.specs.Lent.{Lent}
-use Rattle.store.specs.Store.{count_table, held, listing_table, shell_table, use_table, wire_table}
 use Rattle.wire.proofs.Laws.{faultless_sound}
 use Rattle.wire.specs.Wires.{closed, runs, wire_faults}
 use Rattle.remove_vertex.proofs.Removals.{ending_inside, pairing_found, pairing_not}
-use Rattle.remove_vertex.specs.Removals.{corner_in, corner_lent, pair_edge, pairing, pair_stored, pair_wires, removal, removed_in}
-use Rattle.store.specs.Columns.{back_table, face_table, front_table, with_counts, with_uses, with_wires}
+use Rattle.remove_vertex.specs.Removals.{corner_in, corner_lent, pair_edge, pairing, pair_stored, pair_wires, removal}
+use Rattle.store.specs.Columns.{with_counts, with_uses, with_wires}
 
 -- ---- every wire has two uses or more
 module _ (fronts backs : List ℕ) where
@@ -115,70 +112,43 @@ pair_refused c n v h =
     let g = ending_of (ending_wires c n v) in
     pairing_not (near_faults c n v) (join_faults c (end_use c v g.last) (next_use c v g.last)) g (corner_in c v g.last) (pair_edge c v g) h
 
--- ---- the columns of a pattern without fault
-module _ (p : Pattern) (counts fronts backs uses wires faces shells listings : List ℕ) (l : Lent p counts fronts backs uses wires faces shells listings) where
-  abbrev s : Fine p
-  s = lent_fine p counts fronts backs uses wires faces shells listings l
-
+-- ---- the lists of a pattern without fault
+module _ (p : Pattern) {lists : Lists} (l : Lent p lists) where
   content_fine : content_faults (content p) ≡ []
-  content_fine = (pattern_passed p s.ok).content
+  content_fine = (pattern_passed p l.ok).content
 
-  pub tables : WireTables uses (get_or counts 2 0) wires (get_or counts 3 0) fronts backs (get_or counts 1 0)
+  pub tables : WireTables lists.uses.now lists.wires.now
   tables = record {
-    uses_in_lem = (uses_room p counts fronts backs uses wires faces shells listings l).1;
-    few_uses = (uses_room p counts fronts backs uses wires faces shells listings l).0;
-    wires_in_lem = (wires_room p counts fronts backs uses wires faces shells listings l).1;
-    few_wires = (wires_room p counts fronts backs uses wires faces shells listings l).0;
-    fronts_in_lem = (ends_room p counts fronts backs uses wires faces shells listings l).0;
-    backs_in_lem = (ends_room p counts fronts backs uses wires faces shells listings l).1;
-    named = ends_named p counts fronts backs uses wires faces shells listings l;
-    summed = (wires_room p counts fronts backs uses wires faces shells listings l).2;
-    paired = rw (l.listed.counts_are, l.wires_are) (wires_paired (content p) content_fine);
+    few_uses = uses_few p l;
+    few_wires = wires_few p l;
+    summed = wires_summed_lem p l;
+    paired = rw l.wires_are (wires_paired (content p) content_fine);
   }
 
-  pub points_are : length (content p).points ≡ get_or counts 0 0
-  points_are = rw l.listed.counts_are (points_counted p s.limits s.full)
-
-  pub shells_are : length (content p).shells ≡ get_or counts 5 0
-  shells_are = rw l.listed.counts_are (shells_counted p s.limits s.full)
-
-  edges_are : length (content p).edges ≡ get_or counts 1 0
-  edges_are = rw l.listed.counts_are (edges_counted p s.limits s.full)
-
-  -- the ends of the edges that count
-  fronts_are : take (get_or counts 1 0) fronts ≡ map front_number (content p).edges
-  fronts_are = rw (l.listed.counts_are, l.fronts_are) (sym (map_take front_number (get_or p.counts 1 0) p.edges))
-
-  backs_are : take (get_or counts 1 0) backs ≡ map back_number (content p).edges
-  backs_are = rw (l.listed.counts_are, l.backs_are) (sym (map_take back_number (get_or p.counts 1 0) p.edges))
-
-  split_is : split (take (get_or counts 3 0) wires) (take (get_or counts 2 0) uses) ≡ wires_in (content p)
-  split_is = rw (l.listed.counts_are, l.uses_are, l.wires_are)
+  pub shells_are : length (content p).shells ≡ length lists.shells.now
+  shells_are = sym (ap length l.shells_are)
 
   -- the wires that the code finds are those of the definition
-  pub endings_are : (n v : ℕ) {e : Ending} (ls : List ℕ) → ls ≡ listings_of (content p) n
-      → e ≡ ending_of (only (λ (w : ℕ). ends_at (take (get_or counts 1 0) fronts) (take (get_or counts 1 0) backs) v (get_or (split (take (get_or counts 3 0) wires) (take (get_or counts 2 0) uses)) w [])) (listed_wires (take (get_or counts 4 0) faces) (get_or counts 3 0) ls))
+  pub endings_are : (n v : ℕ) {e : Ending} {ls : List ℕ} → ls ≡ listings_of (content p) n
+      → e ≡ ending_of (only (λ (w : ℕ). ends_at lists.ends.fronts.now lists.ends.backs.now v (get_or (split lists.wires.now lists.uses.now) w [])) (listed_wires lists.faces.now (length lists.wires.now) ls))
       → e ≡ ending_of (ending_wires (content p) n v)
-  endings_are n v ls el is =
-      let count : length (content p).wires ≡ get_or counts 3 0 = rw l.listed.counts_are (wires_counted p s.limits s.full) in
-      let numbers : take (get_or counts 4 0) faces ≡ map wire_count (content p).faces = rw (l.listed.counts_are, l.listed.faces_are) (sym (map_take wire_count (get_or p.counts 4 0) p.faces)) in
-      is ∙ rw (fronts_are, backs_are, split_is, numbers, el, ← count)
+  endings_are n v el is = is ∙ rw (l.fronts_are, l.backs_are, l.wires_are, l.uses_are, l.faces_are, el)
 
   -- so are the wires that it writes
   pub pairs_are : (v : ℕ) (e : Ending)
-      → each_wire (removed_wire (take (get_or counts 1 0) fronts) (take (get_or counts 1 0) backs) v e (get_or counts 1 0)) 0 (split (take (get_or counts 3 0) wires) (take (get_or counts 2 0) uses)) ≡ pair_wires (content p) v e
-  pairs_are v e = rw (fronts_are, backs_are, split_is, ← edges_are)
+      → each_wire (removed_wire lists.ends.fronts.now lists.ends.backs.now v e (length lists.ends.fronts.now)) 0 (split lists.wires.now lists.uses.now) ≡ pair_wires (content p) v e
+  pairs_are v e = rw ((edges_few p l).0, l.fronts_are, l.backs_are, l.wires_are, l.uses_are)
 
   -- and the corners
-  corner_is : (v w : ℕ) → corner_lent counts fronts backs uses wires v w ≡ corner_in (content p) v w
-  corner_is v w = rw (fronts_are, backs_are, split_is)
+  corner_is : (v w : ℕ) → corner_lent lists v w ≡ corner_in (content p) v w
+  corner_is v w = rw (l.fronts_are, l.backs_are, l.wires_are, l.uses_are)
 
   pub pair_matched : (n v : ℕ) (e : Ending) (r : Result (Ending × Corner) EditError) → e ≡ ending_of (ending_wires (content p) n v)
       → unless (ltb e.number 2 || matched (content p) v e.first e.last) Unmatched ≡ near_faults (content p) n v
-      → r ≡ pairing (unless (fit e (corner_lent counts fronts backs uses wires v e.first) (corner_lent counts fronts backs uses wires v e.last)) Unmatched) e (corner_lent counts fronts backs uses wires v e.last)
+      → r ≡ pairing (unless (fit e (corner_lent lists v e.first) (corner_lent lists v e.last)) Unmatched) e (corner_lent lists v e.last)
       → r ≡ pairing (near_faults (content p) n v) (ending_of (ending_wires (content p) n v)) (corner_in (content p) v (last_wire (ending_wires (content p) n v)))
   pair_matched n v e r is near j =
-      let last = corner_lent counts fronts backs uses wires v e.last in
+      let last = corner_lent lists v e.last in
       let read : r ≡ pairing (unless (ltb e.number 2 || matched (content p) v e.first e.last) Unmatched) e (corner_in (content p) v e.last) =
       j ∙ ap (λ (k : Corner). pairing (unless (fit e k last) Unmatched) e last) (corner_is v e.first)
       ∙ ap (λ (k : Corner). pairing (unless (fit e (corner_in (content p) v e.first) k) Unmatched) e k) (corner_is v e.last) in
@@ -187,29 +157,32 @@ module _ (p : Pattern) (counts fronts backs uses wires faces shells listings : L
 
   -- the first and the last wire with a use that ends at the point are wires
   pub endings_inside : (n v : ℕ) {e : Ending} → e ≡ ending_of (ending_wires (content p) n v) → 0 < e.number
-      → (e.first < get_or counts 3 0) × (e.last < get_or counts 3 0)
+      → (e.first < length lists.wires.now) × (e.last < length lists.wires.now)
   endings_inside n v is some =
       let c = content p in
       let xss = split c.wires c.uses in
-      let long : length xss ≡ get_or counts 3 0 = rw l.listed.counts_are (length_split c.wires c.uses ∙ wires_counted p s.limits s.full) in
+      let long : length xss ≡ length lists.wires.now = length_split c.wires c.uses ∙ sym (ap length l.wires_are) in
       let both = ending_inside (map front_number c.edges) (map back_number c.edges) v xss (wires_of c n) is some in
       (omega (arith, long, both.0), omega (arith, long, both.1))
 
-  -- the edges of the pair, joined
-  pub pair_removed : (n v : ℕ) (e : Ending) (k : Corner)
-      → Ok (e, k) ≡ pairing (near_faults (content p) n v) (ending_of (ending_wires (content p) n v)) (corner_in (content p) v (last_wire (ending_wires (content p) n v)))
-      → (a b : Edge) → a ≡ edge_of (content p) k.ending → b ≡ edge_of (content p) k.next → (r : Result (Edge × Ending) EditError)
-      → r ≡ removal (end_faults a k.ending b k.next (get_or counts 1 0)) (joined_ends a k.ending b k.next) e
-      → r ≡ removal (remove_faults (content p) n v) (pair_edge (content p) v (ending_of (ending_wires (content p) n v))) (ending_of (ending_wires (content p) n v))
-  pair_removed n v e k h a b ea eb r is =
-      let c = content p in
-      let g = ending_of (ending_wires c n v) in
-      let parts = pairing_found (near_faults c n v) g (corner_in c v g.last) h in
-      let read : r ≡ removal (join_faults c k.ending k.next) (joined_edge c k.ending k.next) e =
-      is ∙ rw (joins_are c k.ending k.next (get_or counts 1 0) ea eb edges_are, joined_is c k.ending k.next (get_or counts 1 0) ea eb edges_are) in
-      read ∙ ap (λ (x : Ending). removal (join_faults c k.ending k.next) (joined_edge c k.ending k.next) x) parts.1
-      ∙ ap (λ (x : Corner). removal (join_faults c x.ending x.next) (joined_edge c x.ending x.next) g) parts.2
-      ∙ ap (λ (es : List EditError). removal (es ++ join_faults c (end_use c v g.last) (next_use c v g.last)) (pair_edge c v g) g) (sym parts.0)
+-- the edges of the pair, joined
+pub pair_removed : (c : Content) (n v m : ℕ) (e : Ending) (k : Corner) → length c.edges ≡ m
+    → Ok (e, k) ≡ pairing (near_faults c n v) (ending_of (ending_wires c n v)) (corner_in c v (last_wire (ending_wires c n v)))
+    → {a b : Edge} → a ≡ edge_of c k.ending → b ≡ edge_of c k.next → {r : Result (Edge × Ending) EditError}
+    → r ≡ removal (end_faults a k.ending b k.next m) (joined_ends a k.ending b k.next) e
+    → r ≡ removal (remove_faults c n v) (pair_edge c v (ending_of (ending_wires c n v))) (ending_of (ending_wires c n v))
+pair_removed c n v m e k edges h {a} {b} ea eb {r} is =
+    let g = ending_of (ending_wires c n v) in
+    let parts = pairing_found (near_faults c n v) g (corner_in c v g.last) h in
+    let read : r ≡ removal (join_faults c k.ending k.next) (joined_edge c k.ending k.next) e =
+    is ∙ rw (joins_are c k.ending k.next m ea eb edges, joined_is c k.ending k.next m ea eb edges) in
+    read ∙ ap (λ (x : Ending). removal (join_faults c k.ending k.next) (joined_edge c k.ending k.next) x) parts.1
+    ∙ ap (λ (x : Corner). removal (join_faults c x.ending x.next) (joined_edge c x.ending x.next) g) parts.2
+    ∙ ap (λ (es : List EditError). removal (es ++ join_faults c (end_use c v g.last) (next_use c v g.last)) (pair_edge c v g) g) (sym parts.0)
+
+-- zeros that were written to are as many as before
+pub zeros_long : (n : ℕ) (xs : List ℕ) {out : List ℕ} → out ≡ sets (replicate n 0) 0 xs → length out ≡ n
+zeros_long n xs h = ap length h ∙ length-sets {A = ℕ} (replicate n 0) 0 xs ∙ length-replicate {A = ℕ} n 0
 
 module _ (p : Pattern) (s : Fine p) (v : ℕ) (e : Ending) where
   abbrev made : List (List ℕ)
@@ -238,23 +211,15 @@ module _ (p : Pattern) (s : Fine p) (v : ℕ) (e : Ending) where
   -- the same, where the uses and the wires are the first of two arrays of zeros that were written to
   pub stored_written : (xss : List (List ℕ)) → xss ≡ made → (d : Edge) (used wired : ℕ) (uses wires : List ℕ) (p₁ p₂ p₃ p₄ : Pattern)
       → used ≡ length (flat xss) → used ≤ 4096 → wired ≡ get_or p.counts 3 0 → uses ≡ sets (replicate 4096 0) 0 (flat xss) → wires ≡ sets (replicate 1024 0) 0 (map length xss)
-      → p₁ ≡ appended p d → p₂ ≡ with_uses p₁ (sets p₁.uses 0 (take (used - 0) uses)) → p₃ ≡ with_wires p₂ (sets p₂.wires 0 (take (wired - 0) wires)) → p₄ ≡ with_counts p₃ (set p₃.counts 2 used)
+      → p₁ ≡ appended p d → p₂ ≡ with_uses p₁ (sets p₁.uses 0 (take used uses)) → p₃ ≡ with_wires p₂ (sets p₂.wires 0 (take wired wires)) → p₄ ≡ with_counts p₃ (set p₃.counts 2 used)
       → p₄ ≡ pair_stored p v e d
   stored_written xss ex d used wired uses wires p₁ p₂ p₃ p₄ fu few fw fo fl x₁ x₂ x₃ x₄ =
       let eu : used ≡ length (flat made) = rw ex at fu in
       let eo : uses ≡ sets (replicate 4096 0) 0 (flat made) = rw ex at fo in
       let el : wires ≡ sets (replicate 1024 0) 0 (map length made) = rw ex at fl in
-      let us : take (used - 0) uses ≡ flat made = rw (sub-zero used, eo) (take_sets (replicate 4096 0) (flat made) used (sym eu) (omega (arith, length-replicate {A = ℕ} 4096 0))) in
-      let ws : take (wired - 0) wires ≡ map length made = rw (sub-zero wired, el) (take_sets (replicate 1024 0) (map length made) wired (pairs_long ∙ sym fw) (omega (arith, s.limits.wires, length-replicate {A = ℕ} 1024 0))) in
+      let us : take used uses ≡ flat made = rw eo (take_sets (replicate 4096 0) (flat made) used (sym eu) (omega (arith, length-replicate {A = ℕ} 4096 0))) in
+      let ws : take wired wires ≡ map length made = rw el (take_sets (replicate 1024 0) (map length made) wired (pairs_long ∙ sym fw) (omega (arith, s.limits.wires, length-replicate {A = ℕ} 1024 0))) in
       stored_pair d used _ _ p₁ p₂ p₃ p₄ eu us ws x₁ x₂ x₃ x₄
-
--- ---- the tables of a store that holds a pattern without fault
-module _ (t : List ℕ) (spans : List Float) (long : length t ≡ 12312) (ok : pattern_faults (held t spans) ≡ []) where
-  pub held_tables : WireTables (use_table t) (get_or (count_table t) 2 0) (wire_table t) (get_or (count_table t) 3 0) (front_table t) (back_table t) (get_or (count_table t) 1 0)
-  held_tables = tables (held t spans) (count_table t) (front_table t) (back_table t) (use_table t) (wire_table t) (face_table t) (shell_table t) (listing_table t) (held_lent t spans long ok)
-
-  pub held_removed : (v : ℕ) (e : Ending) → removed_in t v e ≡ pair_wires (content (held t spans)) v e
-  held_removed = pairs_are (held t spans) (count_table t) (front_table t) (back_table t) (use_table t) (wire_table t) (face_table t) (shell_table t) (listing_table t) (held_lent t spans long ok)
 
 -- where nothing is refused, there is room
 pub removal_room : (c : Content) (n v : ℕ) → remove_faults c n v ≡ [] → length c.edges < 1024

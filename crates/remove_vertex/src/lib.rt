@@ -1,82 +1,64 @@
 // Removing a vertex (the Rust's shell.rs, `remove_vertex_by_concat_edges`).
 #![tactic(auto)]
 
-ghost use Rattle.std.specs.Prelude.{◌≡◌, [], map, ◌<◌, ◌≤◌, get_or, length};
-ghost use Rattle.std.proofs.lemmas.List.Edits.{sets};
+ghost use Rattle.std.specs.Prelude.{◌≡◌, [], ◌<◌, get_or, length};
 ghost use Rattle.remove_vertex_corners.specs.Corners.{fit};
 ghost use Rattle.pattern.specs.Checks.{pattern_faults};
 ghost use Rattle.pattern.specs.Contents.{Pattern, content};
 ghost use Rattle.edit_answers.specs.declared.EditError.TheVariants.{Unmatched};
-ghost use Rattle.lists.specs.Lists.{flat, unless};
+ghost use Rattle.lists.specs.Lists.{unless};
 ghost use Rattle.shell_edits.specs.Answers.{after_remove, remove_answer};
 ghost use Rattle.shell_edits.specs.Edits.{end_faults, ending_wires, last_wire, near_faults, remove_faults};
 ghost use Rattle.shell_edits.specs.NewEdges.{joined_ends};
 ghost use Rattle.shell_wires.specs.Lent.{Lent};
 ghost use Rattle.remove_vertex_corners.specs.Endings.{ending_of};
-ghost use Rattle.remove_vertex_corners.specs.Tables.{WireTables};
-ghost use Rattle.store.specs.Store.{count_table, held, use_table, wire_table};
-ghost use Rattle.remove_vertex.specs.Removals.{OfEdges, corner_in, corner_lent, pair_edge, pair_stored, pairing, removal, removed_in};
-ghost use Rattle.store.specs.Columns.{back_table, front_table};
+ghost use Rattle.store.specs.Store.{count_table, held};
+ghost use Rattle.remove_vertex.specs.Removals.{OfEdges, corner_in, corner_lent, pair_edge, pair_stored, pairing, removal};
 
 use concat::{append_edge, judge_join};
 use edge::{Edge, EdgeID};
 use edit_answers::EditError;
 use errors::CallError;
-use pattern::Counts;
-use remove_vertex_corners::{Corner, Ending, corners_fit, corners_in, ending_in, put_tables};
+use pattern::Lists;
+use remove_vertex_corners::{Corner, Ending, corners_fit, corners_in, ending_in, put_wires};
 use shell_wires::mark_wires;
 use store::{
-    Spans, Tables, backs_in, counts_in, edge_in, faces_in, fronts_in, listings_in, shells_in,
-    store_count, store_uses, store_wires, tables_known, uses_in, wires_in,
+    Spans, Tables, counts_in, edge_in, lists_in, store_count, store_uses, store_wires, tables_known,
 };
 use store_check::check;
 use vertex::VertexID;
-use words::{index, sum_of};
+use wire::Wire;
+use words::sum_of;
 
-// The wires of shell n with a use that ends at v, counted per listing; from columns of a pattern
+// The wires of shell n with a use that ends at v, counted per listing; from the lists of a pattern
 // without fault.
-fn ending_at<'a>(
-    counts: Counts,
-    fronts: &'a [u16],
-    backs: &'a [u16],
-    uses: &'a [u16],
-    wires: &'a [u16],
-    faces: &'a [u16],
-    shells: &'a [u16],
-    listings: &'a [u16],
-    n: usize,
-    v: VertexID,
-) -> Ending
-    requires lent { (p : Pattern) × Lent p counts fronts.now backs.now uses.now wires.now faces.now shells.now listings.now }
-    requires n_bound { n < get_or counts 5 0 }
-    ensures { (p : Pattern) → Lent p counts fronts.now backs.now uses.now wires.now faces.now shells.now listings.now → result ≡ ending_of (ending_wires (content p) n v.0) }
+fn ending_at(lists: &Lists, n: usize, v: VertexID) -> Ending
+    requires lent { (p : Pattern) × Lent p lists.now }
+    requires n_bound { n < length lists.now.shells.now }
+    ensures { (p : Pattern) → Lent p lists.now → result ≡ ending_of (ending_wires (content p) n v.0) }
 {
-    let start = sum_of(shells, n);
-    let end = start + index(shells[n]);
-    ending_in(
-        uses, counts[2], wires, counts[3], fronts, backs, counts[1], v, faces, counts[4], listings,
-        start, end,
-    )
+    let listings = lists.listings;
+    let start = sum_of(&lists.shells[..n]);
+    let end = start + usize::from(lists.shells[n]);
+    let wires = Wire {
+        uses: lists.uses,
+        ends: lists.ends,
+    };
+    ending_in(&wires, lists.wires, v, lists.faces, &listings[start..end])
 }
 
 // These wires, and the last one's pair, where they end at v: 24.
-fn match_pair<'a>(
-    counts: Counts,
-    fronts: &'a [u16],
-    backs: &'a [u16],
-    uses: &'a [u16],
-    wires: &'a [u16],
-    v: VertexID,
-    e: Ending,
-) -> Result<(Ending, Corner), EditError>
-    requires wire_tables { WireTables uses.now (get_or counts 2 0) wires.now (get_or counts 3 0) fronts.now backs.now (get_or counts 1 0) }
-    requires first_bound { (e.first < get_or counts 3 0) × (e.last < get_or counts 3 0) }
-    ensures value { result ≡ pairing (unless (fit e (corner_lent counts fronts.now backs.now uses.now wires.now v.0 e.first) (corner_lent counts fronts.now backs.now uses.now wires.now v.0 e.last)) Unmatched) e (corner_lent counts fronts.now backs.now uses.now wires.now v.0 e.last) }
-    ensures of_edges { OfEdges (get_or counts 1 0) result }
+fn match_pair(lists: &Lists, v: VertexID, e: Ending) -> Result<(Ending, Corner), EditError>
+    requires lent { (p : Pattern) × Lent p lists.now }
+    requires first_bound { (e.first < length lists.now.wires.now) × (e.last < length lists.now.wires.now) }
+    ensures value { result ≡ pairing (unless (fit e (corner_lent lists.now v.0 e.first) (corner_lent lists.now v.0 e.last)) Unmatched) e (corner_lent lists.now v.0 e.last) }
+    ensures of_edges { OfEdges (length lists.now.ends.fronts.now) result }
 {
-    let k = corners_in(
-        uses, counts[2], wires, counts[3], fronts, backs, counts[1], v, e,
-    );
+    let wires = Wire {
+        uses: lists.uses,
+        ends: lists.ends,
+    };
+    let k = corners_in(&wires, lists.wires, v, e);
     let first = k.first;
     let last = k.last;
     if !corners_fit(e, first, last) {
@@ -85,44 +67,36 @@ fn match_pair<'a>(
     Ok((e, last))
 }
 
-// The wires of shell n that end at v, and the last one's pair, from columns of a pattern without
-// fault: 3, 27, 23, 24.
-fn find_pair<'a>(
-    counts: Counts,
-    fronts: &'a [u16],
-    backs: &'a [u16],
-    uses: &'a [u16],
-    wires: &'a [u16],
-    faces: &'a [u16],
-    shells: &'a [u16],
-    listings: &'a [u16],
+// The wires of shell n that end at v, and the last one's pair, from the lists of a pattern without
+// fault, which has so many points: 3, 27, 23, 24.
+fn find_pair(
+    lists: &Lists,
+    points: usize,
     n: usize,
     v: VertexID,
 ) -> Result<(Ending, Corner), EditError>
-    requires { (p : Pattern) × Lent p counts fronts.now backs.now uses.now wires.now faces.now shells.now listings.now }
-    ensures value { (p : Pattern) → Lent p counts fronts.now backs.now uses.now wires.now faces.now shells.now listings.now → result ≡ pairing (near_faults (content p) n v.0) (ending_of (ending_wires (content p) n v.0)) (corner_in (content p) v.0 (last_wire (ending_wires (content p) n v.0))) }
-    ensures of_edges { OfEdges (get_or counts 1 0) result }
+    requires { (p : Pattern) × Lent p lists.now }
+    ensures value { (p : Pattern) → Lent p lists.now → points ≡ length (content p).points → result ≡ pairing (near_faults (content p) n v.0) (ending_of (ending_wires (content p) n v.0)) (corner_in (content p) v.0 (last_wire (ending_wires (content p) n v.0))) }
+    ensures of_edges { OfEdges (length lists.now.ends.fronts.now) result }
 {
-    if n >= counts[5] {
+    if n >= lists.shells.len() {
         return Err(EditError::Unnamed);
     }
-    if index(v.0) >= counts[0] {
+    if usize::from(v.0) >= points {
         return Err(EditError::Unnamed);
     }
-    let marks = mark_wires(counts, faces, shells, listings, n);
+    let marks = mark_wires(lists, n);
     if marks.shared {
         return Err(EditError::SharedFace);
     }
-    let e = ending_at(
-        counts, fronts, backs, uses, wires, faces, shells, listings, n, v,
-    );
+    let e = ending_at(lists, n, v);
     if e.number == 0 {
         return Err(EditError::NotOneOrTwoWires);
     }
     if e.number > 2 {
         return Err(EditError::NotOneOrTwoWires);
     }
-    match_pair(counts, fronts, backs, uses, wires, v, e)
+    match_pair(lists, v, e)
 }
 
 // The pair joined, and the wires that take it, where a and b are its edges and there are so many: 25,
@@ -152,51 +126,11 @@ fn judge_removal(
 {
     tables_known(t);
     let counts = counts_in(t);
-    let (e, k) = find_pair(
-        counts,
-        fronts_in(t),
-        backs_in(t),
-        uses_in(t),
-        wires_in(t),
-        faces_in(t),
-        shells_in(t),
-        listings_in(t),
-        n,
-        v,
-    )?;
-    let a = edge_in(t, spans, index(k.ending % 32768));
-    let b = edge_in(t, spans, index(k.next % 32768));
+    let lists = lists_in(t);
+    let (e, k) = find_pair(&lists, counts[0], n, v)?;
+    let a = edge_in(t, spans, usize::from(k.ending % 32768));
+    let b = edge_in(t, spans, usize::from(k.next % 32768));
     join_pair(e, k, a, b, counts[1])
-}
-
-// Writes the wires that take the new edge and all others; how many uses there are then.
-fn put_removal(
-    t: &Tables,
-    counts: Counts,
-    v: VertexID,
-    e: Ending,
-    out: &mut [u16],
-    lens: &mut [u16],
-) -> usize
-    requires counts_value { (counts ≡ count_table t.now) × (get_or counts 1 0 < 1024) × (get_or counts 2 0 ≤ length out.old) × (get_or counts 3 0 ≤ length lens.old) }
-    requires wire_tables { WireTables (use_table t.now) (get_or counts 2 0) (wire_table t.now) (get_or counts 3 0) (front_table t.now) (back_table t.now) (get_or counts 1 0) }
-    ensures out_after { out.new ≡ sets out.old 0 (flat (removed_in t.now v.0 e)) }
-    ensures lens_after { lens.new ≡ sets lens.old 0 (map length (removed_in t.now v.0 e)) }
-    ensures value { (result ≡ length (flat (removed_in t.now v.0 e))) × (result ≤ get_or counts 2 0) }
-{
-    put_tables(
-        uses_in(t),
-        counts[2],
-        wires_in(t),
-        counts[3],
-        fronts_in(t),
-        backs_in(t),
-        counts[1],
-        v,
-        e,
-        out,
-        lens,
-    )
 }
 
 // Appends the new edge, and stores the wires that take it and all others; the edge's number.
@@ -207,14 +141,19 @@ fn write_removal(t: &mut Tables, spans: &mut Spans, v: VertexID, e: Ending, d: E
     ensures spans_after { held t.new spans.new ≡ pair_stored (held t.old spans.old) v.0 e d }
 {
     tables_known(t);
-    let counts = counts_in(t);
-    let wired = counts[3];
+    let lists = lists_in(t);
+    let wires = Wire {
+        uses: lists.uses,
+        ends: lists.ends,
+    };
+    let wired = lists.wires.len();
+    let next = lists.ends.fronts.len() as u16;
     let mut uses = [0u16; 4096];
-    let mut wires = [0u16; 1024];
-    let used = put_removal(t, counts, v, e, &mut uses, &mut wires);
+    let mut sizes = [0u16; 1024];
+    let used = put_wires(&wires, lists.wires, v, e, next, &mut uses, &mut sizes);
     let a = append_edge(t, spans, d);
-    store_uses(t, 0, &uses[0..used]);
-    store_wires(t, 0, &wires[0..wired]);
+    store_uses(t, 0, &uses[..used]);
+    store_wires(t, 0, &sizes[..wired]);
     store_count(t, 2, used as u16);
     a
 }

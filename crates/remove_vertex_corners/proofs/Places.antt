@@ -11,18 +11,17 @@ use native.Mathlib.Omega.{arith}
 use lib.Dec.{eqb}
 use lib.ListN.{drop, get_or, length, length-drop, take, get_or-append}
 use lib.Seq.{get_or-append-add, length-take-le}
-use borrow.Author.Tests.{eq-eqb, eqb-false, eqb-true, ne_eqb, le-ltb, lt-ltb}
+use borrow.Author.Tests.{eqb-false, eqb-true}
 use Rattle.edge.specs.Uses.{back_of, edge_number}
 use Rattle.lists.proofs.Laws.{cases}
-use Rattle.lists.proofs.Split.{walk_fits, get_d_split}
+use Rattle.lists.proofs.Split.{Walk, get_d_split, walk_fits, walk_part}
 use Rattle.lists.specs.Lists.{rotated, split, sum}
-use Rattle.remove_vertex_corners.specs.Corners.{corner_of, place_of, fit}
+use Rattle.remove_vertex_corners.specs.Corners.{corner_of, place_of}
 use Rattle.remove_vertex_corners.specs.declared.Corner.{Corner}
-use Rattle.remove_vertex_corners.specs.declared.Ending.{Ending}
 use Rattle.shell_edits.specs.Edits.{place_in}
-use Rattle.wire.proofs.Laws.{named_part}
+use Rattle.wire.proofs.Laws.{outline_part}
 use Rattle.wire.specs.Named.{Named}
-use Rattle.wire.specs.Wires.{end_from}
+use Rattle.wire.specs.Wires.{end_from, outline_of}
 
 module _ (fronts backs : List ℕ) (v : ℕ) where
   -- the place lies on the wire
@@ -70,8 +69,8 @@ module _ (fronts backs : List ℕ) (v : ℕ) (us : List ℕ) {i : ℕ} (is : i �
   pub corner_other : i < length us → (i + 1 ≡ length us → ⊥) → corner_as (get_or us i 0) (get_or us (i + 1) 0) ≡ corner_of fronts backs v us
   corner_other l h = rw (← is, next_other us i l h)
 
--- the corner of a wire that is a part of the uses; both its uses name edges
-module _ (fronts backs : List ℕ) (v : ℕ) (uses : List ℕ) (start n : ℕ) (named : Named fronts backs uses) where
+-- both uses of a corner name edges
+module _ (fronts backs : List ℕ) (v : ℕ) where
   both_named : (us : List ℕ) → Named fronts backs us → 0 < length us → (edge_number (corner_of fronts backs v us).ending < length fronts) × (edge_number (corner_of fronts backs v us).next < length fronts)
   both_named us h some =
       let i = place_of fronts backs v us in
@@ -81,9 +80,16 @@ module _ (fronts backs : List ℕ) (v : ℕ) (uses : List ℕ) (start n : ℕ) (
       (λ (t : eqb (i + 1) (length us) ≡ false). (h.edge i low, rw (next_other us i low (eqb-false (i + 1) (length us) t)) (h.edge (i + 1) (omega (arith, eqb-false (i + 1) (length us) t)))))
       (cases (eqb (i + 1) (length us)))
 
-  pub corner_whole : {us : List ℕ} → us ≡ take n (drop start uses) → 0 < length (take n (drop start uses)) → {r : Corner} → r ≡ corner_of fronts backs v (take n (drop start uses))
-      → (r ≡ corner_of fronts backs v us) × ((edge_number r.ending < length fronts) × (edge_number r.next < length fronts))
-  corner_whole e some is = rw (e, is) (refl, both_named (take n (drop start uses)) (named_part fronts backs uses named start n) some)
+  pub corner_named : {us : List ℕ} → Named fronts backs us → 0 < length us → {r : Corner} → r ≡ corner_of fronts backs v us
+      → (edge_number r.ending < length fronts) × (edge_number r.next < length fronts)
+  corner_named {us} named some is = rw is (both_named us named some)
+
+-- wire w, as the code takes it
+pub wire_part : (lens uses : List ℕ) {w start n : ℕ} → w < length lens → start ≡ sum (take w lens) → n ≡ get_or lens w 0 → sum lens ≡ length uses
+    → outline_of uses start n ≡ get_or (split lens uses) w []
+wire_part lens uses {w} {start} {n} h begin is all =
+    let walk : Walk lens w start = record { low = omega arith; here = begin } in
+    sym (outline_part uses start n (omega (arith, walk_fits lens w start n walk h is, all))) ∙ sym (walk_part lens w start n walk h is uses)
 
 -- part w has the length that is given
 pub part_long : (ns xs : List ℕ) (w : ℕ) → sum ns ≡ length xs → w < length ns → length (get_or (split ns xs) w []) ≡ get_or ns w 0
@@ -91,14 +97,3 @@ part_long ns xs w e h =
     let at = sum (take w ns) in
     let fits : at + get_or ns w 0 ≤ sum ns = walk_fits ns w at (get_or ns w 0) (record { low = omega arith; here = refl }) h refl in
     ap length (get_d_split ns xs w) ∙ length-take-le (get_or ns w 0) (drop at xs) (omega (arith, length-drop at xs))
-
--- ---- the two corners
-module _ (e : Ending) (a b : Corner) where
-  pub fit_one : e.number < 2 → true ≡ fit e a b
-  fit_one h = rw (lt-ltb e.number 2 h)
-
-  pub fit_two : 2 ≤ e.number → edge_number a.ending ≡ edge_number b.next → eqb (edge_number b.ending) (edge_number a.next) ≡ fit e a b
-  fit_two h m = rw (le-ltb e.number 2 h, eq-eqb (edge_number a.ending) (edge_number b.next) m)
-
-  pub fit_none : 2 ≤ e.number → (edge_number a.ending ≡ edge_number b.next → ⊥) → false ≡ fit e a b
-  fit_none h m = rw (le-ltb e.number 2 h, ne_eqb (edge_number a.ending) (edge_number b.next) m)

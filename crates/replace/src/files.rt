@@ -8,7 +8,7 @@ use std::{fs, io};
 // What a call answers where a file is there already, and where an argument is no good.
 const EEXIST: i32 = 17;
 
-const EINVAL: i32 = 22;
+pub const EINVAL: i32 = 22;
 
 // How many names are tried for a new file: as many as C tries.
 const TRIES: u32 = 238328;

@@ -1,7 +1,8 @@
 // Names that are made of a path.
-ghost use Rattle.std.specs.Prelude.{◌<◌, ◌≤◌, length};
+ghost use Rattle.std.specs.Prelude.{◌<◌, ◌≤◌, length, IfOk, IfSome};
 ghost use Rattle.replace.specs.Paths.{Ended};
 
+use crate::files::EINVAL;
 use std::io;
 use std::str::from_utf8;
 
@@ -56,21 +57,18 @@ pub fn text(path: &[u8]) -> io::Result<&str> {
     }
 }
 
-// Puts the path and `.XXXXXX`, for files::create_temp, into name, and answers how many bytes, or 0 where they do not fit.
-pub fn temporary(path: &[u8], name: &mut [u8]) -> usize
-    ensures { result ≤ length name.new }
+// Puts the path and `.XXXXXX`, for files::create_temp, into name, and answers how many bytes. It fails where they do not fit.
+pub fn temporary(path: &[u8], name: &mut [u8]) -> io::Result<usize>
+    ensures { IfOk result (λ n. n ≤ length name.new) }
 {
     let n = path.len();
-    if n >= PATH_MAX {
-        return 0;
-    }
     let end = n + 7;
-    if end > name.len() {
-        return 0;
+    if n >= PATH_MAX || end > name.len() {
+        return Err(io::Error::from_raw_os_error(EINVAL));
     }
     copy(path, name);
     copy(b".XXXXXX", &mut name[n..]);
-    end
+    Ok(end)
 }
 
 // A letter or a digit.
@@ -90,9 +88,9 @@ pub fn complete(name: &mut [u8], random: &[u8; 6]) {
     }
 }
 
-// Where the path's last `/` stands, or the path's length where it has none.
-pub fn last_slash(path: &[u8]) -> usize
-    ensures { result ≤ length path.now }
+// Where the path's last `/` stands.
+pub fn last_slash(path: &[u8]) -> Option<usize>
+    ensures { IfSome result (λ n. n < length path.now) }
 {
-    path.iter().rposition(|b| *b == b'/').unwrap_or(path.len())
+    path.iter().rposition(|b| *b == b'/')
 }

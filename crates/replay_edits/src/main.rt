@@ -3,31 +3,41 @@
 // and after a `done` what changed in the pattern as text. recorded/README.md has the words.
 #![tactic(auto)]
 
+ghost use Rattle.std.specs.Prelude.{◌≤◌};
+
+use console::without_feed;
 use pattern::LONGEST;
 use std::io;
-use text::name_of;
-
-// The words of the lines that are no job, as `text::name_of` has them.
-const FRESH: u64 = 0x16672657368;
-
-const REPORT: u64 = 0x17265706f7274;
 
 // A pattern file: the first bytes.
-#[derive(Clone, Copy)]
+#[derive(Drop)]
 struct File {
     bytes: [u8; LONGEST],
     length: usize,
+    ghost inside: { length ≤ 41048 },
+}
+
+impl File {
+    // These bytes, as many as there is room for.
+    fn new(bytes: &[u8]) -> File {
+        let n = bytes.len().min(LONGEST);
+        let mut room = [0u8; LONGEST];
+        room[..n].copy_from_slice(&bytes[..n]);
+        File {
+            bytes: room,
+            length: n,
+        }
+    }
+
+    fn content(&self) -> &[u8] {
+        &self.bytes[..self.length]
+    }
 }
 
 fn print_line(rt: &HostRuntime, mark: &[u8], line: &[u8]) -> io::Result<()> {
     rt.write_all(mark)?;
     rt.write_all(line)?;
     rt.write_all(b"\n")
-}
-
-// A line without the line feed at its end.
-fn without_feed(line: &[u8]) -> &[u8] {
-    line.strip_suffix(b"\n").unwrap_or(line)
 }
 
 // Whether a text has this line.
@@ -47,137 +57,61 @@ fn print_missing(rt: &HostRuntime, one: &[u8], other: &[u8], mark: &[u8]) -> io:
     Ok(())
 }
 
-// Prints the lines that only one of two texts has, of which the first n and m bytes count.
-fn print_differences(
-    rt: &HostRuntime,
-    before: &[u8; 262144],
-    n: usize,
-    after: &[u8; 262144],
-    m: usize,
-) -> io::Result<()> {
-    let old: &[u8] = before;
-    let new: &[u8] = after;
-    if n > old.len() {
-        return Ok(());
-    }
-    if m > new.len() {
-        return Ok(());
-    }
-    print_missing(rt, &old[0..n], &new[0..m], b"- ")?;
-    print_missing(rt, &new[0..m], &old[0..n], b"+ ")
-}
-
-// Writes the text of the pattern file in the first n bytes, and returns its length.
-fn show(bytes: &[u8; LONGEST], n: usize, text: &mut [u8; 262144]) -> usize {
-    let file: &[u8] = bytes;
-    if n > file.len() {
-        return 0;
-    }
-    show_text::show(&file[0..n], text)
-}
-
-// Prints what changed from one pattern file to another, of which the first n and m bytes count.
-fn print_changes(
-    rt: &HostRuntime,
-    old: &[u8; LONGEST],
-    n: usize,
-    new: &[u8; LONGEST],
-    m: usize,
-) -> io::Result<()> {
+// Prints what changed from one pattern file to another: the lines that only one of their texts has.
+fn print_changes(rt: &HostRuntime, old: &[u8], new: &[u8]) -> io::Result<()> {
     let mut before = [0u8; 262144];
     let mut after = [0u8; 262144];
-    let b = show(old, n, &mut before);
-    let a = show(new, m, &mut after);
-    print_differences(rt, &before, b, &after, a)
-}
-
-// Applies the job of a line to the pattern file in the first n bytes, and prints the answer. Returns the
-// length of the edited file; 0 where there is none.
-fn run_job(
-    rt: &HostRuntime,
-    line: &[u8],
-    bytes: &[u8; LONGEST],
-    n: usize,
-    out: &mut [u8; LONGEST],
-) -> io::Result<usize> {
-    let file: &[u8] = bytes;
-    if n > file.len() {
-        return Ok(0);
-    }
-    let mut text = [0u8; 65536];
-    let done = jobs::run(line, &file[0..n], out, &mut text);
-    console::print_answer(rt, &text, done.text)?;
-    Ok(done.file)
-}
-
-// The file after the job of a line.
-fn replay_job(rt: &HostRuntime, file: File, line: &[u8]) -> io::Result<File> {
-    let bytes = file.bytes;
-    let n = file.length;
-    let mut out = [0u8; LONGEST];
-    let m = run_job(rt, line, &bytes, n, &mut out)?;
-    if m == 0 {
-        return Ok(file);
-    }
-    print_changes(rt, &bytes, n, &out, m)?;
-    Ok(File {
-        bytes: out,
-        length: m,
-    })
-}
-
-// Prints the report of the pattern file in the first n bytes.
-fn print_report(rt: &HostRuntime, bytes: &[u8; LONGEST], n: usize) -> io::Result<()> {
-    let file: &[u8] = bytes;
-    if n > file.len() {
-        return Ok(());
-    }
-    let mut text = [0u8; 1126400];
-    let length = report_text::report(&file[0..n], &mut text);
-    console::print_report(rt, &text, length)
-}
-
-// The file after one line; `read` is the file as it was read.
-fn replay_line(rt: &HostRuntime, file: File, read: File, line: &[u8]) -> io::Result<File> {
-    print_line(rt, b"", line)?;
-    let name = name_of(line);
-    if name == FRESH {
-        return Ok(read);
-    }
-    if name == REPORT {
-        let bytes = file.bytes;
-        print_report(rt, &bytes, file.length)?;
-        return Ok(file);
-    }
-    replay_job(rt, file, line)
-}
-
-fn replay_lines(rt: &HostRuntime, read: File, lines: &[u8]) -> io::Result<()> {
-    let mut file = read;
-    for line in lines.split_inclusive(|b| *b == b'\n') {
-        file = replay_line(rt, file, read, without_feed(line))?;
+    let n = show_text::show(old, &mut before);
+    let m = show_text::show(new, &mut after);
+    if let (Some(before), Some(after)) = (before.get(..n), after.get(..m)) {
+        print_missing(rt, before, after, b"- ")?;
+        print_missing(rt, after, before, b"+ ")?;
     }
     Ok(())
 }
 
-// Replays the lines of the file that argument `e` names on the pattern file that argument `k` names.
-fn replay(rt: &HostRuntime, k: usize, e: usize) -> io::Result<()> {
-    console::print_file_line(rt, k)?;
-    let mut bytes = [0u8; LONGEST];
-    let mut lines = [0u8; 16384];
-    let n = console::read_argument(rt, k, &mut bytes);
-    let m = console::read_argument(rt, e, &mut lines);
-    let read = File {
-        bytes: bytes,
-        length: n,
-    };
-    replay_lines(rt, read, &lines[..m])
+// Applies the job of a line to the file, and prints the answer and what changed.
+fn replay_job(rt: &HostRuntime, file: &mut File, line: &[u8]) -> io::Result<()> {
+    let mut out = [0u8; LONGEST];
+    let mut text = [0u8; 65536];
+    let done = jobs::run(line, file.content(), &mut out, &mut text);
+    console::print_first(rt, &text, done.text)?;
+    match out.get(..done.file) {
+        Some(edited) if done.file > 0 => {
+            print_changes(rt, file.content(), edited)?;
+            *file = File::new(edited);
+            Ok(())
+        }
+        _ => Ok(()),
+    }
+}
+
+// Replays one line on the file; `read` is the file as it was read.
+fn replay_line(rt: &HostRuntime, file: &mut File, read: &[u8], line: &[u8]) -> io::Result<()> {
+    print_line(rt, b"", line)?;
+    match line {
+        b"fresh" => {
+            *file = File::new(read);
+            Ok(())
+        }
+        b"report" => {
+            let mut text = [0u8; 1126400];
+            let length = report_text::report(file.content(), &mut text);
+            console::print_first(rt, &text, length)
+        }
+        job => replay_job(rt, file, job),
+    }
+}
+
+fn replay(rt: &HostRuntime, read: &[u8], lines: &[u8]) -> io::Result<()> {
+    let mut file = File::new(read);
+    for line in lines.split_inclusive(|b| *b == b'\n') {
+        replay_line(rt, &mut file, read, without_feed(line))?;
+    }
+    Ok(())
 }
 
 fn main(rt: HostRuntime) -> io::Result<()> {
-    let n = console::arg_count(&rt);
-    for e in (2..n).step_by(2) {
-        replay(&rt, e - 1, e)?;
-    }
-    Ok(())
+    let mut bytes = [0u8; LONGEST];
+    console::each_pair(&rt, &mut bytes, |read, lines| replay(&rt, read, lines))
 }

@@ -30,61 +30,17 @@ fn in_pieces(
     end.answer
 }
 
-// Whether two answers have the same numbers, and two files the same bytes.
-fn same(
-    a: Result<usize, CallError<MeshError>>,
-    b: Result<usize, CallError<MeshError>>,
-    file: &[u8; LONGEST],
-    other: &[u8; LONGEST],
-) -> bool {
+// Whether two answers have the same numbers.
+fn same(a: Result<usize, CallError<MeshError>>, b: Result<usize, CallError<MeshError>>) -> bool {
     let x = mesh_answers::import_values(a);
     let y = mesh_answers::import_values(b);
-    if x.outcome != y.outcome {
-        return false;
-    }
-    if x.number != y.number {
-        return false;
-    }
-    if x.first != y.first {
-        return false;
-    }
-    if x.second != y.second {
-        return false;
-    }
-    file == other
+    (x.outcome, x.number, x.first, x.second) == (y.outcome, y.number, y.first, y.second)
 }
 
-fn try_pieces(
-    rt: &HostRuntime,
-    mesh: &[u8],
-    size: usize,
-    whole: Result<usize, CallError<MeshError>>,
-    file: &[u8; LONGEST],
-) -> io::Result<()> {
-    let mut other = [0u8; LONGEST];
-    let answer = in_pieces(mesh, size, &mut other);
-    if !same(whole, answer, file, &other) {
-        println!(rt; "another answer in pieces of {size}")?;
-    }
-    Ok(())
-}
-
-fn print_text(rt: &HostRuntime, text: &[u8; 262144], n: usize) -> io::Result<()> {
-    console::print_first(rt, text, n)
-}
-
-fn print_pattern(rt: &HostRuntime, file: &[u8; LONGEST], n: usize) -> io::Result<()> {
-    let whole: &[u8] = file;
-    if n > whole.len() {
-        return Ok(());
-    }
+fn print_pattern(rt: &HostRuntime, file: &[u8]) -> io::Result<()> {
     let mut text = [0u8; 262144];
-    let length = show_text::show(&whole[0..n], &mut text);
-    print_text(rt, &text, length)
-}
-
-fn print_line(rt: &HostRuntime, line: &[u8; 96], n: usize) -> io::Result<()> {
-    console::print_first(rt, line, n)
+    let length = show_text::show(file, &mut text);
+    console::print_first(rt, &text, length)
 }
 
 fn print_answer(
@@ -93,38 +49,33 @@ fn print_answer(
     file: &[u8; LONGEST],
 ) -> io::Result<()> {
     match answer {
-        Ok(n) => print_pattern(rt, file, n),
+        Ok(n) => match file.get(..n) {
+            Some(file) => print_pattern(rt, file),
+            None => Ok(()),
+        },
         other => {
             let mut line = [0u8; 96];
             let length = mesh_answers::put_import(other, &mut line);
-            print_line(rt, &line, length)
+            rt.write_all(&line[..length])
         }
     }
 }
 
-fn told(rt: &HostRuntime, mesh: &[u8]) -> io::Result<()> {
+fn tell(rt: &HostRuntime, mesh: &[u8]) -> io::Result<()> {
     let mut file = [0u8; LONGEST];
-    let answer = import_mesh(mesh, &mut file);
-    print_answer(rt, answer, &file)?;
-    try_pieces(rt, mesh, 1, answer, &file)?;
-    try_pieces(rt, mesh, 2, answer, &file)?;
-    try_pieces(rt, mesh, 3, answer, &file)?;
-    try_pieces(rt, mesh, 7, answer, &file)
-}
-
-fn replay(rt: &HostRuntime, k: usize) -> io::Result<()> {
-    console::print_file_line(rt, k)?;
-    let Ok(mut file) = console::open_argument(rt, k) else {
-        return rt.write_all(b"not found\n");
-    };
-    let mut mesh = [0u8; 131072];
-    let n = console::read_full(&mut file, &mut mesh);
-    told(rt, &mesh[..n])
+    let whole = import_mesh(mesh, &mut file);
+    print_answer(rt, whole, &file)?;
+    for size in [1, 2, 3, 7] {
+        let mut other = [0u8; LONGEST];
+        let answer = in_pieces(mesh, size, &mut other);
+        if !same(whole, answer) || file != other {
+            println!(rt; "another answer in pieces of {size}")?;
+        }
+    }
+    Ok(())
 }
 
 fn main(rt: HostRuntime) -> io::Result<()> {
-    for k in 1..console::arg_count(&rt) {
-        replay(&rt, k)?;
-    }
-    Ok(())
+    let mut mesh = [0u8; 131072];
+    console::each_content(&rt, &mut mesh, |mesh| tell(&rt, mesh))
 }

@@ -10,13 +10,7 @@ use store::{SPANS, Spans, TABLES, Tables};
 fn written_back(t: &Tables, spans: &Spans, bytes: &[u8]) -> bool {
     let mut file = [0u8; LONGEST];
     match store_write::write(t, spans, &mut file) {
-        Ok(n) => {
-            if n <= LONGEST {
-                &file[0..n] == bytes
-            } else {
-                false
-            }
-        }
+        Ok(n) => file.get(..n).is_some_and(|file| file == bytes),
         Err(_) => false,
     }
 }
@@ -36,6 +30,7 @@ fn answer(rt: &HostRuntime, bytes: &[u8]) -> io::Result<()> {
     }
 }
 
+// Not by `console::each_content`: here the name and the answer stand in one line.
 fn replay(rt: &HostRuntime, k: usize) -> io::Result<()> {
     console::print_argument(rt, k)?;
     rt.write_all(b" ")?;

@@ -15,8 +15,8 @@ fn main(rt: HostRuntime) {
         return;
     };
     let mut text = [0u8; 1126400];
-    let length = report_text::report(&bytes[0..n], &mut text);
-    if let Err(e) = console::print_report(&rt, &text, length) {
+    let length = report_text::report(&bytes[..n], &mut text);
+    if let Err(e) = console::print_first(&rt, &text, length) {
         console::fail(&rt, b"report: standard output", e);
     }
 }

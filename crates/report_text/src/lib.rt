@@ -11,7 +11,7 @@ ghost use Rattle.store.specs.Store.{count_table};
 ghost use Rattle.report_text.specs.Report.{report_of, ReportPromised, report_text, solid_text};
 ghost use Rattle.report_text.specs.Texts.{Shelled};
 
-use columns::Columns;
+use columns::{Columns, Derived};
 use lines::{put_shell, put_solid};
 use output::put_refusal;
 use reports::{put_groups, put_openings};
@@ -32,8 +32,8 @@ fn shell_text(columns: &Columns, n: usize, out: &mut [u8], at: usize) -> ShellTe
     ensures of_tables { OfTables columns.now.t.now (λ p. Shelled (content p) n out.old at out.new result) }
     ensures at_bound { result.at ≤ at + 70300 }
 {
-    let first = columns.places[n];
-    let end = columns.places[n + 1];
+    let first = columns.derived.places[n];
+    let end = columns.derived.places[n + 1];
     let mut walked = [0u16; 2048];
     let mut lens = [0u16; 2048];
     let mut pairs = [0u16; 512];
@@ -102,7 +102,12 @@ fn pattern_text(t: &Tables, out: &mut [u8]) -> usize
     ensures of_tables { OfTables t.now (λ p. (out.new ≡ sets out.old 0 (report_text (content p))) × (result ≡ length (report_text (content p)))) }
     ensures of_tables_2 { OfTables t.now (λ p. (k : ℕ) → OpeningsPromised (content p) k) }
 {
-    let columns = Columns::new(t);
+    let mut derived = Derived::new();
+    derived.put(t);
+    let columns = Columns {
+        t,
+        derived: &derived,
+    };
     columns_text(&columns, out)
 }
 

@@ -1,6 +1,6 @@
 -- The columns are those of a sound pattern: what the functions ask of them, and what they find.
 use Prim.Native.Nat.{◌+◌, ◌-◌, ◌<◌, ◌≤◌, ℕ}
-use mathlib.Core.List.{List, map}
+use mathlib.Core.List.{List, [], map}
 use mathlib.Core.Logic.{∥∥₁_elim}
 use mathlib.Core.Path.{◌∙◌, ◌≡◌, ap, sym}
 use native.Mathlib.Bridge.{le_prop}
@@ -9,14 +9,18 @@ use native.Mathlib.Numerals.{add-one}
 use native.Mathlib.Omega.{arith}
 use lib.Ieee.{Float}
 use lib.ListN.{drop, get_or, length, length-drop, length-map, length-take, take}
+use Rattle.std.proofs.lemmas.List.{nil_from_length}
 use Rattle.columns.proofs.Shells.{listings_are, listings_inside}
 use Rattle.columns.specs.Columns.{Columns, Made, columns_in, lent}
 use Rattle.columns.specs.Sound.{Faultless, OfTables, Sound}
 use Rattle.edge.specs.Edges.{back_number, front_number}
 use Rattle.listing.specs.Parts.{between}
 use Rattle.lists.proofs.Laws.{map_take}
-use Rattle.pairs.specs.Pairs.{Pairs, Showing, pairs_of}
+use Rattle.pairs.specs.declared.Pairs.{Pairs}
+use Rattle.pairs.specs.Pairs.{Showing, pairs_of}
 use Rattle.pattern.proofs.Counts.{points_counted}
+use Rattle.pattern.proofs.Passed.{pattern_passed}
+use Rattle.pattern.specs.Checks.{count_faults}
 use Rattle.pattern.specs.Contents.{Pattern, content}
 use Rattle.shell.specs.Shells.{listings_of}
 use Rattle.store.specs.Store.{count_table, held, listing_table, use_table, wire_table}
@@ -83,6 +87,9 @@ module _ {t turned starts firsts places : List ℕ} (m : Made t turned starts fi
 
     pub listings_few : length (listing_table t) ≡ 512
     listings_few = by_pattern (hlevel ℕ_set) (λ spans s e. s.full.listings)
+
+    pub counts_fit : count_faults (count_table t) ≡ []
+    counts_fit = nil_from_length (count_faults (count_table t)) (by_pattern (hlevel ℕ_set) (λ spans s e. ap length (pattern_passed (held t spans) s.ok).counts))
 
     pub edges_fit : (get_or (count_table t) 1 0 ≤ length (front_table t)) × (get_or (count_table t) 1 0 ≤ length (back_table t))
     edges_fit = by_pattern (hlevel le_prop) (λ spans s e. edges_inside K n _ s e here)

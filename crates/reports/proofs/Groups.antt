@@ -25,7 +25,8 @@ use Rattle.lists.proofs.Count.{All, all_flat_map, all_map, all_weaker}
 use Rattle.lists.proofs.Laws.{length_tabulate, sum_next, sum_take_drop}
 use Rattle.lists.specs.Lists.{flat, numbers, only, padded, split, sum}
 use Rattle.pairs.proofs.Columns.{lens_room, showing_few, uses_room}
-use Rattle.pairs.specs.Pairs.{Pairs, Rows, Showing, lens_at, pairs_in, pairs_of}
+use Rattle.pairs.specs.declared.Pairs.{Pairs}
+use Rattle.pairs.specs.Pairs.{Rows, Showing, lens_at, pairs_in, pairs_of}
 use Rattle.pattern.proofs.Counts.{edges_counted, faces_counted, points_counted, uses_counted, wires_counted}
 use Rattle.pattern.proofs.Named.{faces_summed, wires_summed}
 use Rattle.pattern.specs.Checks.{outlines}

@@ -6,7 +6,7 @@ use Rattle.edge.specs.Uses.{back_of, front_of}
 use Rattle.components.specs.Pairs.{Paired}
 use Rattle.connected.specs.Wired.{Wired}
 use Rattle.singular.specs.Ends.{Cornered}
-use Rattle.pairs.specs.Pairs.{Pairs}
+use Rattle.pairs.specs.declared.Pairs.{Pairs}
 use Rattle.pattern.specs.Contents.{Content}
 use Rattle.reports.specs.declared.GroupCounts.{GroupCounts}
 use Rattle.reports.specs.declared.OpeningCounts.{OpeningCounts}
@@ -49,19 +49,6 @@ pub record Grouped (c : Content) (n : ℕ) (out₀ sizes₀ found₀ out sizes f
   pub points : found ≡ sets found₀ 0 (singular_points c n)
 
 -- ---- the groups from the columns of the pairs
-
--- columns of pairs that stand apart
-abbrev pub pairs_lent : ℕ → ℕ → ℕ → List ℕ → List ℕ → List ℕ → List ℕ → List ℕ → Pairs
-pairs_lent number wires uses pairs counts spans lens shown = record {
-  number = number;
-  wires = wires;
-  uses = uses;
-  pairs = pairs;
-  counts = counts;
-  spans = spans;
-  lens = lens;
-  shown = shown;
-}
 
 abbrev pub pair_wires : Pairs → List (List ℕ)
 pair_wires g = split (take g.wires g.lens) (take g.uses g.shown)

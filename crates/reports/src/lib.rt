@@ -12,16 +12,17 @@ ghost use Rattle.shell.specs.Conditions.{condition};
 ghost use Rattle.shell.specs.Shells.{shell_uses};
 ghost use Rattle.store.specs.Store.{count_table};
 ghost use Rattle.reports.specs.InHand.{listings_in, uses_in};
-ghost use Rattle.reports.specs.Figures.{Counted, Figured, Grouped, Opened, pairs_lent};
+ghost use Rattle.reports.specs.Figures.{Counted, Figured, Grouped, Opened};
 
 use columns::Columns;
 use components::components_of;
 use condition::{Condition, Tally, condition_of, odd_of};
 use connected::connected_of;
+use edge::Ends;
 use extract::{openings_of, tally_listings};
-use pairs::shell_pairs;
+use pairs::Pairs;
 use singular::singular_of;
-use store::{backs_in, counts_in, fronts_in, listings_in, uses_in, wires_in};
+use store::{counts_in, listings_in, lists_in, wires_in};
 
 // The condition of a shell; how many openings it has, their uses in all, the lookups.
 #[derive(Clone, Copy)]
@@ -44,24 +45,18 @@ pub struct GroupCounts {
 // The listings of shell n.
 fn shell_listings<'a>(columns: &Columns<'a>, n: usize) -> &'a [u16]
     requires { n < get_or (count_table columns.now.t.now) 5 0 }
-    ensures { result.now ≡ listings_in (lent columns.now.t.now columns.now.turned columns.now.starts columns.now.firsts columns.now.places) n }
+    ensures { result.now ≡ listings_in (lent columns.now.t.now columns.now.derived.now.turned columns.now.derived.now.starts columns.now.derived.now.firsts columns.now.derived.now.places) n }
 {
     let listings = listings_in(columns.t);
-    &listings[columns.places[n]..columns.places[n + 1]]
+    &listings[columns.derived.places[n]..columns.derived.places[n + 1]]
 }
 
 // The tally of the uses of shell n.
 fn shell_tally(columns: &Columns, n: usize) -> Tally
     requires { n < get_or (count_table columns.now.t.now) 5 0 }
-    ensures { result ≡ inserted_all no_uses (uses_in (lent columns.now.t.now columns.now.turned columns.now.starts columns.now.firsts columns.now.places) n) }
+    ensures { result ≡ inserted_all no_uses (uses_in (lent columns.now.t.now columns.now.derived.now.turned columns.now.derived.now.starts columns.now.derived.now.firsts columns.now.derived.now.places) n) }
 {
-    let uses = uses_in(columns.t);
-    tally_listings(
-        shell_listings(columns, n),
-        uses,
-        &columns.turned,
-        &columns.starts,
-    )
+    tally_listings(shell_listings(columns, n), &columns.parts())
 }
 
 // The condition of shell n.
@@ -82,9 +77,7 @@ pub fn put_openings(columns: &Columns, n: usize, out: &mut [u16], lens: &mut [u1
     ensures used_bound { (result.used ≤ 2048) × (result.openings ≤ 2048) × (result.lookups ≤ 1000000) }
 {
     let counts = counts_in(columns.t);
-    let uses = uses_in(columns.t);
-    let fronts = fronts_in(columns.t);
-    let backs = backs_in(columns.t);
+    let ends = lists_in(columns.t).ends;
     let listings = shell_listings(columns, n);
     let edges = counts[1];
     let tally = shell_tally(columns, n);
@@ -101,12 +94,9 @@ pub fn put_openings(columns: &Columns, n: usize, out: &mut [u16], lens: &mut [u1
     let odd = odd_of(tally, edges);
     let w = openings_of(
         listings,
-        uses,
-        &columns.turned,
-        &columns.starts,
+        &columns.parts(),
         &odd,
-        &fronts[0..edges],
-        &backs[0..edges],
+        &ends,
         counts[0],
         out,
         lens,
@@ -120,54 +110,29 @@ pub fn put_openings(columns: &Columns, n: usize, out: &mut [u16], lens: &mut [u1
 }
 
 // Writes the groups of the pairs, whose uses have these ends.
-fn put_figures<'a>(
-    number: usize,
-    wires: usize,
-    uses: usize,
-    pairs: &'a [u16],
-    counts: &'a [u16],
-    spans: &'a [u16],
-    lens: &'a [u16],
-    shown: &'a [u16],
-    fronts: &[u16],
-    backs: &[u16],
+fn put_figures(
+    pairs: &Pairs,
+    ends: &Ends,
     points: usize,
     out: &mut [u16],
     sizes: &mut [u16],
     found: &mut [u16],
 ) -> GroupCounts
-    requires { Figured (pairs_lent number wires uses pairs.now counts.now spans.now lens.now shown.now) fronts.now backs.now points out.old sizes.old found.old }
-    ensures { Counted (pairs_lent number wires uses pairs.now counts.now spans.now lens.now shown.now) fronts.now backs.now points out.old sizes.old found.old out.new sizes.new found.new result }
+    requires { Figured pairs.now ends.now.fronts.now ends.now.backs.now points out.old sizes.old found.old }
+    ensures { Counted pairs.now ends.now.fronts.now ends.now.backs.now points out.old sizes.old found.old out.new sizes.new found.new result }
 {
-    let edges = fronts.len();
-    let connected = connected_of(
-        &shown[0..uses],
-        &lens[0..wires],
-        &counts[0..number],
-        fronts,
-        backs,
-        points,
-    );
-    let components = components_of(
-        &pairs[0..number],
-        &spans[0..number],
-        &shown[0..uses],
-        edges,
-        out,
-        sizes,
-    );
-    let singular = singular_of(
-        &shown[0..uses],
-        &lens[0..wires],
-        fronts,
-        backs,
-        points,
-        found,
-    );
+    let listed = &pairs.pairs[..pairs.number];
+    let counts = &pairs.counts[..pairs.number];
+    let spans = &pairs.spans[..pairs.number];
+    let wires = &pairs.lens[..pairs.wires];
+    let uses = &pairs.shown[..pairs.uses];
+    let connected = connected_of(uses, wires, counts, ends, points);
+    let components = components_of(listed, spans, uses, ends.fronts.len(), out, sizes);
+    let singular = singular_of(uses, wires, ends, points, found);
     GroupCounts {
         connected,
         components,
-        members: number,
+        members: pairs.number,
         singular,
     }
 }
@@ -186,44 +151,10 @@ pub fn put_groups(
     ensures { OfTables columns.now.t.now (λ p. Grouped (content p) n out.old sizes.old found.old out.new sizes.new found.new result) }
 {
     let table = counts_in(columns.t);
-    let uses = uses_in(columns.t);
     let wires = wires_in(columns.t);
-    let fronts = fronts_in(columns.t);
-    let backs = backs_in(columns.t);
+    let ends = lists_in(columns.t).ends;
     let listings = shell_listings(columns, n);
-    let edges = table[1];
-    let mut pairs = [0u16; 512];
-    let mut counts = [0u16; 512];
-    let mut spans = [0u16; 512];
-    let mut lens = [0u16; 2048];
-    let mut shown = [0u16; 8192];
-    let c = shell_pairs(
-        listings,
-        uses,
-        &columns.turned,
-        &columns.starts,
-        wires,
-        &columns.firsts,
-        &mut pairs,
-        &mut counts,
-        &mut spans,
-        &mut lens,
-        &mut shown,
-    );
-    put_figures(
-        c.number,
-        c.wires,
-        c.uses,
-        &pairs,
-        &counts,
-        &spans,
-        &lens,
-        &shown,
-        &fronts[0..edges],
-        &backs[0..edges],
-        table[0],
-        out,
-        sizes,
-        found,
-    )
+    let mut pairs = Pairs::new();
+    pairs.fill(listings, &columns.parts(), wires, &columns.derived.firsts);
+    put_figures(&pairs, &ends, table[0], out, sizes, found)
 }

@@ -7,15 +7,21 @@ ghost use Rattle.saving.specs.Saved.{ending_after, is_changed};
 use queue::Ending;
 use replace::{Reading, Replaced};
 
-// Replaces the file at path, which was read, by the first n bytes. Where n is 0 there is nothing to save.
-pub fn save(rt: &HostRuntime, path: &[u8], bytes: &[u8], n: usize, read: Reading) -> Replaced {
-    if n == 0 {
+// Replaces the file at path, which was read, by the first bytes, as many as the edited file has. Where no file was edited there is nothing to save.
+pub fn save(
+    rt: &HostRuntime,
+    path: &[u8],
+    bytes: &[u8],
+    edited: Option<usize>,
+    read: Reading,
+) -> Replaced {
+    let Some(n) = edited else {
         return Replaced::Done;
+    };
+    match bytes.get(..n) {
+        Some(file) => replace::replace(rt, path, file, read),
+        None => Replaced::Kept,
     }
-    if n > bytes.len() {
-        return Replaced::Kept;
-    }
-    replace::replace(rt, path, &bytes[0..n], read)
 }
 
 pub fn ending_of(saved: Replaced) -> Ending
@@ -33,10 +39,5 @@ pub fn ending_of(saved: Replaced) -> Ending
 pub fn is_changed(saved: Replaced) -> bool
     ensures { result ≡ is_changed saved }
 {
-    match saved {
-        Replaced::Changed => true,
-        Replaced::Done => false,
-        Replaced::Kept => false,
-        Replaced::Unsynced => false,
-    }
+    matches!(saved, Replaced::Changed)
 }

@@ -141,7 +141,7 @@ impl Scheduler {
         };
         Scheduler {
             slots: [slot; SLOTS],
-            last: 7,
+            last: SLOTS - 1,
         }
     }
 

@@ -89,22 +89,16 @@ pub fn scheduler_in(numbers: &Numbers) -> Scheduler
 
 // ---- writing
 
-fn wide(x: u32) -> u64
-    ensures { result % 4294967296 ≡ x }
-{
-    x as u64
-}
-
 fn waiting_numbers(w: Option<(u32, Job)>) -> [u64; 6]
     ensures { waiting_in result ≡ w }
 {
     match w {
         None => [0; 6],
         Some((k, Job::Cut(n, e, v, Some(bits)))) => {
-            [1, wide(k), n as u64, e as u64, v as u64, bits]
+            [1, u64::from(k), n as u64, e as u64, v as u64, bits]
         }
-        Some((k, Job::Cut(n, e, v, None))) => [2, wide(k), n as u64, e as u64, v as u64, 0],
-        Some((k, Job::Remove(n, v))) => [3, wide(k), n as u64, 0, v as u64, 0],
+        Some((k, Job::Cut(n, e, v, None))) => [2, u64::from(k), n as u64, e as u64, v as u64, 0],
+        Some((k, Job::Remove(n, v))) => [3, u64::from(k), n as u64, 0, v as u64, 0],
     }
 }
 

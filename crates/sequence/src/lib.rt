@@ -8,8 +8,6 @@ ghost use Rattle.std.proofs.lemmas.List.Edits.{sets};
 ghost use Rattle.lists.specs.Lists.{flat};
 ghost use Rattle.sequence.specs.Keys.{Bare, Heads, Keyed, Nexts, Writable, key_groups, members_of, named};
 
-use words::index;
-
 // Threads the members: `head` gets the first member of each key, `next` the one after each member;
 // the number of members stands for none.
 fn thread(keys: &[u16], next: &mut [u16], head: &mut [u16])
@@ -18,7 +16,7 @@ fn thread(keys: &[u16], next: &mut [u16], head: &mut [u16])
     ensures nexts { Nexts keys.now next.new }
 {
     for j in (0..keys.len()).rev() {
-        let k = index(keys[j]);
+        let k = usize::from(keys[j]);
         next[j] = head[k];
         head[k] = j as u16;
     }
@@ -43,7 +41,7 @@ fn put_group(
     while j < keys.len() {
         out[to] = names[j];
         to += 1;
-        j = index(next[j]);
+        j = usize::from(next[j]);
     }
     to
 }
@@ -65,7 +63,7 @@ fn put_groups(
     let mut at: usize = 0;
     let mut count: usize = 0;
     for (i, &key) in keys.iter().enumerate() {
-        if index(head[index(key)]) == i {
+        if usize::from(head[usize::from(key)]) == i {
             let end = put_group(keys, names, next, i, out, at);
             lens[count] = (end - at) as u16;
             at = end;

@@ -14,7 +14,7 @@ ghost use Rattle.shell.specs.Shells.{shell_uses};
 ghost use Rattle.shell_calls.specs.ShellCalls.{condition_answer, openings_answer, openings_out, ShellPromised};
 
 use calls::{ShellFigure, find_shell};
-use columns::Columns;
+use columns::{Columns, Derived};
 use condition::Condition;
 use errors::{CallError, NotThere};
 use reports::{OpeningCounts, condition_in, put_openings};
@@ -25,7 +25,12 @@ fn condition_at(t: &Tables, n: usize) -> Condition
     requires { Faultless t.now × (n < get_or (count_table t.now) 5 0) }
     ensures { OfTables t.now (λ p. result.0 ≡ condition (shell_uses (content p) n)) }
 {
-    let columns = Columns::new(t);
+    let mut derived = Derived::new();
+    derived.put(t);
+    let columns = Columns {
+        t,
+        derived: &derived,
+    };
     condition_in(&columns, n)
 }
 
@@ -35,7 +40,12 @@ fn openings_at(t: &Tables, n: usize, out: &mut [u16], lens: &mut [u16]) -> Openi
     requires in_bounds { (2048 ≤ length out.old) × (2048 ≤ length lens.old) }
     ensures { OfTables t.now (λ p. Opened (content p) n out.old lens.old out.new lens.new result) }
 {
-    let columns = Columns::new(t);
+    let mut derived = Derived::new();
+    derived.put(t);
+    let columns = Columns {
+        t,
+        derived: &derived,
+    };
     put_openings(&columns, n, out, lens)
 }
 

@@ -1,6 +1,5 @@
 -- The theorems of the cut, of every pattern without fault.
-use Rattle.errors.specs.declared.CallError.TheVariants.{Refused, Unread}
-use Rattle.std.specs.Prelude.{Err, Ok}
+use Rattle.std.specs.Prelude.{Ok}
 use Prim.Native.Nat.{◌+◌, ◌<◌, ℕ}
 use mathlib.Core.Bool.{false, not}
 use mathlib.Core.List.{List, [], ◌∷◌, map}

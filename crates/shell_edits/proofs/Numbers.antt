@@ -1,6 +1,4 @@
 -- Edge numbers are never given twice: the theorem of the numbers, over any sequence of edits.
-use Rattle.errors.specs.declared.CallError.TheVariants.{Refused, Unread}
-use Rattle.std.specs.Prelude.{Err, Ok}
 use Prim.Native.Nat.{◌+◌, ◌<◌, suc, zero, ℕ}
 use mathlib.Core.Bool.{false, true}
 use mathlib.Core.List.{List, [], ◌++◌, ◌∷◌, append_assoc, append-nil}

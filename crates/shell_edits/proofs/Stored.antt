@@ -1,5 +1,5 @@
 -- An edit of a pattern in storage, refused or not; the answers of edits that make one edge.
-use Rattle.errors.specs.declared.CallError.TheVariants.{Refused, Unread}
+use Rattle.errors.specs.declared.CallError.TheVariants.{Refused}
 use Rattle.std.specs.Prelude.{Err, Ok}
 use Prim.Native.Nat.{◌+◌, ◌≤◌, ℕ}
 use mathlib.Core.Bool.{Bool, false, not, true, true≢false}

@@ -1,5 +1,5 @@
 -- What holds of every point that is added: an accepted pattern stays so, and all that is reported of it is what it was.
-use Rattle.errors.specs.declared.CallError.TheVariants.{Refused, Unread}
+use Rattle.errors.specs.declared.CallError.TheVariants.{Refused}
 use Rattle.std.specs.Prelude.{Err, Ok}
 use Prim.Native.Nat.{◌+◌, ◌<◌, ◌≤◌, suc, ℕ}
 use mathlib.Core.Bool.{◌&&◌, not}

@@ -1,8 +1,7 @@
 -- What each edit answers, and what the pattern then is. The reading checks come first; refused, the pattern is as it was (FORMAT 4.1).
 use Rattle.errors.specs.declared.CallError.{CallError}
-use Rattle.errors.specs.declared.CallError.TheVariants.{Refused, Unread}
 use Rattle.vertex.specs.declared.VertexID.{VertexID}
-use Rattle.std.specs.Prelude.{ℕ, ◌+◌, List, length, Err, Ok, Result}
+use Rattle.std.specs.Prelude.{ℕ, ◌+◌, List, length, Result}
 use Rattle.curve.specs.declared.Parameter.{Parameter}
 use Rattle.edge.specs.declared.EdgeID.{EdgeID}
 use Rattle.edit_answers.specs.Answers.{answer_of, judged}

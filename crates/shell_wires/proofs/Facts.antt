@@ -1,15 +1,14 @@
 -- What the reading checks say of a stored pattern, with what its storage's types say: for the edits of its shells.
 use Prim.Native.Nat.{◌+◌, ◌<◌, ℕ}
 use mathlib.Core.List.{List, [], ◌++◌, ◌∷◌, map}
-use mathlib.Core.Path.{◌∙◌, ◌≡◌, ap}
+use mathlib.Core.Path.{◌≡◌, ap}
 use native.Mathlib.Omega.{arith}
-use lib.ListN.{get_or, length, length-append, length-map, set, take}
+use lib.ListN.{get_or, length, length-append, set, take}
 use lib.Seq.{get_or-take, sets}
 use Rattle.edge.specs.Edges.{back_number, front_number}
 use Rattle.edge.specs.Uses.{edge_number, front_of}
 use Rattle.edge.specs.declared.Edge.{Edge}
 use Rattle.face.specs.Faces.{wire_count}
-use Rattle.listing.proofs.Laws.{listing_named, shells_summed}
 use Rattle.lists.proofs.Laws.{map_take}
 use Rattle.lists.specs.Lists.{sum}
 use Rattle.pattern.proofs.Counts.{Full, Limited, edges_counted, faces_counted, limited, listings_counted, points_counted, shells_counted}
@@ -18,7 +17,6 @@ use Rattle.pattern.proofs.Passed.{content_passed, pattern_passed}
 use Rattle.pattern.specs.Checks.{pattern_faults, record_faults}
 use Rattle.pattern.specs.Contents.{Pattern, content, stored_in}
 use Rattle.shell.specs.Openings.{front_in}
-use Rattle.shell.specs.Shells.{face_number}
 use Rattle.shell_edits.proofs.Storage.{seven_are, sets_after, sets_own}
 use Rattle.shell_edits.specs.Edits.{edited}
 use Rattle.wire.specs.Named.{Named}
@@ -91,25 +89,11 @@ module _ (p : Pattern) (s : Fine p) where
   pub faces_sum : sum (take faces (map wire_count p.faces)) ≡ wires
   faces_sum = tables_faces p s.limits s.full records_fine
 
-  pub shells_sum : sum (take shells p.shells) ≡ listings
-  shells_sum = shells_summed (content p) records_fine ∙ listings_counted p s.limits s.full
-
-  -- a listing names a face
-  pub listings_name : (k : ℕ) → k < listings → face_number (get_or (take listings p.listings) k 0) < faces
-  listings_name k h =
-      omega (arith, listing_named (content p) records_fine k (omega (arith, listings_counted p s.limits s.full)), faces_counted p s.limits s.full)
-
   -- the uses name edges, which name points: with the first columns of ends, and with those in full
   pub uses_named : Named (take edges fronts) (take edges backs) (take uses p.uses)
   uses_named =
       rw (← map_take front_number edges p.edges, ← map_take back_number edges p.edges)
       (named (content p) records_fine (omega (arith, points_counted p s.limits s.full, s.limits.points)))
-
-  pub fronts_long : length fronts ≡ 1024
-  fronts_long = length-map p.edges front_number ∙ s.full.edges
-
-  pub backs_long : length backs ≡ 1024
-  backs_long = length-map p.edges back_number ∙ s.full.edges
 
   -- the ends of a use in the definitions, and as the columns in full have them
   pub front_in_lem : (u : ℕ) → edge_number u < edges → front_in (content p) u ≡ front_of fronts backs u

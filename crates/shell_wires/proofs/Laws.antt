@@ -1,5 +1,5 @@
 -- Laws of the flags: of faces, of the listings that name them, of their wires.
-use Prim.Native.Nat.{◌+◌, ◌-◌, ◌<◌, ◌≤◌, suc, zero, ℕ}
+use Prim.Native.Nat.{◌+◌, ◌<◌, ◌≤◌, suc, zero, ℕ}
 use mathlib.Core.Bool.{Bool, ◌&&◌, ◌||◌, false, not, or-false, or-true, true}
 use mathlib.Core.List.{List, [], ◌++◌, ◌∷◌, append_assoc, map, map-append}
 use mathlib.Core.Logic.{⊎_elim}
@@ -8,7 +8,7 @@ use native.Mathlib.Nat.{suc-add, zero-add, zero-lt-suc}
 use native.Mathlib.Numerals.{add-one}
 use native.Mathlib.Omega.{arith}
 use lib.Dec.{eqb, ltb}
-use lib.ListN.{drop, drop_of_length-le, get_or, length, length-append, length-drop, length-replicate, length-set, replicate, set, take}
+use lib.ListN.{drop, drop_of_length-le, get_or, length, length-append, length-drop, length-take, length-replicate, length-set, replicate, set, take}
 use lib.Seq.{drop-cons, drop-drop, ext_get_or, get_or-drop, get_or-set_other, get_or-set_same, get_or-take, length-sets, length-take-le, sets, sets-eq, take_all, take-suc, take-take}
 use borrow.Rule.Slice.PartMut.{put_mid}
 use borrow.Author.Tests.{eqb-false, eqb-true, ltb-false, ltb-true, ne_eqb}
@@ -17,7 +17,7 @@ use Rattle.lists.proofs.Laws.{cases, drop_replicate, flat_append, has_append, le
 use Rattle.lists.proofs.Marks.{disjoint_append, disjoint_nil, disjoint_one}
 use Rattle.lists.proofs.Parts.{flat_one, flat_split}
 use Rattle.lists.proofs.Sets.{sets_append}
-use Rattle.lists.proofs.Split.{Walk, drop_split, drop_take, get_d_split, split_take, take_split, walk_fits, walk_next, walk_start}
+use Rattle.lists.proofs.Split.{Walk, drop_split, get_d_split, split_take, take_split, walk_fits, walk_next, walk_start}
 use Rattle.lists.specs.Lists.{disjoint, flat, has, numbers, padded, split, sum, tabulate}
 use Rattle.shell.specs.Shells.{face_number}
 use Rattle.shell_edits.specs.Edits.{listed_wires}
@@ -76,12 +76,13 @@ module _ (ls : List ℕ) (out : List Bool) (k : ℕ) (s : Flagging ls out k) whe
 -- ---- listings
 
 -- a part of listings that name faces
-pub names_part : (ls : List ℕ) (n i j : ℕ) → i ≤ j → j ≤ n → n ≤ length ls → NameFaces (take n ls) → NameFaces (take (j - i) (drop i ls))
-names_part ls n i j h l m names k b =
-    let c : k < j - i = omega (arith, length-take-le (j - i) (drop i ls) (omega (arith, length-drop i ls))) in
-    let e : get_or (take (j - i) (drop i ls)) k 0 ≡ get_or (take n ls) (i + k) 0 =
-    get_or-take (j - i) (drop i ls) k 0 c ∙ get_or-drop i ls k 0 ∙ sym (get_or-take n ls (i + k) 0 (omega arith)) in
-    rw e (names (i + k) (omega (arith, length-take-le n ls m)))
+pub names_first : (ls : List ℕ) (i : ℕ) → NameFaces ls → NameFaces (take i ls)
+names_first ls i names k b =
+    let c : k < i = omega (arith, length-take i ls) in
+    rw (get_or-take i ls k 0 c) (names k (omega (arith, length-take i ls)))
+
+pub names_rest : (ls : List ℕ) (i : ℕ) → NameFaces ls → NameFaces (drop i ls)
+names_rest ls i names k b = rw (get_or-drop i ls k 0) (names (i + k) (omega (arith, length-drop i ls)))
 
 -- a loop over listings has met no flag yet
 pub record Looking (flags : List Bool) (ls : List ℕ) (k : ℕ) : Type 0 where
@@ -116,16 +117,13 @@ lists_append flags (x ∷ xs) ys = rw (lists_append flags xs ys) (assoc (get_or 
     assoc true = refl
     assoc false = refl
 
--- the listings before a part, then those after it
-module _ (flags : List Bool) (ls : List ℕ) (n i j : ℕ) (a : Bool) (first : a ≡ lists_flagged flags (take (i - 0) ls)) where
-  before_is : lists_flagged flags (take i ls) ≡ a
-  before_is = let z : i - 0 ≡ i = omega arith in sym (rw z at first)
+-- some listings, then others
+module _ (flags : List Bool) (xs ys : List ℕ) {a : Bool} (first : a ≡ lists_flagged flags xs) where
+  pub outside_first : a ≡ true → true ≡ lists_flagged flags (xs ++ ys)
+  outside_first t = rw (lists_append flags xs ys, ← first, t)
 
-  pub outside_first : a ≡ true → true ≡ lists_flagged flags (take i ls ++ drop j (take n ls))
-  outside_first t = rw (lists_append flags (take i ls) (drop j (take n ls)), before_is, t)
-
-  pub outside_last : (b : Bool) → j ≤ n → a ≡ false → b ≡ lists_flagged flags (take (n - j) (drop j ls)) → b ≡ lists_flagged flags (take i ls ++ drop j (take n ls))
-  outside_last b h t last = rw (lists_append flags (take i ls) (drop j (take n ls)), before_is, t, drop_take j n ls h) last
+  pub outside_last : {b : Bool} → a ≡ false → b ≡ lists_flagged flags ys → b ≡ lists_flagged flags (xs ++ ys)
+  outside_last t last = rw (lists_append flags xs ys, ← first, t) last
 
 not_and : (a b c : Bool) → b ≡ not c → (a || b) ≡ not (not a && c)
 not_and true b c e = refl
@@ -169,58 +167,56 @@ sets_padded m xs h =
     let z : 0 + length xs ≡ length xs = omega arith in
     sets-eq xs (replicate m false) 0 (omega (arith, length-replicate m false)) ∙ rw (z, drop_replicate (length xs) m false)
 
-wire_next : (flags : List Bool) (counts : List ℕ) (f : ℕ) → wire_flags flags counts (f + 1) ≡ wire_flags flags counts f ++ replicate (get_or counts f 0) (get_or flags f false)
+-- the flags of the wires of the first f faces
+abbrev flags_to : List Bool → List ℕ → ℕ → List Bool
+flags_to flags counts f = flat (tabulate f (λ (f : ℕ). replicate (get_or counts f 0) (get_or flags f false)))
+
+wire_next : (flags : List Bool) (counts : List ℕ) (f : ℕ) → flags_to flags counts (f + 1) ≡ flags_to flags counts f ++ replicate (get_or counts f 0) (get_or flags f false)
 wire_next flags counts f =
     let g : ℕ → List Bool = λ (f : ℕ). replicate (get_or counts f 0) (get_or flags f false) in
     rw (add-one, tabulate_suc f g, flat_append (tabulate f g) (g f ∷ []), flat_one (g f))
 
 -- a loop that stores the flag of each face for its wires: what it holds after f faces
-pub record Spreading (flags : List Bool) (counts : List ℕ) (n : ℕ) (out : List Bool) (f at : ℕ) : Type 0 where
-  pub within : n ≤ length counts
-  pub room : sum (take n counts) ≤ 1024
-  pub walk : Walk (take n counts) f at
-  pub long : length (wire_flags flags counts f) ≡ at
-  pub is : out ≡ sets (replicate 1024 false) 0 (wire_flags flags counts f)
+pub record Spreading (flags : List Bool) (counts : List ℕ) (out : List Bool) (f at : ℕ) : Type 0 where
+  pub room : sum counts ≤ 1024
+  pub walk : Walk counts f at
+  pub long : length (flags_to flags counts f) ≡ at
+  pub is : out ≡ sets (replicate 1024 false) 0 (flags_to flags counts f)
 
-module _ (flags : List Bool) (counts : List ℕ) (n : ℕ) where
-  pub spreading_start : n ≤ length counts → sum (take n counts) ≤ 1024 → Spreading flags counts n (replicate 1024 false) 0 0
+module _ (flags : List Bool) (counts : List ℕ) where
+  pub spreading_start : sum counts ≤ 1024 → Spreading flags counts (replicate 1024 false) 0 0
   unfolding tabulate flat
-  spreading_start h l = record { within = h; room = l; walk = walk_start (take n counts); long = refl; is = refl }
+  spreading_start l = record { room = l; walk = walk_start counts; long = refl; is = refl }
 
-  module _ (out : List Bool) (f at : ℕ) (s : Spreading flags counts n out f at) where
+  module _ {out : List Bool} {f at : ℕ} (s : Spreading flags counts out f at) where
     pub spreading_long : length out ≡ 1024
-    spreading_long = ap length s.is ∙ length-sets (replicate 1024 false) 0 (wire_flags flags counts f) ∙ length-replicate 1024 false
+    spreading_long = ap length s.is ∙ length-sets (replicate 1024 false) 0 (flags_to flags counts f) ∙ length-replicate 1024 false
 
     -- face f has m wires
-    module _ (m : ℕ) (h : f < n) (e : m ≡ get_or counts f 0) where
-      here : f < length (take n counts)
-      here = omega (arith, length-take-le n counts s.within)
-
+    module _ {m : ℕ} (h : f < length counts) (e : m ≡ get_or counts f 0) where
       pub spreading_room : at + m ≤ 1024
-      spreading_room = omega (arith, walk_fits (take n counts) f at m s.walk here (e ∙ sym (get_or-take n counts f 0 h)), s.room)
+      spreading_room = omega (arith, walk_fits counts f at m s.walk h e, s.room)
 
-      pub spreading_next : (out' : List Bool) → out' ≡ sets out at (replicate m (get_or flags f false)) → Spreading flags counts n out' (f + 1) (at + m)
-      spreading_next out' o =
-          let z : 0 + length (wire_flags flags counts f) ≡ at = omega (arith, s.long) in
+      pub spreading_next : {out' : List Bool} → out' ≡ sets out at (replicate m (get_or flags f false)) → Spreading flags counts out' (f + 1) (at + m)
+      spreading_next {out'} o =
+          let z : 0 + length (flags_to flags counts f) ≡ at = omega (arith, s.long) in
           record {
-            within = s.within;
             room = s.room;
-            walk = walk_next (take n counts) f at m s.walk here (e ∙ sym (get_or-take n counts f 0 h));
+            walk = walk_next counts f at m s.walk h e;
             long =
                 rw (wire_next flags counts f, ← e)
-                (omega (arith, length-append (wire_flags flags counts f) (replicate m (get_or flags f false)), length-replicate m (get_or flags f false), s.long));
+                (omega (arith, length-append (flags_to flags counts f) (replicate m (get_or flags f false)), length-replicate m (get_or flags f false), s.long));
             is =
                 o
                 ∙ rw (s.is, ← z, wire_next flags counts f, ← e)
-                (sets_append (replicate 1024 false) 0 (wire_flags flags counts f) (replicate m (get_or flags f false)));
+                (sets_append (replicate 1024 false) 0 (flags_to flags counts f) (replicate m (get_or flags f false)));
           }
 
-    pub spreading_all : n ≤ f → out ≡ padded 1024 false (wire_flags flags counts n)
+    pub spreading_all : length counts ≤ f → out ≡ padded 1024 false (wire_flags flags counts)
     spreading_all h =
-        let e : f ≡ n = omega (arith, s.walk.low, length-take-le n counts s.within) in
-        let few : length (wire_flags flags counts f) ≤ 1024 =
-        omega (arith, s.long, s.walk.here, sum_take_drop f (take n counts), s.room) in
-        rw e at (s.is ∙ sets_padded 1024 (wire_flags flags counts f) few)
+        let e : f ≡ length counts = omega (arith, s.walk.low) in
+        let few : length (flags_to flags counts f) ≤ 1024 = omega (arith, s.long, s.walk.here, sum_take_drop f counts, s.room) in
+        rw e at (s.is ∙ sets_padded 1024 (flags_to flags counts f) few)
 
 -- ---- which wires are listed
 
@@ -322,14 +318,13 @@ module _ (ns : List ℕ) (f w : ℕ) (l : sum (take f ns) ≤ w) (u : w < sum (t
       )
 
 -- the flags that the code stores are those of the listed wires
-pub listed_flags : (counts : List ℕ) (n m : ℕ) (ls : List ℕ) → n ≤ length counts → n ≤ 256 → sum (take n counts) ≡ m
-    → wire_flags (flags_of 256 (map face_number ls)) counts n ≡ map (λ (w : ℕ). has w (listed_wires (take n counts) m ls)) (numbers m)
-listed_flags counts n m ls h b e =
-    let ns = take n counts in
+pub listed_flags : (ns : List ℕ) (m : ℕ) (ls : List ℕ) → length ns ≤ 256 → sum ns ≡ m
+    → wire_flags (flags_of 256 (map face_number ls)) ns ≡ map (λ (w : ℕ). has w (listed_wires ns m ls)) (numbers m)
+listed_flags ns m ls b e =
     let fs = map face_number ls in
-    let long : length ns ≡ n = length-take-le n counts h in
-    let same : tabulate n (λ (f : ℕ). replicate (get_or counts f 0) (get_or (flags_of 256 fs) f false)) ≡ tabulate n (λ (f : ℕ). replicate (get_or ns f 0) (has f fs)) =
-    tabulate_ext n (λ (f : ℕ). replicate (get_or counts f 0) (get_or (flags_of 256 fs) f false)) (λ (f : ℕ). replicate (get_or ns f 0) (has f fs))
-    (λ k l. rw (get_d_tabulate 256 (λ (f : ℕ). has f fs) k false (omega arith), get_or-take n counts k 0 l)) in
+    let n = length ns in
+    let same : tabulate n (λ (f : ℕ). replicate (get_or ns f 0) (get_or (flags_of 256 fs) f false)) ≡ tabulate n (λ (f : ℕ). replicate (get_or ns f 0) (has f fs)) =
+    tabulate_ext n (λ (f : ℕ). replicate (get_or ns f 0) (get_or (flags_of 256 fs) f false)) (λ (f : ℕ). replicate (get_or ns f 0) (has f fs))
+    (λ k l. rw (get_d_tabulate 256 (λ (f : ℕ). has f fs) k false (omega arith))) in
     rw (same, ← e, map_tabulate (λ (w : ℕ). has w (listed_wires ns (sum ns) ls)) (sum ns) (λ (k : ℕ). k))
-    (sym (rw long at (tabulate_parts ns (λ (w : ℕ). has w (listed_wires ns (sum ns) ls)) (λ (f : ℕ). has f fs) (λ f w i l u. listed_has ns f w l u ls))))
+    (sym (tabulate_parts ns (λ (w : ℕ). has w (listed_wires ns (sum ns) ls)) (λ (f : ℕ). has f fs) (λ f w i l u. listed_has ns f w l u ls)))

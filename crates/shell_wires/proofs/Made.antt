@@ -2,23 +2,26 @@
 use Prim.Native.Nat.{◌+◌, ◌-◌, ◌<◌, ◌≤◌, suc, zero, ℕ}
 use mathlib.Core.Bool.{Bool, false, not}
 use mathlib.Core.List.{List, [], ◌++◌, ◌∷◌, map}
-use mathlib.Core.Path.{◌∙◌, ◌≡◌, ap, sym}
+use mathlib.Core.Path.{◌∙◌, ◌≡◌, ap}
 use native.Mathlib.Omega.{arith}
 use lib.ListN.{drop, get_or, length, length-map, take}
-use lib.Seq.{get_or-take, take-take}
+use Rattle.edge.specs.Edges.{front_number}
 use Rattle.face.specs.Faces.{wire_count}
-use Rattle.listing.proofs.Laws.{shells_summed}
-use Rattle.lists.proofs.Laws.{map_take, sum_next, sum_take_drop}
-use Rattle.lists.proofs.Split.{drop_take, get_d_split}
+use Rattle.listing.proofs.Laws.{listing_named, shells_summed}
+use Rattle.lists.proofs.Laws.{sum_next, sum_take_drop}
+use Rattle.lists.proofs.Split.{get_d_split}
 use Rattle.lists.specs.Lists.{disjoint, has, numbers, padded, sum}
-use Rattle.pattern.proofs.Counts.{listings_counted, wires_counted}
-use Rattle.pattern.specs.Contents.{Pattern, content}
+use Rattle.pattern.proofs.Counts.{edges_counted, faces_counted, listings_counted, points_counted, shells_counted, uses_counted, wires_counted}
+use Rattle.pattern.proofs.Named.{faces_summed, named, wires_summed}
+use Rattle.pattern.specs.Checks.{record_faults}
+use Rattle.pattern.specs.Contents.{Content, Pattern, content}
+use Rattle.pattern.specs.declared.Lists.{Lists}
 use Rattle.shell.specs.Shells.{face_number, listings_of}
 use Rattle.shell_edits.specs.Edits.{other_listings, shares_face, wires_of}
-use Rattle.shell_wires.proofs.Facts.{Fine, backs_long, faces_sum, fine, fronts_long, listings_name, records_fine, shells_sum, uses_named, wires_sum}
-use Rattle.shell_wires.proofs.Laws.{flags_of, listed_flags, lists_shared, names_part, others_are}
+use Rattle.shell_wires.proofs.Facts.{Fine, fine, records_fine}
+use Rattle.shell_wires.proofs.Laws.{flags_of, listed_flags, lists_shared, names_first, names_rest, others_are}
 use Rattle.shell_wires.specs.Flags.{NameFaces, lists_flagged, wire_flags}
-use Rattle.shell_wires.specs.Lent.{Lent, Listed}
+use Rattle.shell_wires.specs.Lent.{Lent}
 use Rattle.shell_wires.specs.ShellWires.{marks_of}
 use Rattle.wire.specs.Named.{Named}
 
@@ -27,150 +30,110 @@ names_append [] ys h g k l = g k l
 names_append (x ∷ xs) ys h g zero l = h 0 (omega arith)
 names_append (x ∷ xs) ys h g (suc k) l = names_append xs ys (λ i b. h (suc i) (omega arith)) g k (omega arith)
 
-module _ (p : Pattern) (s : Fine p) where
-  abbrev faces : ℕ
-  faces = get_or p.counts 4 0
-
-  abbrev listings : ℕ
-  listings = get_or p.counts 6 0
-
-  pub stored_names : NameFaces (take listings p.listings)
-  stored_names k h =
-      omega (arith, listings_name p s k (omega (arith, listings_counted p s.limits s.full)), s.limits.faces)
+module _ (c : Content) (records : record_faults c ≡ []) (few : length c.faces ≤ 256) where
+  content_names : NameFaces c.listings
+  content_names k h = omega (arith, listing_named c records k h, few)
 
   -- the shell's listings are z in number and begin at place f
-  module _ (n : ℕ) (here : n < get_or p.counts 5 0) (f z : ℕ) (begin : f ≡ sum (take n p.shells)) (size : z ≡ get_or p.shells n 0) where
-    shells_before : sum (take n (content p).shells) ≡ f
-    shells_before = rw (take-take n (get_or p.counts 5 0) p.shells (omega arith), begin)
+  module _ {n : ℕ} (here : n < length c.shells) {f z : ℕ} (begin : f ≡ sum (take n c.shells)) (size : z ≡ get_or c.shells n 0) where
+    shells_to : sum (take (suc n) c.shells) ≡ f + z
+    shells_to = omega (arith, sum_next c.shells n, begin, size)
 
-    shell_size : get_or (content p).shells n 0 ≡ z
-    shell_size = get_or-take (get_or p.counts 5 0) p.shells n 0 here ∙ sym size
+    part_inside : f + z ≤ length c.listings
+    part_inside = omega (arith, shells_to, sum_take_drop (suc n) c.shells, shells_summed c records)
 
-    shells_to : sum (take (suc n) (content p).shells) ≡ f + z
-    shells_to = omega (arith, sum_next (content p).shells n, shells_before, shell_size)
+    own_are : take (f + z - f) (drop f c.listings) ≡ listings_of c n
+    own_are = let e : f + z - f ≡ z = omega arith in rw (get_d_split c.shells c.listings n, ← begin, ← size, e)
 
-    pub part_inside : f + z ≤ listings
-    part_inside = omega (arith, shells_to, sum_take_drop (suc n) (content p).shells, shells_sum p s)
+    others_names : NameFaces (take f c.listings ++ drop (f + z) c.listings)
+    others_names = names_append (take f c.listings) (drop (f + z) c.listings) (names_first c.listings f content_names) (names_rest c.listings (f + z) content_names)
 
-    stored_long : listings ≤ length p.listings
-    stored_long = omega (arith, s.limits.listings, s.full.listings)
+    others : take f c.listings ++ drop (f + z) c.listings ≡ other_listings c n
+    others = rw (others_are c.shells c.listings n (shells_summed c records), ← begin, shells_to)
 
-    pub own_are : take (f + z - f) (drop f p.listings) ≡ listings_of (content p) n
-    own_are =
-        let e : f + z - f ≡ z = omega arith in
-        rw (
-          get_d_split (content p).shells (content p).listings n,
-          shells_before,
-          shell_size,
-          e,
-          drop_take f listings p.listings (omega (arith, part_inside)),
-          take-take z (listings - f) (drop f p.listings) (omega (arith, part_inside)),
-        )
-
-    others_names : NameFaces (take f p.listings ++ drop (f + z) (take listings p.listings))
-    others_names =
-        let e : f - 0 ≡ f = omega arith in
-        names_append (take f p.listings) (drop (f + z) (take listings p.listings))
-        (rw e at (names_part p.listings listings 0 f (omega arith) (omega (arith, part_inside)) stored_long stored_names))
-        (rw (drop_take (f + z) listings p.listings part_inside)
-        (names_part p.listings listings (f + z) listings part_inside (omega arith) stored_long stored_names))
-
-    others : take f p.listings ++ drop (f + z) (take listings p.listings) ≡ other_listings (content p) n
-    others =
-        rw (
-          others_are (content p).shells (content p).listings n (shells_summed (content p) (records_fine p s)),
-          shells_before,
-          shells_to,
-          take-take f listings p.listings (omega (arith, part_inside)),
-        )
-
-    shared_is : lists_flagged (flags_of 256 (map face_number (listings_of (content p) n))) (take f p.listings ++ drop (f + z) (take listings p.listings))
-        ≡ shares_face (content p) n
+    shared_is : lists_flagged (flags_of 256 (map face_number (listings_of c n))) (take f c.listings ++ drop (f + z) c.listings) ≡ shares_face c n
     shared_is =
-        lists_shared (map face_number (listings_of (content p) n)) (take f p.listings ++ drop (f + z) (take listings p.listings)) others_names
-        ∙ ap (λ (ls : List ℕ). not (disjoint (map face_number (listings_of (content p) n)) (map face_number ls))) others
+        lists_shared (map face_number (listings_of c n)) (take f c.listings ++ drop (f + z) c.listings) others_names
+        ∙ ap (λ (ls : List ℕ). not (disjoint (map face_number (listings_of c n)) (map face_number ls))) others
 
-    wires_are : wire_flags (flags_of 256 (map face_number (listings_of (content p) n))) (map wire_count p.faces) faces
-        ≡ map (λ (w : ℕ). has w (wires_of (content p) n)) (numbers (length (content p).wires))
-    wires_are =
-        rw (wires_counted p s.limits s.full, map_take wire_count faces p.faces)
-        (listed_flags (map wire_count p.faces) faces (get_or p.counts 3 0) (listings_of (content p) n)
-        (omega (arith, s.limits.faces, s.full.faces, length-map p.faces wire_count)) s.limits.faces (faces_sum p s))
+    wires_are : wire_flags (flags_of 256 (map face_number (listings_of c n))) (map wire_count c.faces) ≡ map (λ (w : ℕ). has w (wires_of c n)) (numbers (length c.wires))
+    wires_are = listed_flags (map wire_count c.faces) (length c.wires) (listings_of c n) (omega (arith, length-map c.faces wire_count)) (faces_summed c records)
 
-    pub wires_made : (flags : List Bool) (shared : Bool) (wires : List Bool)
-        → flags ≡ flags_of 256 (map face_number (take (f + z - f) (drop f p.listings)))
-        → shared ≡ lists_flagged flags (take f p.listings ++ drop (f + z) (take listings p.listings))
-        → wires ≡ padded 1024 false (wire_flags flags (map wire_count p.faces) faces)
-        → record { shared = shared; wires = wires } ≡ marks_of p n
-    wires_made flags shared wires a b d =
-        let own : flags ≡ flags_of 256 (map face_number (listings_of (content p) n)) = a ∙ rw own_are in
-        let is : shared ≡ shares_face (content p) n = b ∙ rw own shared_is in
-        let all : wires ≡ padded 1024 false (map (λ (w : ℕ). has w (wires_of (content p) n)) (numbers (length (content p).wires))) = d ∙ rw (own, wires_are) in
-        rw (is, all)
-
--- the same of columns
-module _ (p : Pattern) (counts faces shells listings : List ℕ) (l : Listed p counts faces shells listings) where
-  pub listed_fine : Fine p
-  listed_fine = fine p l.ok l.seven l.full
-
-  pub faces_room : (get_or counts 4 0 ≤ 256) × (get_or counts 4 0 ≤ length faces) × (sum (take (get_or counts 4 0) faces) ≡ get_or counts 3 0) × (get_or counts 3 0 ≤ 1024)
-  faces_room =
-      let s = listed_fine in
-      rw (l.counts_are, l.faces_are)
-      (s.limits.faces, omega (arith, s.limits.faces, s.full.faces, length-map p.faces wire_count), faces_sum p s, s.limits.wires)
-
-  pub shells_room : (get_or counts 5 0 ≤ 16) × (get_or counts 5 0 ≤ length shells)
-  shells_room = let s = listed_fine in rw (l.counts_are, l.shells_are) (s.limits.shells, omega (arith, s.limits.shells, s.full.shells))
-
-  pub listings_room : (get_or counts 6 0 ≤ 512) × (get_or counts 6 0 ≤ length listings)
-  listings_room = let s = listed_fine in rw (l.counts_are, l.listings_are) (s.limits.listings, omega (arith, s.limits.listings, s.full.listings))
-
-  pub listings_named : NameFaces (take (get_or counts 6 0) listings)
-  listings_named = rw (l.counts_are, l.listings_are) (stored_names p listed_fine)
-
-  module _ (n : ℕ) (here : n < get_or counts 5 0) (f z : ℕ) (begin : f ≡ sum (take n shells)) (size : z ≡ get_or shells n 0) where
-    here_stored : n < get_or p.counts 5 0
-    here_stored = rw l.counts_are at here
-
-    begin_stored : f ≡ sum (take n p.shells)
-    begin_stored = begin ∙ rw l.shells_are
-
-    size_stored : z ≡ get_or p.shells n 0
-    size_stored = size ∙ rw l.shells_are
-
-    pub part_listed : f + z ≤ get_or counts 6 0
-    part_listed = rw l.counts_are (part_inside p listed_fine n here_stored f z begin_stored size_stored)
-
-    pub part_named : NameFaces (take (f + z - f) (drop f listings))
-    part_named = names_part listings (get_or counts 6 0) f (f + z) (omega arith) part_listed listings_room.1 listings_named
-
-    pub part_are : take (f + z - f) (drop f listings) ≡ listings_of (content p) n
-    part_are = rw l.listings_are (own_are p listed_fine n here_stored f z begin_stored size_stored)
-
-    pub marks_made : (flags : List Bool) (shared : Bool) (wires : List Bool)
-        → flags ≡ flags_of 256 (map face_number (take (f + z - f) (drop f listings)))
-        → shared ≡ lists_flagged flags (take f listings ++ drop (f + z) (take (get_or counts 6 0) listings))
-        → wires ≡ padded 1024 false (wire_flags flags faces (get_or counts 4 0))
-        → record { shared = shared; wires = wires } ≡ marks_of p n
-    marks_made flags shared wires a b d =
-        wires_made p listed_fine n here_stored f z begin_stored size_stored flags shared wires
-        (a ∙ rw l.listings_are) (b ∙ rw (l.listings_are, l.counts_are)) (d ∙ rw (l.faces_are, l.counts_are))
-
--- ---- with the ends of the edges, the uses and the wires
-module _ (p : Pattern) (counts fronts backs uses wires faces shells listings : List ℕ) (l : Lent p counts fronts backs uses wires faces shells listings) where
+-- ---- the lists of a pattern without fault
+module _ (p : Pattern) {lists : Lists} (l : Lent p lists) where
   pub lent_fine : Fine p
-  lent_fine = listed_fine p counts faces shells listings l.listed
+  lent_fine = fine p l.ok l.seven l.full
 
-  pub uses_room : (get_or counts 2 0 ≤ 4096) × (get_or counts 2 0 ≤ length uses)
-  uses_room = let s = lent_fine in rw (l.listed.counts_are, l.uses_are) (s.limits.uses, omega (arith, s.limits.uses, s.full.uses))
-
-  pub wires_room : (get_or counts 3 0 ≤ 1024) × (get_or counts 3 0 ≤ length wires) × (sum (take (get_or counts 3 0) wires) ≡ get_or counts 2 0)
-  wires_room = let s = lent_fine in rw (l.listed.counts_are, l.wires_are) (s.limits.wires, omega (arith, s.limits.wires, s.full.wires), wires_sum p s)
-
-  pub ends_named : Named (take (get_or counts 1 0) fronts) (take (get_or counts 1 0) backs) (take (get_or counts 2 0) uses)
-  ends_named = rw (l.listed.counts_are, l.fronts_are, l.backs_are, l.uses_are) (uses_named p lent_fine)
-
-  pub ends_room : (get_or counts 1 0 ≤ length fronts) × (get_or counts 1 0 ≤ length backs)
-  ends_room =
+  -- how long they are at most
+  pub edges_few : (length lists.ends.fronts.now ≡ length (content p).edges) × (length lists.ends.fronts.now ≤ 1024)
+  edges_few =
       let s = lent_fine in
-      rw (l.listed.counts_are, l.fronts_are, l.backs_are) (omega (arith, s.limits.edges, fronts_long p s), omega (arith, s.limits.edges, backs_long p s))
+      let long : length lists.ends.fronts.now ≡ length (content p).edges = rw l.fronts_are (length-map (content p).edges front_number) in
+      (long, omega (arith, long, edges_counted p s.limits s.full, s.limits.edges))
+
+  pub uses_few : length lists.uses.now ≤ 4096
+  uses_few = let s = lent_fine in rw l.uses_are (omega (arith, uses_counted p s.limits s.full, s.limits.uses))
+
+  pub wires_few : length lists.wires.now ≤ 1024
+  wires_few = let s = lent_fine in rw l.wires_are (omega (arith, wires_counted p s.limits s.full, s.limits.wires))
+
+  content_faces : length (content p).faces ≤ 256
+  content_faces = let s = lent_fine in omega (arith, faces_counted p s.limits s.full, s.limits.faces)
+
+  pub faces_few : length lists.faces.now ≤ 256
+  faces_few = rw l.faces_are (omega (arith, length-map (content p).faces wire_count, content_faces))
+
+  pub shells_few : length lists.shells.now ≤ 16
+  shells_few = let s = lent_fine in rw l.shells_are (omega (arith, shells_counted p s.limits s.full, s.limits.shells))
+
+  pub listings_few : length lists.listings.now ≤ 512
+  listings_few = let s = lent_fine in rw l.listings_are (omega (arith, listings_counted p s.limits s.full, s.limits.listings))
+
+  -- what they name, and their sums
+  lent_records : record_faults (content p) ≡ []
+  lent_records = records_fine p lent_fine
+
+  pub uses_name : Named lists.ends.fronts.now lists.ends.backs.now lists.uses.now
+  uses_name =
+      let s = lent_fine in
+      rw (l.fronts_are, l.backs_are, l.uses_are) (named (content p) lent_records (omega (arith, points_counted p s.limits s.full, s.limits.points)))
+
+  pub listings_name_faces : NameFaces lists.listings.now
+  listings_name_faces = rw l.listings_are (content_names (content p) lent_records content_faces)
+
+  pub wires_summed_lem : sum lists.wires.now ≡ length lists.uses.now
+  wires_summed_lem = rw (l.wires_are, l.uses_are) (wires_summed (content p) lent_records)
+
+  pub faces_summed_lem : sum lists.faces.now ≡ length lists.wires.now
+  faces_summed_lem = rw (l.faces_are, l.wires_are) (faces_summed (content p) lent_records)
+
+  module _ {n : ℕ} (here : n < length lists.shells.now) {f z : ℕ} (begin : f ≡ sum (take n lists.shells.now)) (size : z ≡ get_or lists.shells.now n 0) where
+    inside : n < length (content p).shells
+    inside = rw l.shells_are at here
+
+    start : f ≡ sum (take n (content p).shells)
+    start = rw l.shells_are at begin
+
+    long : z ≡ get_or (content p).shells n 0
+    long = rw l.shells_are at size
+
+    pub part_listed : f + z ≤ length lists.listings.now
+    part_listed = rw l.listings_are (part_inside (content p) lent_records content_faces inside start long)
+
+    pub part_named : NameFaces (take (f + z - f) (drop f lists.listings.now))
+    part_named = names_first (drop f lists.listings.now) (f + z - f) (names_rest lists.listings.now f listings_name_faces)
+
+    pub part_are : take (f + z - f) (drop f lists.listings.now) ≡ listings_of (content p) n
+    part_are = rw l.listings_are (own_are (content p) lent_records content_faces inside start long)
+
+    pub marks_made : {flags : List Bool} {shared : Bool} {wires : List Bool}
+        → flags ≡ flags_of 256 (map face_number (take (f + z - f) (drop f lists.listings.now)))
+        → shared ≡ lists_flagged flags (take f lists.listings.now ++ drop (f + z) lists.listings.now)
+        → wires ≡ padded 1024 false (wire_flags flags lists.faces.now)
+        → record { shared = shared; wires = wires } ≡ marks_of p n
+    marks_made {flags} {shared} {wires} a b d =
+        let c = content p in
+        let own : flags ≡ flags_of 256 (map face_number (listings_of c n)) = a ∙ rw part_are in
+        let is : shared ≡ shares_face c n = b ∙ rw (own, l.listings_are) (shared_is c lent_records content_faces inside start long) in
+        let all : wires ≡ padded 1024 false (map (λ (w : ℕ). has w (wires_of c n)) (numbers (length c.wires))) = d ∙ rw (own, l.faces_are, wires_are c lent_records content_faces inside start long) in
+        rw (is, all)

@@ -12,6 +12,6 @@ unfoldable pub lists_flagged : List Bool → List ℕ → Bool
 lists_flagged flags [] = false
 lists_flagged flags (l ∷ ls) = get_or flags (face_number l) false || lists_flagged flags ls
 
--- the flag of each of the first n faces, once for each of its wires
-abbrev pub wire_flags : List Bool → List ℕ → ℕ → List Bool
-wire_flags flags counts n = flat (tabulate n (λ (f : ℕ). replicate (get_or counts f 0) (get_or flags f false)))
+-- the flag of each face, once for each of its wires
+abbrev pub wire_flags : List Bool → List ℕ → List Bool
+wire_flags flags counts = flat (tabulate (length counts) (λ (f : ℕ). replicate (get_or counts f 0) (get_or flags f false)))

@@ -1,12 +1,6 @@
 // Reads one pattern file on standard input, to its end, and prints it as text.
 #![tactic(auto)]
 
-fn print_text(rt: &HostRuntime, text: &[u8; 262144], n: usize) {
-    if let Err(e) = console::print_first(rt, text, n) {
-        console::fail(rt, b"show: standard output", e);
-    }
-}
-
 fn main(rt: HostRuntime) {
     if !console::is_alone(
         &rt,
@@ -21,6 +15,8 @@ fn main(rt: HostRuntime) {
         return;
     };
     let mut text = [0u8; 262144];
-    let length = show_text::show(&bytes[0..n], &mut text);
-    print_text(&rt, &text, length);
+    let length = show_text::show(&bytes[..n], &mut text);
+    if let Err(e) = console::print_first(&rt, &text, length) {
+        console::fail(&rt, b"show: standard output", e);
+    }
 }

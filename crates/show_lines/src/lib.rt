@@ -11,7 +11,6 @@ use answer_lines::put_wires;
 use decimals::put_real;
 use lines::{put_items, put_number};
 use output::{put_field, put_text};
-use words::index;
 
 // Writes the line of a point.
 pub fn put_point(out: &mut [u8], at: usize, k: usize, label: u32) -> usize
@@ -36,8 +35,8 @@ pub fn put_edge(
     ensures { (out.new ≡ sets out.old at (edge_line k front back t0 t1)) × (result ≡ at + length (edge_line k front back t0 t1)) × (result ≤ at + 96) }
 {
     let mut end = put_field(out, at, b"edge ", k);
-    end = put_field(out, end, b" from ", index(front));
-    end = put_field(out, end, b" to ", index(back));
+    end = put_field(out, end, b" from ", usize::from(front));
+    end = put_field(out, end, b" to ", usize::from(back));
     end = put_text(out, end, b" span ");
     end = put_real(out, end, t0);
     end = put_text(out, end, b" ");
@@ -58,7 +57,7 @@ pub fn put_face(
     ensures { (out.new ≡ sets out.old at (face_line k surface (split lens.now us.now))) × (result ≡ at + length (face_line k surface (split lens.now us.now))) × (result ≤ at + 40 + 5 * length lens.now + 7 * length us.now) }
 {
     let mut end = put_field(out, at, b"face ", k);
-    end = put_field(out, end, b" surface ", index(surface));
+    end = put_field(out, end, b" surface ", usize::from(surface));
     end = put_wires(out, end, us, lens);
     put_text(out, end, b"\n")
 }

@@ -73,12 +73,12 @@ module _ {t : List ℕ} {n : ℕ} (long : length t ≡ 12312) (fit : Faced t n) 
         (omega arith, (part_taken wires wire w (omega arith)).1, most)
 
     -- they have m uses
-    module _ {m : ℕ} (total : m ≡ sum (take (wire + w - wire) lens)) where
+    module _ {m : ℕ} (total : m ≡ sum lens) where
       abbrev used : List ℕ
       used = take (first + m - first) (drop first uses)
 
       lens_sum : m ≡ sum lens
-      lens_sum = total ∙ ap sum (take_all (wire + w - wire) lens (omega (arith, face_wires_lem.1)))
+      lens_sum = total
 
       lens_are : lens ≡ take w (drop wire (wire_table t))
       lens_are = (part_taken wires wire w face_wires_lem.0).0 ∙ ap (λ (r : List ℕ). take w (drop wire r)) ws

@@ -19,7 +19,7 @@ use store::{
     tables_known, uses_in, wires_in,
 };
 use store_read::read;
-use words::{index, sum_of};
+use words::sum_of;
 
 // Writes the lines of the first n points.
 fn put_points(t: &Tables, n: usize, out: &mut [u8], at: usize) -> usize
@@ -68,9 +68,9 @@ fn put_faces(t: &Tables, n: usize, out: &mut [u8], at: usize) -> usize
     let mut first: usize = 0;
     for k in 0..n {
         let face = face_in(t, k);
-        let last = wire + index(face.wires);
+        let last = wire + usize::from(face.wires);
         let lens = &wires[wire..last];
-        let m = sum_of(lens, last - wire);
+        let m = sum_of(lens);
         end = put_face(out, end, k, face.surface, &uses[first..first + m], lens);
         wire = last;
         first += m;
@@ -89,7 +89,7 @@ fn put_shells(t: &Tables, n: usize, out: &mut [u8], at: usize) -> usize
     let mut end = at;
     let mut first: usize = 0;
     for (k, count) in shells[..n].iter().enumerate() {
-        let m = index(*count);
+        let m = usize::from(*count);
         end = put_shell(out, end, k, &listings[first..first + m]);
         first += m;
     }

@@ -8,11 +8,11 @@ use lib.Dec.{eqb}
 use lib.ListN.{drop, get_or, get_or-replicate, length, replicate, take}
 use Rattle.edge.specs.Uses.{back_of, front_of}
 use Rattle.groups.proofs.Alike.{of_flat_map}
-use Rattle.groups.proofs.Climbing.{climbs, root_below}
-use Rattle.groups.proofs.Laws.{grouped_all, grouped_begin, grouped_start}
+use Rattle.groups.proofs.Climbing.{root_below}
+use Rattle.groups.proofs.Laws.{grouped_all, grouped_start}
 use Rattle.groups.proofs.Meaning.{of_each}
 use Rattle.groups.proofs.Rooting.{one_root_is}
-use Rattle.groups.specs.Forest.{Forest, Grouped, Trees, joined_all, started, trees}
+use Rattle.groups.specs.Forest.{Grouped, Trees, joined_all, started, trees}
 use Rattle.groups.specs.Groups.{Inside}
 use Rattle.lists.proofs.Parts.{all_flat, all_place, flat_split, only_none}
 use Rattle.lists.proofs.Count.{All, all_append, all_each, all_map, all_weaker}
@@ -40,14 +40,10 @@ module _ (uses lens : List ℕ) (edges : ℕ) (w : Wired uses lens edges) where
       (λ k h. rw (get_d_split lens uses k) (corners_below edges (take (get_or lens k 0) (drop (sum (take k lens)) uses)) (below_part edges uses (sum (take k lens)) (get_or lens k 0) w.edge)))
       r.0 r.1 l r.2
 
-  pub ends_forest : (ps₀ ss₀ : List ℕ) {ps ss : List ℕ}
-      → (ps ≡ (started (2 * edges) ps₀ ss₀).parents) × (ss ≡ (started (2 * edges) ps₀ ss₀).sizes) → Forest (2 * edges) ps ss
-  ends_forest ps₀ ss₀ e = (grouped_begin (2 * edges) ps₀ ss₀ (omega (arith, w.few_edges)) e).forest
-
-  pub ends_joined : {ps₀ ps ss ps' : List ℕ} → ps₀ ≡ replicate 2048 0
-      → (ps ≡ (started (2 * edges) ps₀ (replicate 2048 0)).parents) × (ss ≡ (started (2 * edges) ps₀ (replicate 2048 0)).sizes)
+  pub ends_joined : {ps ss ps' : List ℕ}
+      → (ps ≡ (started (2 * edges) (replicate 2048 0) (replicate 2048 0)).parents) × (ss ≡ (started (2 * edges) (replicate 2048 0) (replicate 2048 0)).sizes)
       → ps' ≡ (joined_all (trees ps ss) (flat (map corners (split lens uses)))).parents → ps' ≡ end_parents edges lens uses
-  ends_joined z s j = j ∙ rw (s.0, s.1, z)
+  ends_joined s j = j ∙ rw (s.0, s.1)
 
   -- the trees stand for the groups
   abbrev forest : Trees
@@ -86,17 +82,15 @@ module _ (uses lens fronts backs : List ℕ) (points : ℕ) (out : List ℕ) (h 
   abbrev grouped : Grouped (2 * edges) (flat (map corners (split lens uses))) ps (forest uses lens edges h.wired).sizes
   grouped = ends_grouped uses lens edges h.wired
 
-  pub noteable : {parents : List ℕ} → parents ≡ ps → (k : ℕ) → k < length uses → Noteable fronts backs parents (get_or uses k 0)
-  noteable e k l = rw e (record {
+  pub noteable : (k : ℕ) → k < length uses → Noteable fronts backs (2 * length fronts) (get_or uses k 0)
+  noteable k l = record {
     edge = h.wired.edge k l;
     other = omega (arith, h.wired.edge k l, h.alike);
     front = omega (arith, h.front k l, h.few_points);
     back = omega (arith, h.back k l, h.few_points);
-    first = climbs (2 * edges) ps _ grouped.forest (first_end (get_or uses k 0)) (first_below edges (get_or uses k 0) (h.wired.edge k l));
-    last = climbs (2 * edges) ps _ grouped.forest (last_end (get_or uses k 0)) (last_below edges (get_or uses k 0) (h.wired.edge k l));
-    first_low = omega (arith, root_below (2 * edges) ps _ grouped.forest (first_end (get_or uses k 0)) (first_below edges (get_or uses k 0) (h.wired.edge k l)), h.wired.few_edges);
-    last_low = omega (arith, root_below (2 * edges) ps _ grouped.forest (last_end (get_or uses k 0)) (last_below edges (get_or uses k 0) (h.wired.edge k l)), h.wired.few_edges);
-  })
+    first = first_below edges (get_or uses k 0) (h.wired.edge k l);
+    last = last_below edges (get_or uses k 0) (h.wired.edge k l);
+  }
 
   all_rooted : All (Rooted ps) uses
   all_rooted =

@@ -1,7 +1,7 @@
 -- The roots met at each point, as the code notes them: the first one, 65,535 where there is none, and whether there is another.
 use Rattle.std.specs.Prelude.{◌<◌, ℕ, Bool, false, true, List, [], ◌∷◌, ◌≡◌, eqb, get_or, length, replicate, set}
 use Rattle.edge.specs.Uses.{back_of, edge_number, front_of}
-use Rattle.groups.specs.Forest.{Climbs, root_of}
+use Rattle.groups.specs.Forest.{root_of}
 use Rattle.lists.specs.Lists.{pick}
 use Rattle.shell.specs.Singular.{first_end, last_end}
 
@@ -44,13 +44,11 @@ module _ (fronts backs parents : List ℕ) where
   uses_noted s [] = s
   uses_noted s (u ∷ us) = uses_noted (use_noted s u) us
 
-  -- the use names an edge and has two of 2,048 points, and the ways up from its two ends come to roots, numbers of 16 bits
-  pub record Noteable (u : ℕ) : Type 0 where
-    pub edge : edge_number u < length fronts
-    pub other : edge_number u < length backs
-    pub front : front_of fronts backs u < 2048
-    pub back : back_of fronts backs u < 2048
-    pub first : Climbs parents (first_end u)
-    pub last : Climbs parents (last_end u)
-    pub first_low : root_of parents (first_end u) < 65536
-    pub last_low : root_of parents (last_end u) < 65536
+-- the use names an edge and has two of 2,048 points, and its two ends are among `count` members
+pub record Noteable (fronts backs : List ℕ) (count u : ℕ) : Type 0 where
+  pub edge : edge_number u < length fronts
+  pub other : edge_number u < length backs
+  pub front : front_of fronts backs u < 2048
+  pub back : back_of fronts backs u < 2048
+  pub first : first_end u < count
+  pub last : last_end u < count

@@ -6,16 +6,15 @@
 ghost use Rattle.std.specs.Prelude.{false, ◌≡◌, [], ◌∷◌, map, ◌*◌, ◌+◌, ◌<◌, ◌≤◌, ℕ, get_or, length, replicate};
 ghost use Rattle.std.proofs.lemmas.List.Edits.{sets};
 ghost use Rattle.lists.specs.Lists.{flat, numbers, only, pick, split, rotated};
-ghost use Rattle.edge.specs.Uses.{back_of, front_of};
-ghost use Rattle.groups.specs.Forest.{Forest, joined_all, trees};
+ghost use Rattle.edge.specs.OfEnds.{back_in, front_in};
+ghost use Rattle.groups.specs.OfGroups.{Joined};
 ghost use Rattle.shell.specs.Singular.{corners, first_end, last_end, singular_of};
-ghost use Rattle.singular.specs.Ends.{Cornered, Wired, end_parents};
+ghost use Rattle.singular.specs.Ends.{Cornered, Wired};
 ghost use Rattle.singular.specs.Noted.{Noteable, marked, none_noted, noted, notes, Unmarked, use_noted, uses_noted};
 ghost use Rattle.edge.specs.Below.{EdgesBelow};
 
-use edge::{back_of, front_of};
-use groups::{find, join, start};
-use words::index;
+use edge::Ends;
+use groups::Groups;
 
 // The end of its edge where a use begins.
 fn first_end(u: u16) -> u16
@@ -49,40 +48,28 @@ fn next_use(wire: &[u16], i: usize) -> u16
 }
 
 // Joins, for each use of a wire, the end where it ends and that where the next use begins.
-fn join_wire(parents: &mut [u16], sizes: &mut [u16], edges: usize, wire: &[u16])
-    requires { Forest (2 * edges) parents.old sizes.old × EdgesBelow edges wire.now }
-    ensures parents_after { parents.new ≡ (joined_all (trees parents.old sizes.old) (corners wire.now)).parents }
-    ensures sizes_after { sizes.new ≡ (joined_all (trees parents.old sizes.old) (corners wire.now)).sizes }
+fn join_wire(groups: &mut Groups, edges: usize, wire: &[u16])
+    requires { (groups.old.count ≡ 2 * edges) × EdgesBelow edges wire.now }
+    ensures { Joined (corners wire.now) groups.old groups.new }
 {
     for (i, &u) in wire.iter().enumerate() {
-        let last = index(last_end(u));
-        let first = index(first_end(next_use(wire, i)));
-        join(parents, sizes, last, first);
+        let last = usize::from(last_end(u));
+        let first = usize::from(first_end(next_use(wire, i)));
+        groups.join(last, first);
     }
 }
 
 // The same, for each of the wires.
-fn join_wires(parents: &mut [u16], sizes: &mut [u16], edges: usize, uses: &[u16], lens: &[u16])
-    requires { Forest (2 * edges) parents.old sizes.old × Wired uses.now lens.now edges }
-    ensures parents_after { parents.new ≡ (joined_all (trees parents.old sizes.old) (flat (map corners (split lens.now uses.now)))).parents }
-    ensures sizes_after { sizes.new ≡ (joined_all (trees parents.old sizes.old) (flat (map corners (split lens.now uses.now)))).sizes }
+fn join_wires(groups: &mut Groups, edges: usize, uses: &[u16], lens: &[u16])
+    requires { (groups.old.count ≡ 2 * edges) × Wired uses.now lens.now edges }
+    ensures { Joined (flat (map corners (split lens.now uses.now))) groups.old groups.new }
 {
     let mut at: usize = 0;
     for &n in lens {
-        let n = index(n);
-        join_wire(parents, sizes, edges, &uses[at..at + n]);
+        let n = usize::from(n);
+        join_wire(groups, edges, &uses[at..at + n]);
         at += n;
     }
-}
-
-// Makes the trees of the edges' ends, neighbours on a wire joined; the parents are 0 before.
-fn join_ends(parents: &mut [u16], uses: &[u16], lens: &[u16], edges: usize)
-    requires { Wired uses.now lens.now edges × (parents.old ≡ replicate 2048 0) }
-    ensures { parents.new ≡ end_parents edges lens.now uses.now }
-{
-    let mut sizes = [0u16; 2048];
-    start(parents, &mut sizes, 2 * edges);
-    join_wires(parents, &mut sizes, edges, uses, lens);
 }
 
 // Notes that root r is met at point p. Returns whether a point is marked: `any` says whether one was.
@@ -107,41 +94,34 @@ fn note(roots: &mut [u16; 2048], several: &mut [bool; 2048], p: usize, r: u16, a
 // Notes the roots of the two ends of a use, each at its point.
 fn note_use(
     u: u16,
-    fronts: &[u16],
-    backs: &[u16],
-    parents: &[u16],
+    ends: &Ends,
+    groups: &Groups,
     roots: &mut [u16; 2048],
     several: &mut [bool; 2048],
     any: bool,
 ) -> bool
-    requires { Noteable fronts.now backs.now parents.now u }
-    ensures roots_after { roots.new ≡ (use_noted fronts.now backs.now parents.now (notes roots.old several.old) u).roots }
-    ensures several_after { several.new ≡ (use_noted fronts.now backs.now parents.now (notes roots.old several.old) u).several }
+    requires { Noteable ends.now.fronts.now ends.now.backs.now groups.now.count u }
+    ensures roots_after { roots.new ≡ (use_noted ends.now.fronts.now ends.now.backs.now groups.now.parents (notes roots.old several.old) u).roots }
+    ensures several_after { several.new ≡ (use_noted ends.now.fronts.now ends.now.backs.now groups.now.parents (notes roots.old several.old) u).several }
     ensures unmarked { Unmarked any several.old result several.new }
 {
-    let first = find(parents, index(first_end(u))) as u16;
-    let last = find(parents, index(last_end(u))) as u16;
-    let front = note(roots, several, front_of(u, fronts, backs), first, any);
-    note(roots, several, back_of(u, fronts, backs), last, front)
+    let first = groups.root(usize::from(first_end(u))) as u16;
+    let last = groups.root(usize::from(last_end(u))) as u16;
+    let front = note(roots, several, ends.front_of(u), first, any);
+    note(roots, several, ends.back_of(u), last, front)
 }
 
 // Marks the points where several roots are met. Returns whether there are any.
-fn several_roots(
-    uses: &[u16],
-    fronts: &[u16],
-    backs: &[u16],
-    parents: &[u16],
-    several: &mut [bool; 2048],
-) -> bool
-    requires by_index { (k : ℕ) → k < length uses.now → Noteable fronts.now backs.now parents.now (get_or uses.now k 0) }
+fn several_roots(uses: &[u16], ends: &Ends, groups: &Groups, several: &mut [bool; 2048]) -> bool
+    requires by_index { (k : ℕ) → k < length uses.now → Noteable ends.now.fronts.now ends.now.backs.now groups.now.count (get_or uses.now k 0) }
     requires several_value { several.old ≡ replicate 2048 false }
-    ensures several_after { several.new ≡ (uses_noted fronts.now backs.now parents.now none_noted uses.now).several }
+    ensures several_after { several.new ≡ (uses_noted ends.now.fronts.now ends.now.backs.now groups.now.parents none_noted uses.now).several }
     ensures several_after_2 { result ≡ false → several.new ≡ replicate 2048 false }
 {
     let mut roots = [65535u16; 2048];
     let mut any = false;
     for &u in uses {
-        any = note_use(u, fronts, backs, parents, &mut roots, several, any);
+        any = note_use(u, ends, groups, &mut roots, several, any);
     }
     any
 }
@@ -175,22 +155,17 @@ fn put_points(marks: &[bool; 2048], points: usize, out: &mut [u16]) -> usize
 // The singular points of the wires (singular_vertices), the lowest first: written to `out`; their
 // number. `uses` are the uses of all wires one after the other, `lens` the lengths of the wires,
 // `fronts` and `backs` the ends of the edges.
-pub fn singular_of(
-    uses: &[u16],
-    lens: &[u16],
-    fronts: &[u16],
-    backs: &[u16],
-    points: usize,
-    out: &mut [u16],
-) -> usize
-    requires { Cornered uses.now lens.now fronts.now backs.now points out.old }
-    ensures out_after { (out.new ≡ sets out.old 0 (singular_of (front_of fronts.now backs.now) (back_of fronts.now backs.now) (length fronts.now) points (split lens.now uses.now))) × (result ≡ length (singular_of (front_of fronts.now backs.now) (back_of fronts.now backs.now) (length fronts.now) points (split lens.now uses.now))) }
+pub fn singular_of(uses: &[u16], lens: &[u16], ends: &Ends, points: usize, out: &mut [u16]) -> usize
+    requires { Cornered uses.now lens.now ends.now.fronts.now ends.now.backs.now points out.old }
+    ensures out_after { (out.new ≡ sets out.old 0 (singular_of (front_in ends.now) (back_in ends.now) (length ends.now.fronts.now) points (split lens.now uses.now))) × (result ≡ length (singular_of (front_in ends.now) (back_in ends.now) (length ends.now.fronts.now) points (split lens.now uses.now))) }
     ensures upper_bound { result ≤ points }
 {
-    let mut parents = [0u16; 2048];
-    join_ends(&mut parents, uses, lens, fronts.len());
+    let edges = ends.fronts.len();
+    let mut groups = Groups::new();
+    groups.start(2 * edges);
+    join_wires(&mut groups, edges, uses, lens);
     let mut several = [false; 2048];
-    if !several_roots(uses, fronts, backs, &parents, &mut several) {
+    if !several_roots(uses, ends, &groups, &mut several) {
         return 0;
     }
     put_points(&several, points, out)

@@ -18,9 +18,12 @@ reason_number NotClosedShell = 12
 reason_number NotManifold = 13
 
 -- number and values: the shell's own reason, with the shell
+abbrev pub solid_error_reply : SolidError → Reply
+solid_error_reply e = refused (reason_number e.reason) (e.shell ∷ [])
+
 abbrev pub solid_reply : Result Unit SolidError → Reply
 solid_reply (Ok x) = done []
-solid_reply (Err e) = refused (reason_number e.reason) (e.shell ∷ [])
+solid_reply (Err e) = solid_error_reply e
 
 -- the shell that a refusal names
 abbrev pub solid_shell : Result Unit SolidError → ℕ

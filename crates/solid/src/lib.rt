@@ -71,6 +71,13 @@ pub fn check_shell(
     Ok(())
 }
 
+// What is wrong with shell n, as a refusal of the solid.
+pub fn in_solid(n: usize, shell: Result<(), ShellError>) -> Result<(), SolidError>
+    ensures { result ≡ in_solid n shell }
+{
+    shell.map_err(|reason| SolidError { shell: n, reason })
+}
+
 // The answer so far, or what is wrong with shell n.
 pub fn and_shell(
     so_far: Result<(), SolidError>,
@@ -80,8 +87,5 @@ pub fn and_shell(
     ensures { result ≡ and_then so_far (in_solid n shell) }
 {
     so_far?;
-    match shell {
-        Ok(()) => Ok(()),
-        Err(reason) => Err(SolidError { shell: n, reason }),
-    }
+    in_solid(n, shell)
 }

@@ -6,7 +6,7 @@ use Rattle.errors.specs.declared.CallError.TheVariants.{Refused, Unread}
 use Rattle.errors.specs.declared.Refusal.{Refusal}
 use Rattle.pattern.specs.Checks.{pattern_faults}
 use Rattle.pattern.specs.Contents.{Content, Pattern, content}
-use Rattle.solid.specs.Solid.{solid_of, solid_reply}
+use Rattle.solid.specs.Solid.{solid_error_reply, solid_of}
 use Rattle.solid.specs.declared.SolidError.{SolidError}
 
 abbrev pub answered : Result Unit SolidError → Result Unit (CallError SolidError)
@@ -22,4 +22,4 @@ solid_answer p = solid_answer_of (pattern_faults p) (content p)
 
 -- number and values
 abbrev pub solid_answer_reply : Result Unit (CallError SolidError) → Reply
-solid_answer_reply r = call_reply (λ x. []) (λ e. solid_reply (Err e)) r
+solid_answer_reply r = call_reply (λ x. []) solid_error_reply r

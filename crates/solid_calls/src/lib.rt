@@ -9,10 +9,10 @@ ghost use Rattle.store.specs.Store.{count_table, held};
 ghost use Rattle.solid_calls.specs.Solids.{solid_answer};
 ghost use Rattle.solid.specs.Sequence.{first_error};
 
-use columns::Columns;
+use columns::{Columns, Derived};
 use errors::CallError;
 use reports::{condition_in, put_groups};
-use solid::{ShellError, SolidError, check_shell};
+use solid::{ShellError, SolidError, check_shell, in_solid};
 use store::{Spans, Tables, counts_in};
 use store_check::check;
 
@@ -21,8 +21,8 @@ fn shell_check(columns: &Columns, n: usize) -> Result<(), ShellError>
     requires { n < get_or (count_table columns.now.t.now) 5 0 }
     ensures { OfTables columns.now.t.now (λ p. result ≡ first_error (shell_errors (content p) n)) }
 {
-    let first = columns.places[n];
-    let end = columns.places[n + 1];
+    let first = columns.derived.places[n];
+    let end = columns.derived.places[n + 1];
     let mut pairs = [0u16; 512];
     let mut sizes = [0u16; 512];
     let mut corners = [0u16; 2048];
@@ -38,9 +38,7 @@ fn solid_of(columns: &Columns) -> Result<(), SolidError>
     let counts = counts_in(columns.t);
     let shells = counts[5];
     for n in 0..shells {
-        if let Err(reason) = shell_check(columns, n) {
-            return Err(SolidError { shell: n, reason });
-        }
+        in_solid(n, shell_check(columns, n))?;
     }
     Ok(())
 }
@@ -50,6 +48,11 @@ pub fn try_new(t: &Tables, spans: &Spans) -> Result<(), CallError<SolidError>>
     ensures { result ≡ solid_answer (held t.now spans.now) }
 {
     check(t, spans)?;
-    let columns = Columns::new(t);
+    let mut derived = Derived::new();
+    derived.put(t);
+    let columns = Columns {
+        t,
+        derived: &derived,
+    };
     Ok(solid_of(&columns)?)
 }

@@ -1,9 +1,9 @@
 -- The columns of the store, and a pattern with one table changed. Cited by inner contracts.
-use Rattle.std.specs.Prelude.{ℕ, List}
+use Rattle.std.specs.Prelude.{ℕ, List, get_or, take}
 use Rattle.edge.specs.declared.Edge.{Edge}
 use Rattle.face.specs.declared.Face.{Face}
 use Rattle.pattern.specs.Contents.{Pattern}
-use Rattle.store.specs.Store.{part}
+use Rattle.store.specs.Store.{count_table, part}
 
 abbrev pub front_table : List ℕ → List ℕ
 front_table = part 8 1024
@@ -14,6 +14,10 @@ back_table = part 1032 1024
 -- the faces' numbers of wires
 abbrev pub face_table : List ℕ → List ℕ
 face_table = part 7176 256
+
+-- a table as long as the count of its body says
+abbrev pub counted : ℕ → (List ℕ → List ℕ) → List ℕ → List ℕ
+counted b table t = take (get_or (count_table t) b 0) (table t)
 
 abbrev pub with_counts : Pattern → List ℕ → Pattern
 with_counts p ns = record { counts = ns; points = p.points; edges = p.edges; uses = p.uses; wires = p.wires; faces = p.faces; shells = p.shells; listings = p.listings }

@@ -2,16 +2,16 @@
 // the curves beside it. A label stands in two places, the lower half first.
 #![tactic(auto)]
 
-ghost use Rattle.std.specs.Prelude.{◌≡◌, List, ◌+◌, ◌<◌, ◌≤◌, Float, length, set};
+ghost use Rattle.std.specs.Prelude.{◌≡◌, [], List, ◌+◌, ◌<◌, ◌≤◌, Float, length, set};
 ghost use Rattle.std.proofs.lemmas.List.Edits.{sets};
 ghost use Rattle.store.specs.Store.{count_table, edge_in, face_in, held, label_in, listing_table, shell_table, use_table, wire_table};
-ghost use Rattle.store.specs.Columns.{back_table, face_table, front_table, with_counts, with_edges, with_faces, with_points, with_uses, with_wires};
+ghost use Rattle.pattern.specs.Checks.{count_faults};
+ghost use Rattle.store.specs.Columns.{back_table, counted, face_table, front_table, with_counts, with_edges, with_faces, with_points, with_uses, with_wires};
 
-use edge::{Curve, Edge};
+use edge::{Curve, Edge, Ends};
 use face::Face;
-use pattern::Counts;
+use pattern::{Counts, Lists};
 use vertex::VertexID;
-use words::index;
 
 // Where each table begins; the counts stand from 0 on.
 pub const FRONTS: usize = 8;
@@ -62,28 +62,25 @@ pub fn counts_in(t: &Tables) -> Counts
 {
     tables_known(t);
     [
-        index(t[0]),
-        index(t[1]),
-        index(t[2]),
-        index(t[3]),
-        index(t[4]),
-        index(t[5]),
-        index(t[6]),
+        usize::from(t[0]),
+        usize::from(t[1]),
+        usize::from(t[2]),
+        usize::from(t[3]),
+        usize::from(t[4]),
+        usize::from(t[5]),
+        usize::from(t[6]),
     ]
 }
 
-pub fn fronts_in(t: &Tables) -> &[u16]
-    ensures { result.now ≡ front_table t.now }
+// The ends of all edges for which there is place.
+pub fn ends_in(t: &Tables) -> Ends<'_>
+    ensures { (result.fronts.now ≡ front_table t.now) × (result.backs.now ≡ back_table t.now) }
 {
     let s: &[u16] = t;
-    &s[FRONTS..BACKS]
-}
-
-pub fn backs_in(t: &Tables) -> &[u16]
-    ensures { result.now ≡ back_table t.now }
-{
-    let s: &[u16] = t;
-    &s[BACKS..USES]
+    Ends {
+        fronts: &s[FRONTS..BACKS],
+        backs: &s[BACKS..USES],
+    }
 }
 
 pub fn uses_in(t: &Tables) -> &[u16]
@@ -122,10 +119,30 @@ pub fn listings_in(t: &Tables) -> &[u16]
     &s[LISTINGS..LABELS]
 }
 
-fn wide(x: u16) -> u32
-    ensures { (result ≡ x) × (result < 65536) }
+// The lists of the pattern, each as long as its count.
+pub fn lists_in(t: &Tables) -> Lists<'_>
+    requires { count_faults (count_table t.now) ≡ [] }
+    ensures ends { (result.ends.fronts.now ≡ counted 1 front_table t.now) × (result.ends.backs.now ≡ counted 1 back_table t.now) }
+    ensures uses { result.uses.now ≡ counted 2 use_table t.now }
+    ensures wires { result.wires.now ≡ counted 3 wire_table t.now }
+    ensures faces { result.faces.now ≡ counted 4 face_table t.now }
+    ensures shells { result.shells.now ≡ counted 5 shell_table t.now }
+    ensures listings { result.listings.now ≡ counted 6 listing_table t.now }
 {
-    x as u32
+    tables_known(t);
+    let counts = counts_in(t);
+    let ends = ends_in(t);
+    Lists {
+        ends: Ends {
+            fronts: &ends.fronts[..counts[1]],
+            backs: &ends.backs[..counts[1]],
+        },
+        uses: &uses_in(t)[..counts[2]],
+        wires: &wires_in(t)[..counts[3]],
+        faces: &faces_in(t)[..counts[4]],
+        shells: &shells_in(t)[..counts[5]],
+        listings: &listings_in(t)[..counts[6]],
+    }
 }
 
 // Point k.
@@ -134,8 +151,8 @@ pub fn label_in(t: &Tables, k: usize) -> u32
     ensures { result ≡ label_in t.now k }
 {
     tables_known(t);
-    let low = wide(t[LABELS + 2 * k]);
-    let high = wide(t[LABELS + 1 + 2 * k]);
+    let low = u32::from(t[LABELS + 2 * k]);
+    let high = u32::from(t[LABELS + 1 + 2 * k]);
     low + high * 65536
 }
 

@@ -24,7 +24,7 @@ use Rattle.store.proofs.Parts.{part_long}
 use Rattle.store.proofs.View.{held_backs, held_fronts, held_full, held_seven, held_wire_counts}
 use Rattle.store.specs.Store.{count_table, edge_in, held, listing_table, shell_table, use_table, wire_table}
 use Rattle.pattern.specs.Columns.{Checkable, column_faults}
-use Rattle.store.specs.Columns.{back_table, face_table, front_table}
+use Rattle.store.specs.Columns.{back_table, counted, face_table, front_table}
 
 -- ---- a loop over the first n edges
 
@@ -67,7 +67,7 @@ module _ (t : List ℕ) (spans : List Float) (long : length t ≡ 12312) (ok : c
     abbrev back : take (get_or P.counts 1 0) (back_table t) ≡ take (get_or P.counts 1 0) (map back_number P.edges)
     back = ap (take (get_or P.counts 1 0)) (held_backs t spans long)
 
-    pub held_checkable : Checkable (count_table t) (front_table t) (back_table t) (use_table t) (wire_table t) (face_table t) (shell_table t) (listing_table t)
+    pub held_checkable : Checkable (counted 1 front_table t) (counted 1 back_table t) (counted 3 wire_table t) (counted 4 face_table t) (counted 5 shell_table t)
     held_checkable =
         checkable P held_limits (held_full t spans long) (accepted_none (edge_faults_lem P) right) (front_table t) (back_table t) (face_table t) front back (held_wire_counts t spans long) (part_long t 8 1024 (omega arith)) (part_long t 1032 1024 (omega arith))
 

@@ -10,12 +10,9 @@ ghost use Rattle.pattern.specs.Outlines.{wire_place};
 ghost use Rattle.store.specs.Store.{count_table, edge_in, held};
 
 use errors::{CallError, NotThere, Refusal};
-use pattern::{check_columns, check_counts, check_edge};
-use store::{
-    Spans, Tables, backs_in, counts_in, edge_in, faces_in, fronts_in, listings_in, shells_in,
-    tables_known, uses_in, wires_in,
-};
-use words::{index, sum_of};
+use pattern::{check_counts, check_edge};
+use store::{Spans, Tables, counts_in, edge_in, lists_in, tables_known};
+use words::sum_of;
 
 // Checks the first n edges.
 fn check_edges(t: &Tables, spans: &Spans, n: usize, points: usize) -> Result<(), Refusal>
@@ -36,16 +33,7 @@ pub fn check_records(t: &Tables, spans: &Spans) -> Result<(), Refusal>
     tables_known(t);
     let counts = counts_in(t);
     check_edges(t, spans, counts[1], counts[0])?;
-    check_columns(
-        counts,
-        fronts_in(t),
-        backs_in(t),
-        uses_in(t),
-        wires_in(t),
-        faces_in(t),
-        shells_in(t),
-        listings_in(t),
-    )
+    lists_in(t).check()
 }
 
 // The reading checks, which every call on a pattern in the store makes first.
@@ -66,10 +54,9 @@ pub fn wire_place(
 {
     tables_known(t);
     check(t, spans)?;
-    let counts = counts_in(t);
-    if w >= counts[3] {
+    let wires = lists_in(t).wires;
+    if w >= wires.len() {
         return Err(CallError::Refused(NotThere));
     }
-    let wires = wires_in(t);
-    Ok((sum_of(wires, w), index(wires[w])))
+    Ok((sum_of(&wires[..w]), usize::from(wires[w])))
 }

@@ -89,6 +89,8 @@ fn read_counts(counts: Counts, t: &mut Tables)
     }
 }
 
+// One loop for each kind of record: a function that is handed a record's reader, its place in the store and its
+// definition would say no less.
 fn read_labels(s: &[u8], at: usize, n: usize, t: &mut Tables)
     requires { (at + 4 * n ≤ length s.now) × (n ≤ 2048) }
     ensures { (spans : List Float) → held t.new spans ≡ with_points (held t.old spans) (sets (held t.old spans).points 0 (tabulate n (λ (k : ℕ). le32 s.now (at + 4 * k)))) }

@@ -30,5 +30,8 @@ abbrev pub written_bytes : Pattern → List ℕ → List ℕ
 written_bytes p out = write_bytes (pattern_faults p) (file_bytes (content p)) out
 
 -- number and values: the length of the file; 17 with the length that it needs
+abbrev pub no_space_reply : NoSpace → Reply
+no_space_reply e = refused 17 (e.needed ∷ [])
+
 abbrev pub written_reply : Result ℕ (CallError NoSpace) → Reply
-written_reply r = call_reply (λ n. n ∷ []) (λ e. refused 17 (e.needed ∷ [])) r
+written_reply r = call_reply (λ n. n ∷ []) no_space_reply r

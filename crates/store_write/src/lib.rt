@@ -17,10 +17,7 @@ use errors::CallError;
 use face::Face;
 use pattern::{BODIES, Counts, Starts};
 use pattern_file::starts_of;
-use store::{
-    Spans, Tables, counts_in, edge_in, face_in, label_in, listings_in, shells_in, tables_known,
-    uses_in, wires_in,
-};
+use store::{Spans, Tables, counts_in, edge_in, face_in, label_in, lists_in, tables_known};
 use store_check::check;
 use words::{put_u16, put_u32, put_u64};
 
@@ -30,15 +27,18 @@ pub struct NoSpace {
     pub needed: usize,
 }
 
-// Writes the first n numbers, of two bytes each, from `at` on.
-fn put_u16s(out: &mut [u8], at: usize, ns: &[u16], n: usize)
-    requires { (at + 2 * n ≤ length out.old) × (n ≤ length ns.now) }
-    ensures { out.new ≡ sets out.old at (flat (map bytes16 (take n ns.now))) }
+// Writes numbers, of two bytes each, from `at` on.
+fn put_u16s(out: &mut [u8], at: usize, ns: &[u16])
+    requires { at + 2 * length ns.now ≤ length out.old }
+    ensures { out.new ≡ sets out.old at (flat (map bytes16 ns.now)) }
 {
-    for (k, x) in ns[..n].iter().enumerate() {
+    for (k, x) in ns.iter().enumerate() {
         put_u16(out, at + 2 * k, *x);
     }
 }
+
+// One loop for each kind of record: a function that is handed a record's reader, its writer and its definition would
+// say no less.
 
 // Writes the first n labels, of four bytes each, from `at` on.
 fn put_labels(out: &mut [u8], at: usize, t: &Tables, n: usize)
@@ -117,14 +117,15 @@ fn write_content(t: &Tables, spans: &Spans, starts: Starts, out: &mut [u8])
     ensures { out.new ≡ file_bytes (content (held t.now spans.now)) ++ drop (length (file_bytes (content (held t.now spans.now)))) out.old }
 {
     let counts = counts_in(t);
+    let lists = lists_in(t);
     put_table(out, counts, starts);
     put_labels(out, starts[0], t, counts[0]);
     put_edges(out, starts[1], t, spans, counts[1]);
-    put_u16s(out, starts[2], uses_in(t), counts[2]);
-    put_u16s(out, starts[3], wires_in(t), counts[3]);
+    put_u16s(out, starts[2], lists.uses);
+    put_u16s(out, starts[3], lists.wires);
     put_faces(out, starts[4], t, counts[4]);
-    put_u16s(out, starts[5], shells_in(t), counts[5]);
-    put_u16s(out, starts[6], listings_in(t), counts[6]);
+    put_u16s(out, starts[5], lists.shells);
+    put_u16s(out, starts[6], lists.listings);
 }
 
 // Writes the file of a pattern without fault: 17 if the slice is shorter than the file.

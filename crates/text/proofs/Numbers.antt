@@ -1,18 +1,19 @@
 -- Laws of numbers, uses and names in words.
 use Rattle.std.specs.Prelude.{None, Option, Some}
-use Prim.Native.Nat.{◌*◌, ◌+◌, ◌-◌, ◌<◌, ◌^◌, ◌≤◌, min, suc, ℕ}
+use Prim.Native.Nat.{◌*◌, ◌+◌, ◌-◌, ◌<◌, ◌^◌, ◌≤◌, suc, ℕ}
 use mathlib.Core.Bool.{◌&&◌, and-false, false, true}
-use mathlib.Core.List.{List, [], ◌∷◌}
+use mathlib.Core.List.{List, [], ◌∷◌, ◌++◌}
 use mathlib.Core.Logic.{⊎_elim}
 use mathlib.Core.Path.{◌∙◌, ◌≡◌, ap, refl, sym}
-use native.Mathlib.Nat.{mul_assoc, mul-le-mul_right, pow-le-pow_right, pow-suc, pow-succ'}
+use native.Mathlib.Nat.{mul_assoc, mul-le-mul_left, mul-le-mul_right, pow-le-pow_right, pow-suc, pow-succ'}
 use native.Mathlib.Numerals.{add-one}
 use native.Mathlib.Omega.{arith}
 use lib.Dec.{leb}
-use lib.ListN.{drop, drop_of_length-le, get_or, length, take}
-use lib.Seq.{drop-cons}
+use lib.ListN.{drop, drop_of_length-le, get_or, length, length-append}
+use lib.Seq.{drop-cons, get_or-append_seam, take-append_seam}
 use borrow.Author.Tests.{le-leb, leb-true, lt-leb, ne_eqb}
 use Rattle.lists.proofs.Laws.{cases, left_true, right_true}
+use Rattle.lists.specs.Lists.{pick}
 use Rattle.text.specs.Tokens.{all_digits, is_digit, name, name_after, number, signed, signed_number, value_after}
 
 pub digit_is : (b : ℕ) → 48 ≤ b → b ≤ 57 → is_digit b ≡ true
@@ -33,13 +34,9 @@ pub number_long : (w : List ℕ) → 9 < length w → number w ≡ None
 unfolding number
 number_long w h = rw (le-leb 1 (length w) (omega arith), lt-leb (length w) 9 h)
 
-number_not : (w : List ℕ) → all_digits w ≡ false → number w ≡ None
+pub number_digits : (w : List ℕ) → 1 ≤ length w → length w ≤ 9 → number w ≡ pick (all_digits w) (Some (value_after 0 w)) None
 unfolding number
-number_not w h = rw (h, and-false)
-
-number_is : (w : List ℕ) → 1 ≤ length w → length w ≤ 9 → all_digits w ≡ true → number w ≡ Some (value_after 0 w)
-unfolding number
-number_is w h l a = rw (le-leb 1 (length w) h, le-leb (length w) 9 l, a)
+number_digits w h l = rw (le-leb 1 (length w) h, le-leb (length w) 9 l)
 
 -- a loop over the digits of a word, after those of the number m: what is known after i turns
 pub record Digits (m : ℕ) (w : List ℕ) (n i : ℕ) : Type 0 where
@@ -70,18 +67,13 @@ module _ {m : ℕ} {w : List ℕ} {n i : ℕ} (s : Digits m w n i) where
 
   pub digits_all : length w ≤ i → (all_digits w ≡ true) × (value_after m w ≡ n)
   unfolding value_after all_digits
-  digits_all h = (s.all ∙ rw (drop_of_length-le w h), s.value ∙ rw (drop_of_length-le w h))
+  digits_all h = let e = drop_of_length-le w h in (s.all ∙ ap all_digits e, s.value ∙ ap (value_after n) e)
 
--- the loop of a number of at most nine digits
-module _ {w : List ℕ} {n i : ℕ} (s : Digits 0 w n i) where
-  pub number_small : i ≤ 9 → n < 1000000000
-  number_small h = omega (arith, s.small, pow-le-pow_right {n = 10} (omega arith) h)
-
-  pub number_stop : i < length w → is_digit (get_or w i 0) ≡ false → number w ≡ None
-  number_stop h a = number_not w (digits_stop s h a)
-
-  pub number_all : 1 ≤ length w → length w ≤ 9 → length w ≤ i → number w ≡ Some n
-  number_all h l e = let d = digits_all s e in number_is w h l d.0 ∙ ap Some d.1
+  -- there is room for the digits that follow
+  pub digits_room : {k : ℕ} → (m + 1) * 10 ^ length w ≤ k → i < length w → (n + 1) * 10 ≤ k
+  digits_room {k} r h =
+      let p : (m + 1) * 10 ^ (i + 1) ≡ (m + 1) * 10 ^ i * 10 = rw (add-one i, pow-suc 10 i) (sym (mul_assoc (m + 1) (10 ^ i) 10)) in
+      omega (arith, s.small, mul-le-mul_left (m + 1) (pow-le-pow_right {n = 10} (omega arith) {i = i + 1} {j = length w} (omega arith)))
 
 -- the digits w after those of n: how large a number they can make
 pub value_below : (n : ℕ) (w : List ℕ) → all_digits w ≡ true → value_after n w + 1 ≤ (n + 1) * 10 ^ length w
@@ -147,20 +139,11 @@ signed_empty [] h = refl
 signed_empty (b ∷ w) h = absurd (omega arith)
 
 -- r is what the digits before the sign say
-module _ (w : List ℕ) {r : Option ℕ} (is : r ≡ number (take (length w - 1 - 0) w)) where
-  signed_of : signed w ≡ signed_number r (get_or w (length w - 1) 0)
-  unfolding signed
-  signed_of = let e : length w - 1 - 0 ≡ length w - 1 = omega arith in rw (is, e)
+pub signed_is : (w : List ℕ) (sign : ℕ) (ds : List ℕ) → w ≡ ds ++ (sign ∷ []) → {r k : Option ℕ} → r ≡ number ds → r ≡ k → signed w ≡ signed_number k sign
+unfolding signed
+signed_is w sign ds h is value =
+    let e : length (ds ++ (sign ∷ [])) - 1 ≡ length ds = omega (arith, length-append ds (sign ∷ [])) in
+    rw (h, e, take-append_seam ds (sign ∷ []), get_or-append_seam ds sign [] 0, ← is, value)
 
-  pub signed_not : r ≡ None → signed w ≡ None
-  signed_not h = signed_of ∙ rw h
-
-  module _ {k m : ℕ} (value : r ≡ Some k) (least : m ≡ min k 32767) where
-    pub signed_plus : get_or w (length w - 1) 0 ≡ 43 → signed w ≡ Some m
-    signed_plus h = signed_of ∙ rw (value, h, least)
-
-    pub signed_minus : get_or w (length w - 1) 0 ≡ 45 → signed w ≡ Some (m + 32768)
-    signed_minus h = signed_of ∙ rw (value, h, least)
-
-  pub signed_other : {k : ℕ} → r ≡ Some k → (get_or w (length w - 1) 0 ≡ 43 → ⊥) → (get_or w (length w - 1) 0 ≡ 45 → ⊥) → signed w ≡ None
-  signed_other value n h = signed_of ∙ rw (value, ne_eqb (get_or w (length w - 1) 0) 43 n, ne_eqb (get_or w (length w - 1) 0) 45 h)
+pub signed_other : (m sign : ℕ) → (sign ≡ 43 → ⊥) → (sign ≡ 45 → ⊥) → signed_number (Some m) sign ≡ None
+signed_other m sign n h = rw (ne_eqb sign 43 n, ne_eqb sign 45 h)

@@ -1,21 +1,21 @@
 -- Laws of the bytes before the first that passes a test, of the words of a line and of the lines of a text.
-use Prim.Native.Nat.{◌*◌, ◌+◌, ◌-◌, ◌<◌, ◌≤◌, suc, ℕ}
+use Prim.Native.Nat.{◌*◌, ◌+◌, ◌-◌, ◌<◌, ◌≤◌, min, suc, ℕ}
 use mathlib.Core.Bool.{Bool, false, true, true≢false}
-use mathlib.Core.List.{List, [], ◌∷◌}
+use mathlib.Core.List.{List, [], ◌∷◌, map}
 use mathlib.Core.Logic.{⊎_elim}
 use mathlib.Core.Path.{◌∙◌, ◌≡◌, ap, refl, sym}
 use native.Mathlib.Nat.{add-zero}
 use native.Mathlib.Omega.{arith}
-use lib.ListN.{drop_of_length-le, drop, get_or, length, length-drop, take}
+use lib.ListN.{drop_of_length-le, drop, get_or, length, length-drop, length-take, take}
 use native.Mathlib.Numerals.{add-one}
 use lib.Seq.{drop-cons, drop-drop, drop-length, get_or-drop, take_all, take-length}
-use lib.Dec.{ltb}
+use lib.Dec.{eqb, ltb}
 use borrow.Author.Tests.{eq-eqb, ltb-false, ltb-true, ne_eqb, not-true}
 use Rattle.std.specs.List.{position, position_or_len}
 use Rattle.std.specs.declared.option.Option.{Option}
 use Rattle.std.specs.declared.option.Option.TheVariants.{None, Some}
 use Rattle.lists.proofs.Laws.{cases}
-use Rattle.text.specs.Text.{before, fed, front, is_blank, is_feed, is_ink, parted, trimmed, words}
+use Rattle.text.specs.Text.{before, fed, front, is_blank, is_feed, is_ink, lines, parted, trimmed, words}
 
 -- ---- before
 
@@ -240,12 +240,31 @@ line_at text from end l ends =
     fed_next (drop from text) (omega (arith, length-drop from text)) ∙ rw (d, take_before is_feed (drop from text), n, drop-drop (suc m) from text)
 
 -- a carriage return at the end
-pub trimmed_empty : (s : List ℕ) → length s ≡ 0 → [] ≡ trimmed s
-trimmed_empty [] h = refl
-trimmed_empty (b ∷ s) h = absurd (omega arith)
+pub trimmed_le : (s : List ℕ) → length (trimmed s) ≤ length s
+trimmed_le s =
+    ⊎_elim
+    (λ (b : eqb (get_or s (length s - 1) 0) 13 ≡ true). rw b (omega (arith, length-take (length s - 1) s)))
+    (λ (b : eqb (get_or s (length s - 1) 0) 13 ≡ false). rw b (omega arith))
+    (cases (eqb (get_or s (length s - 1) 0) 13))
 
-pub trimmed_return : (s : List ℕ) → get_or s (length s - 1) 0 ≡ 13 → take (length s - 1) s ≡ trimmed s
-trimmed_return s h = rw (eq-eqb (get_or s (length s - 1) 0) 13 h)
+-- the first line of a text, as the code takes it, and the rest
+module _ (text : List ℕ) (end next : ℕ) (some : 0 < length text) (ends : end ≡ length (before is_feed text)) (goes : next ≡ min (length text) (end + 1)) where
+  rest_on : drop (end + 1) text ≡ drop next text
+  rest_on =
+      ⊎_elim
+      (λ (b : ltb end (length text) ≡ true). let e : next ≡ end + 1 = omega (arith, ltb-true end (length text) b) in rw e)
+      (λ (b : ltb end (length text) ≡ false).
+      let l = ltb-false end (length text) b in
+      let e : length text ≤ next = omega arith in
+      let g : length text ≤ end + 1 = omega arith in drop_of_length-le text g ∙ sym (drop_of_length-le text e))
+      (cases (ltb end (length text)))
 
-pub trimmed_other : (s : List ℕ) → (get_or s (length s - 1) 0 ≡ 13 → ⊥) → take (length s) s ≡ trimmed s
-trimmed_other s h = rw (ne_eqb (get_or s (length s - 1) 0) 13 h) (take-length s)
+  pub next_lines : (line : List ℕ) → line ≡ trimmed (take end text) → (lines text ≡ line ∷ lines (drop next text)) × (length line ≤ length text) × (length (drop next text) < length text)
+  next_lines line is =
+      let z : end - 0 ≡ end = omega arith in
+      let e = line_at text 0 end some (omega arith) in
+      (ap (map trimmed) e ∙ rw (z, rest_on, is), rw is (omega (arith, trimmed_le (take end text), length-take end text)), omega (arith, length-drop next text))
+
+pub lines_nil : (text : List ℕ) → length text ≡ 0 → lines text ≡ []
+lines_nil [] h = ap (map trimmed) fed_nil
+lines_nil (b ∷ text) h = absurd (omega arith)

@@ -1,10 +1,11 @@
 // The lines of a text, the words of a line, and what a word can say.
 #![tactic(auto)]
 
-ghost use Rattle.std.specs.Prelude.{◌≡◌, drop, length, take};
-ghost use Prim.Native.Nat.{◌+◌, ◌-◌, ◌≤◌, ◌<◌};
-ghost use Rattle.text.specs.Text.{before, is_blank, is_feed, is_ink, trimmed};
-ghost use Rattle.text.specs.Tokens.{name, number, signed};
+ghost use Rattle.std.specs.Prelude.{◌≡◌, [], ◌∷◌, ◌+◌, ◌*◌, ◌^◌, ◌<◌, ◌≤◌, None, Some, drop, length};
+ghost use Rattle.std.specs.Option.{MatchOption};
+ghost use Rattle.lists.specs.Lists.{pick};
+ghost use Rattle.text.specs.Text.{before, is_blank, is_feed, is_ink, lines, trimmed, words};
+ghost use Rattle.text.specs.Tokens.{all_digits, name, number, signed, value_after};
 
 // Where the line that begins at `from` ends: at its line feed, or at the end of the text.
 pub fn line_end(text: &[u8], from: usize) -> usize
@@ -17,18 +18,23 @@ pub fn line_end(text: &[u8], from: usize) -> usize
     }
 }
 
-// The length of a line without a carriage return at its end.
-pub fn trimmed_length(line: &[u8]) -> usize
-    ensures { (result ≤ length line.now) × (take result line.now ≡ trimmed line.now) }
+// A line without a carriage return at its end.
+pub fn trimmed(line: &[u8]) -> &[u8]
+    ensures { result.now ≡ trimmed line.now }
 {
-    let n = line.len();
-    if n == 0 {
-        return 0;
+    line.strip_suffix(b"\r").unwrap_or(line)
+}
+
+// The next line of a text, as `trimmed` has it, and what follows it, if there is one.
+pub fn next_line(text: &[u8]) -> Option<(&[u8], &[u8])>
+    ensures { MatchOption result (lines text.now ≡ []) (λ next. (lines text.now ≡ next.0.now ∷ lines next.1.now) × (length next.0.now ≤ length text.now) × (length next.1.now < length text.now)) }
+{
+    if text.is_empty() {
+        return None;
     }
-    if line[n - 1] == b'\r' {
-        return n - 1;
-    }
-    n
+    let end = line_end(text, 0);
+    let next = text.len().min(end + 1);
+    Some((trimmed(&text[..end]), &text[next..]))
 }
 
 fn is_blank(b: u8) -> bool
@@ -64,10 +70,31 @@ pub fn word_end(line: &[u8], from: usize) -> usize
     line.len()
 }
 
-fn wide(b: u8) -> u64
-    ensures { (result ≡ b) × (result < 256) }
+// The next word of a line, and what follows it, if there is one.
+pub fn next_word(line: &[u8]) -> Option<(&[u8], &[u8])>
+    ensures { MatchOption result (words line.now ≡ []) (λ next. (words line.now ≡ next.0.now ∷ words next.1.now) × (length next.1.now < length line.now)) }
 {
-    b as u64
+    let start = word_start(line, 0);
+    if start == line.len() {
+        return None;
+    }
+    let end = word_end(line, start);
+    Some((&line[start..end], &line[end..]))
+}
+
+// The digits of a word, after those of the number n.
+pub fn digits_after(n: u64, word: &[u8]) -> Option<u64>
+    requires { (n + 1) * 10 ^ length word.now ≤ 10000000000000000000 }
+    ensures { result ≡ pick (all_digits word.now) (Some (value_after n word.now)) None }
+{
+    let mut m = n;
+    for b in word {
+        if !b.is_ascii_digit() {
+            return None;
+        }
+        m = m * 10 + u64::from(*b - b'0');
+    }
+    Some(m)
 }
 
 // A number of one to nine digits.
@@ -80,43 +107,20 @@ pub fn number_of(word: &[u8]) -> Option<u64>
     if word.len() > 9 {
         return None;
     }
-    let mut n: u64 = 0;
-    for b in word {
-        if *b < b'0' {
-            return None;
-        }
-        if *b > b'9' {
-            return None;
-        }
-        n = n * 10 + (wide(*b) - 48);
-    }
-    Some(n)
-}
-
-fn least(a: u64, b: u64) -> u64
-    ensures { result ≡ Prim.Native.Nat.min a b }
-{
-    if a < b { a } else { b }
+    digits_after(0, word)
 }
 
 // A use or listing: a number and + or -; as in a file, plus 32,768 if reversed.
 pub fn signed_of(word: &[u8]) -> Option<u64>
     ensures { result ≡ signed word.now }
 {
-    let n = word.len();
-    if n == 0 {
-        return None;
+    let (sign, digits) = word.split_last()?;
+    let k = number_of(digits)?.min(32767);
+    match *sign {
+        b'+' => Some(k),
+        b'-' => Some(k + 32768),
+        _ => None,
     }
-    let last = n - 1;
-    let sign = word[last];
-    let k = number_of(&word[0..last])?;
-    if sign == b'+' {
-        return Some(least(k, 32767));
-    }
-    if sign == b'-' {
-        return Some(least(k, 32767) + 32768);
-    }
-    None
 }
 
 // A word of at most seven bytes as a number; 0 for a longer one.
@@ -128,7 +132,7 @@ pub fn name_of(word: &[u8]) -> u64
     }
     let mut n: u64 = 1;
     for b in word {
-        n = n * 256 + wide(*b);
+        n = n * 256 + u64::from(*b);
     }
     n
 }

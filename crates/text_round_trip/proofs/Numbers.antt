@@ -1,5 +1,7 @@
 -- Numbers, labels and uses: each is a word, and reads back.
-use Rattle.std.specs.Prelude.{Some}
+use Rattle.std.specs.Prelude.{Option, Some}
+use Rattle.std.specs.Str.{bytes_eq}
+use Rattle.std.proofs.lemmas.Slice.Eq.{bytes_eq-Decides}
 use Prim.Native.Nat.{◌%◌, ◌*◌, ◌+◌, ◌-◌, ◌/◌, ◌<◌, ◌^◌, ◌≤◌, suc, zero, ℕ}
 use mathlib.Core.Bool.{Bool, ◌&&◌, false, true}
 use mathlib.Core.List.{List, [], ◌++◌, ◌∷◌}
@@ -10,18 +12,18 @@ use native.Mathlib.Omega.{arith}
 use lib.Dec.{leb, ltb}
 use lib.ListN.{drop, get_or, length, length-append, take}
 use lib.Seq.{drop_at, get_or_at, take_at}
-use borrow.Author.Tests.{le-leb, leb-false, leb-true, ltb-false, ltb-true}
+use borrow.Author.Tests.{le-leb, lt-ltb, leb-false, leb-true, ltb-false, ltb-true}
 use Rattle.decimals.proofs.Digits.{decimal_after, decimal_all}
-use Rattle.forms.proofs.Tokens.{below_is, label_both, label_short, token_use}
-use Rattle.forms.specs.Forms.{label, token}
+use Rattle.forms.proofs.Tokens.{label_both, label_short}
+use Rattle.forms.specs.Forms.{below, label, token}
 use Rattle.forms.specs.declared.WordKind.TheVariants.{Wires}
 use Rattle.lines.specs.Lines.{signed as signedText}
 use Rattle.lists.proofs.Count.{All, all_append}
 use Rattle.lists.proofs.Laws.{cases, left_true, right_true}
 use Rattle.output.proofs.Laws.{decimal_more, decimal_one, decimal_short, length_one}
-use Rattle.output.specs.Text.{decimal, digit}
+use Rattle.output.specs.Text.{ascii, decimal, digit}
 use Rattle.text.proofs.Numbers.{value_below}
-use Rattle.text.specs.Tokens.{all_digits, is_digit, name, name_after, number, signed}
+use Rattle.text.specs.Tokens.{all_digits, is_digit, number, signed}
 use Rattle.text_round_trip.proofs.Sentences.{Ink, Word}
 
 -- ---- words
@@ -74,6 +76,10 @@ pub number_back : (n : ℕ) → n < 1000000000 → number (decimal n) ≡ Some n
 unfolding number
 number_back n h = rw (le-leb 1 (length (decimal n)) (decimal_some n), le-leb (length (decimal n)) 9 (decimal_short 8 n (omega arith)), decimal_all n, decimal_after n)
 
+-- a number below n is itself
+pub below_is : {n m : ℕ} {t : Option ℕ} → t ≡ Some m → m < n → below n t ≡ Some m
+below_is {n} {m} value h = rw (value, lt-ltb m n h)
+
 -- ---- labels
 
 label_ten : (n : ℕ) → 1000000000 ≤ n → n < 4294967296 → label (decimal n) ≡ Some n
@@ -121,32 +127,33 @@ signed_back u h =
     rw (e, front_of ds 43, last_of ds 43, n) (ap Some (omega arith)))
     (cases (leb 32768 u))
 
--- a name ends in its last byte
-name_last : (n : ℕ) (w : List ℕ) (c : ℕ) → name_after n (w ++ (c ∷ [])) ≡ name_after n w * 256 + c
-unfolding name_after
-name_last n [] c = refl
-name_last n (b ∷ w) c = name_last (n * 256 + b) w c
-
 -- a use is not the word `wire`
-sign_name : (ds : List ℕ) (c : ℕ) → length ds ≤ 5 → (c ≡ 43) ⊎ (c ≡ 45) → name (ds ++ (c ∷ [])) ≡ 0x177697265 → ⊥
-unfolding name
-sign_name ds c h s e =
-    let few : leb (length (ds ++ (c ∷ []))) 7 ≡ true = le-leb (length (ds ++ (c ∷ []))) 7 (omega (arith, length-append ds (c ∷ []))) in
-    let v : name_after 1 ds * 256 + c ≡ 0x177697265 = sym (rw few (name_last 1 ds c)) ∙ e in
-    ⊎_elim (λ p. omega arith) (λ p. omega arith) s
-
-signed_name : (u : ℕ) → name (signedText u) ≡ 0x177697265 → ⊥
-unfolding signedText
-signed_name u =
-    let ds = decimal (u % 32768) in
-    let short = decimal_short 4 (u % 32768) (omega arith) in
+sign_other : (ds : List ℕ) (c : ℕ) → (c ≡ 43) ⊎ (c ≡ 45) → bytes_eq (ds ++ (c ∷ [])) (ascii "wire") ≡ false
+sign_other ds c s =
     ⊎_elim
-    (λ (e : leb 32768 u ≡ true). rw e (sign_name ds 45 short (inr refl)))
-    (λ (e : leb 32768 u ≡ false). rw e (sign_name ds 43 short (inl refl)))
+    (λ (e : bytes_eq (ds ++ (c ∷ [])) (ascii "wire") ≡ true).
+    let q : ds ++ (c ∷ []) ≡ ascii "wire" = (bytes_eq-Decides (ds ++ (c ∷ [])) (ascii "wire")).0 e in
+    let n : length ds ≡ 3 = omega (arith, ap length q, length-append ds (c ∷ [])) in
+    let v : c ≡ 101 = sym (get_or_at ds c [] 0 3 (omega arith)) ∙ ap (λ (t : List ℕ). get_or t 3 0) q in
+    absurd (⊎_elim (λ p. omega arith) (λ p. omega arith) s))
+    (λ (e : bytes_eq (ds ++ (c ∷ [])) (ascii "wire") ≡ false). e)
+    (cases (bytes_eq (ds ++ (c ∷ [])) (ascii "wire")))
+
+signed_other : (u : ℕ) → bytes_eq (signedText u) (ascii "wire") ≡ false
+unfolding signedText
+signed_other u =
+    let ds = decimal (u % 32768) in
+    ⊎_elim
+    (λ (e : leb 32768 u ≡ true). rw e (sign_other ds 45 (inr refl)))
+    (λ (e : leb 32768 u ≡ false). rw e (sign_other ds 43 (inl refl)))
     (cases (leb 32768 u))
 
+token_use : (w : List ℕ) → bytes_eq w (ascii "wire") ≡ false → token Wires w ≡ signed w
+unfolding token
+token_use w h = rw h
+
 pub use_back_lem : (u : ℕ) → u < 65536 → token Wires (signedText u) ≡ Some u
-use_back_lem u h = token_use (signedText u) refl (signed_name u) ∙ signed_back u h
+use_back_lem u h = token_use (signedText u) (signed_other u) ∙ signed_back u h
 
 pub signed_word : (u : ℕ) → Word (signedText u)
 unfolding signedText

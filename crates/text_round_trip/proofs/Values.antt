@@ -11,7 +11,6 @@ use lib.Dec.{eqb}
 use lib.ListN.{get_or, get_or-eq_default, length}
 use borrow.Author.Tests.{eqb-false, eqb-true}
 use Rattle.decimals.proofs.Back.{real_back}
-use Rattle.forms.proofs.Tokens.{below_is}
 use Rattle.forms.specs.Forms.{token, values}
 use Rattle.forms.specs.declared.WordKind.{WordKind}
 use Rattle.forms.specs.declared.WordKind.TheVariants.{Signed, Wires}
@@ -23,7 +22,7 @@ use Rattle.lists.proofs.Laws.{cases}
 use Rattle.lists.specs.Lists.{flat}
 use Rattle.text.specs.Tokens.{name, name_after}
 use Rattle.text_round_trip.proofs.Lines.{Small, edge_words, face_word, face_words, marks, point_words, shell_words}
-use Rattle.text_round_trip.proofs.Numbers.{label_back, number_back, signed_back, use_back_lem}
+use Rattle.text_round_trip.proofs.Numbers.{below_is, label_back, number_back, signed_back, use_back_lem}
 
 -- ---- the kinds of the lines
 

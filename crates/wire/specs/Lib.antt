@@ -1,2 +1,3 @@
 pub mod Wires
 pub mod Named
+pub mod OfWire

@@ -6,32 +6,12 @@ ghost use Rattle.std.proofs.lemmas.List.Edits.{sets};
 ghost use Rattle.lists.specs.Lists.{sum};
 ghost use Rattle.words.specs.Words.{le16, le32, le64, bytes16, bytes32, bytes64, short};
 
-fn wide(x: u8) -> u64
-    ensures { (result ≡ x) × (result < 256) }
-{
-    x as u64
-}
-
-fn u16_wide(s: &[u8], at: usize) -> u64
-    requires { at + 2 ≤ length s.now }
-    ensures { (result ≡ le16 s.now at) × (result < 65536) }
-{
-    wide(s[at]) + wide(s[at + 1]) * 256
-}
-
-fn u32_wide(s: &[u8], at: usize) -> u64
-    requires { at + 4 ≤ length s.now }
-    ensures { (result ≡ le32 s.now at) × (result < 4294967296) }
-{
-    u16_wide(s, at) + u16_wide(s, at + 2) * 65536
-}
-
 // The u16 whose lowest byte stands at `at`.
 pub fn u16_at(s: &[u8], at: usize) -> u16
     requires { at + 2 ≤ length s.now }
     ensures { result ≡ le16 s.now at }
 {
-    u16_wide(s, at) as u16
+    u16::from_le_bytes([s[at], s[at + 1]])
 }
 
 // The u32 whose lowest byte stands at `at`.
@@ -39,7 +19,7 @@ pub fn u32_at(s: &[u8], at: usize) -> u32
     requires { at + 4 ≤ length s.now }
     ensures { result ≡ le32 s.now at }
 {
-    u32_wide(s, at) as u32
+    u32::from_le_bytes([s[at], s[at + 1], s[at + 2], s[at + 3]])
 }
 
 // The u64 whose lowest byte stands at `at`.
@@ -47,7 +27,16 @@ pub fn u64_at(s: &[u8], at: usize) -> u64
     requires { at + 8 ≤ length s.now }
     ensures { result ≡ le64 s.now at }
 {
-    u32_wide(s, at) + u32_wide(s, at + 4) * 4294967296
+    u64::from_le_bytes([
+        s[at],
+        s[at + 1],
+        s[at + 2],
+        s[at + 3],
+        s[at + 4],
+        s[at + 5],
+        s[at + 6],
+        s[at + 7],
+    ])
 }
 
 // Writes a u16 from `at` on, the lowest byte first.
@@ -55,8 +44,7 @@ pub fn put_u16(out: &mut [u8], at: usize, n: u16)
     requires { at + 2 ≤ length out.old }
     ensures { out.new ≡ sets out.old at (bytes16 n) }
 {
-    out[at] = (n % 256) as u8;
-    out[at + 1] = (n / 256 % 256) as u8;
+    copy_to(&u16::to_le_bytes(n), out, at);
 }
 
 // Writes a u32 from `at` on, the lowest byte first.
@@ -64,8 +52,7 @@ pub fn put_u32(out: &mut [u8], at: usize, n: u32)
     requires { at + 4 ≤ length out.old }
     ensures { out.new ≡ sets out.old at (bytes32 n) }
 {
-    put_u16(out, at, (n % 65536) as u16);
-    put_u16(out, at + 2, (n / 65536) as u16);
+    copy_to(&u32::to_le_bytes(n), out, at);
 }
 
 // Writes a u64 from `at` on, the lowest byte first.
@@ -73,12 +60,11 @@ pub fn put_u64(out: &mut [u8], at: usize, n: u64)
     requires { at + 8 ≤ length out.old }
     ensures { out.new ≡ sets out.old at (bytes64 n) }
 {
-    put_u32(out, at, (n % 4294967296) as u32);
-    put_u32(out, at + 4, (n / 4294967296) as u32);
+    copy_to(&u64::to_le_bytes(n), out, at);
 }
 
 // Copies a list to the places from `at` on.
-pub fn copy_u16s(from: &[u16], out: &mut [u16], at: usize)
+pub fn copy_to<T: Copy>(from: &[T], out: &mut [T], at: usize)
     requires { at + length from.now ≤ length out.old }
     ensures { out.new ≡ sets out.old at from.now }
 {
@@ -89,7 +75,7 @@ pub fn copy_u16s(from: &[u16], out: &mut [u16], at: usize)
 pub fn saturated(n: u64) -> u16
     ensures { result ≡ short n }
 {
-    if n > 65535 { 65535 } else { n as u16 }
+    n.min(65535) as u16
 }
 
 // Writes numbers as ones of 16 bits from `at` on.
@@ -102,21 +88,14 @@ pub fn put_saturated(ns: &[u64], out: &mut [u16], at: usize)
     }
 }
 
-// The sum of the first n numbers.
-pub fn sum_of(ns: &[u16], n: usize) -> usize
-    requires { (n ≤ length ns.now) × (n ≤ 4096) }
-    ensures { result ≡ sum (take n ns.now) }
+// The sum of numbers.
+pub fn sum_of(ns: &[u16]) -> usize
+    requires { length ns.now ≤ 4096 }
+    ensures { result ≡ sum ns.now }
 {
     let mut total: usize = 0;
-    for x in &ns[..n] {
-        total += index(*x);
+    for x in ns {
+        total += usize::from(*x);
     }
     total
-}
-
-// A u16 as an index.
-pub fn index(x: u16) -> usize
-    ensures { (result ≡ x) × (result < 65536) }
-{
-    x as usize
 }

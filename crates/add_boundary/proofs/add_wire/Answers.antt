@@ -12,7 +12,7 @@ use Rattle.add_boundary.proofs.add_wire.Goals.{In_ok-judge_wire}
 
 -- nothing is wrong
 fine : (c : In_ok-judge_wire) → let args = c.args in
-    first_of (new_faults args.fronts.now args.backs.now args.own.now (length args.sizes.now) args.wire.now (length args.uses.now) (length args.lens.now)) ≡ Ok tt
+    first_of (new_faults args.wire.now.ends.fronts.now args.wire.now.ends.backs.now args.own.now.uses.now (length args.sizes.now) args.wire.now.uses.now (length args.uses.now) (length args.lens.now)) ≡ Ok tt
 fine c = sym c.judge_wire.ensures ∙ c.in_ok-judge_wire.was
 
 pub returns-in_err-judge_wire-clause-value : goal.returns-in_err-judge_wire-clause-value
@@ -29,11 +29,11 @@ returns-in_err-judge_wire-clause-lens_after c =
 
 pub put_boundary-requires : goal.put_boundary-requires
 put_boundary-requires c = let args = c.args in
-    uses_fit args.fronts.now args.backs.now args.own.now (length args.sizes.now) args.wire.now (length args.uses.now) (length args.lens.now) (fine (goal.at.put_boundary-requires c).In_ok-judge_wire)
+    uses_fit args.wire.now.ends.fronts.now args.wire.now.ends.backs.now args.own.now.uses.now (length args.sizes.now) args.wire.now.uses.now (length args.uses.now) (length args.lens.now) (fine (goal.at.put_boundary-requires c).In_ok-judge_wire)
 
 pub put_length-requires : goal.put_length-requires
 put_length-requires c = let h = fine (goal.at.put_length-requires c).In_ok-judge_wire in
-    (wires_fit c.args.fronts.now c.args.backs.now c.args.own.now (length c.args.sizes.now) c.args.wire.now (length c.args.uses.now) (length c.args.lens.now) h, omega (arith, is_short _ _ c.args.own.now (length c.args.sizes.now) _ (length c.args.uses.now) (length c.args.lens.now) h c.requires.named))
+    (wires_fit c.args.wire.now.ends.fronts.now c.args.wire.now.ends.backs.now c.args.own.now.uses.now (length c.args.sizes.now) c.args.wire.now.uses.now (length c.args.uses.now) (length c.args.lens.now) h, omega (arith, is_short _ _ c.args.own.now.uses.now (length c.args.sizes.now) _ (length c.args.uses.now) (length c.args.lens.now) h c.args.wire.now.named))
 
 pub returns-clause-value : goal.returns-clause-value
 returns-clause-value c = rw add-one (fine_answer _ _ (fine (goal.at.returns-clause-value c).In_ok-judge_wire))

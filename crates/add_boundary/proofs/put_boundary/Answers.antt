@@ -7,4 +7,4 @@ use Rattle.add_boundary.proofs.put_boundary.Goals as goal
 
 pub returns : goal.returns
 returns c = let args = c.args in
-    sets_then args.out.now 0 args.own.now (stored_as args.reversed args.wire.now) (length args.own.now) (omega arith) c.copy_u16s.ensures c.put_stored.ensures
+    sets_then args.out.now 0 args.own.now (stored_as args.reversed args.wire.now) (length args.own.now) (omega arith) c.copy_to.ensures c.put_stored.ensures

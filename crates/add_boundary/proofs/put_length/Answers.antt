@@ -8,4 +8,4 @@ use Rattle.add_boundary.proofs.put_length.Goals as goal
 
 pub returns : goal.returns
 returns c = let args = c.args in
-    sets_then args.out.now 0 args.sizes.now (args.n ∷ []) (length args.sizes.now) (omega arith) c.copy_u16s.ensures refl
+    sets_then args.out.now 0 args.sizes.now (args.n ∷ []) (length args.sizes.now) (omega arith) c.copy_to.ensures refl

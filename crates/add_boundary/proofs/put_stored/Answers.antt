@@ -8,4 +8,4 @@ returns-then-reversed c = let args = c.args in
 
 pub returns-else-reversed : goal.returns-else-reversed
 returns-else-reversed c = let args = c.args in
-    stored_along _ args.out.now _ args.wire.now args.at c.if-reversed.false c.copy_u16s.ensures
+    stored_along _ args.out.now _ args.wire.now args.at c.if-reversed.false c.copy_to.ensures

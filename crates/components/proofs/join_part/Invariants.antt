@@ -1,4 +1,5 @@
 -- After i turns the edges of the first i uses are joined with the member.
+use mathlib.Core.Path.{◌≡◌}
 use mathlib.Core.List.{map}
 use lib.ListN.{length, replicate}
 use Rattle.edge.specs.Uses.{edge_number}
@@ -6,4 +7,4 @@ use Rattle.groups.proofs.All.{Joins}
 use Rattle.components.proofs.join_part.Given as goal
 
 abbrev pub invariant-loop-u : goal.invariant-loop-u
-invariant-loop-u l = Joins l.n (map edge_number l.part) (replicate (length l.part) l.member) l.initial.parents l.initial.sizes l.parents l.sizes l.u-index
+invariant-loop-u l = Joins l.initial.groups.count (map edge_number l.part) (replicate (length l.part) l.member) l.initial.groups.parents l.initial.groups.sizes l.groups.parents l.groups.sizes l.u-index × (l.groups.count ≡ l.initial.groups.count)

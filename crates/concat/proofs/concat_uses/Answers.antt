@@ -18,14 +18,14 @@ returns-then-i-edges c = let good : Fine (held c.args.t.now c.args.spans.now) = 
     let counted : length (content (held c.args.t.now c.args.spans.now)).edges ≡ get_or c.counts_in-counts.result 1 0 = let p = held c.args.t.now c.args.spans.now in
     edges_counted p (good).limits (good).full ∙ sym (ap (λ (ns : List ℕ). get_or ns 1 0) c.counts_in-counts.ensures) in
     let a = c.args in
-    first_unnamed (content (held a.t.now a.spans.now)) a.u a.v _ (counted) (omega (arith, c.if-i-edges.true, c.index-i.ensures.0))
+    first_unnamed (content (held a.t.now a.spans.now)) a.u a.v _ (counted) (omega (arith, c.if-i-edges.true, c.from-i.ensures))
 
 pub returns-then-j-edges : goal.returns-then-j-edges
 returns-then-j-edges c = let good : Fine (held c.args.t.now c.args.spans.now) = held_fine c.args.t.now c.args.spans.now c.tables_known-edges.ensures c.requires in
     let counted : length (content (held c.args.t.now c.args.spans.now)).edges ≡ get_or c.counts_in-counts.result 1 0 = let p = held c.args.t.now c.args.spans.now in
     edges_counted p (good).limits (good).full ∙ sym (ap (λ (ns : List ℕ). get_or ns 1 0) c.counts_in-counts.ensures) in
     let a = c.args in
-    second_unnamed (content (held a.t.now a.spans.now)) a.u a.v _ (counted) (omega (arith, c.if-j-edges.true, c.index-j.ensures.0))
+    second_unnamed (content (held a.t.now a.spans.now)) a.u a.v _ (counted) (omega (arith, c.if-j-edges.true, c.from-j.ensures))
 
 pub edge_in-requires : goal.edge_in-requires
 edge_in-requires c = let good : Fine (held c.args.t.now c.args.spans.now) = held_fine c.args.t.now c.args.spans.now c.tables_known-edges.ensures c.requires in
@@ -45,9 +45,9 @@ returns c = let good : Fine (held c.args.t.now c.args.spans.now) = held_fine c.a
     let s = good in
     let n = get_or (count_table t) 1 0 in
     let count : get_or c.counts_in-counts.result 1 0 ≡ n = ap (λ (ns : List ℕ). get_or ns 1 0) c.counts_in-counts.ensures in
-    let i : edge_number a.u < n = omega (arith, count, c.index-i.ensures.0, c.if-i-edges.false) in
-    let j : edge_number a.v < n = omega (arith, count, c.index-j.ensures.0, c.if-j-edges.false) in
+    let i : edge_number a.u < n = omega (arith, count, c.from-i.ensures, c.if-i-edges.false) in
+    let j : edge_number a.v < n = omega (arith, count, c.from-j.ensures, c.if-j-edges.false) in
     concat_judged (content (held t spans)) a.u a.v n
-    (c.edge_in.ensures ∙ held_edge_of t spans s a.u _ c.index-i.ensures.0 i)
-    (c.edge_in-2.ensures ∙ held_edge_of t spans s a.v _ c.index-j.ensures.0 j)
+    (c.edge_in.ensures ∙ held_edge_of t spans s a.u _ c.from-i.ensures i)
+    (c.edge_in-2.ensures ∙ held_edge_of t spans s a.v _ c.from-j.ensures j)
     (edges_counted (held t spans) s.limits s.full) i j (rw count at c.judge_concat.ensures)

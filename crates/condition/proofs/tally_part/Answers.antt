@@ -1,6 +1,6 @@
 use Rattle.std.proofs.Common.{◌≡◌, ◌+◌, ◌*◌, ◌/◌, length, arith, get_or-drop, ◌∙◌, ap, sym}
 use Rattle.condition.specs.Tallies.{inserted_all}
-use Rattle.condition.proofs.Loops.{four_below, four_is, four_long, inserting_end, inserting_four, inserting_one, inserting_start}
+use Rattle.condition.proofs.Loops.{four_below, four_is, inserting_end, inserting_four, inserting_one, inserting_start}
 use Rattle.condition.proofs.tally_part.Goals as goal
 
 pub loop-four-init : goal.loop-four-init
@@ -9,7 +9,7 @@ loop-four-init c = inserting_start _ _
 pub insert_four-t-requires : goal.insert_four-t-requires
 insert_four-t-requires c =
     let fours = c.as_chunks.ensures in
-    (omega (arith, four_long _ _ _ fours.front fours.front_len c.loop-four-test.true), four_below _ _ _ fours.front fours.front_len c.loop-four-test.true c.requires)
+    four_below _ _ _ fours.front fours.front_len c.loop-four-test.true c.requires
 
 pub loop-four-preserved : goal.loop-four-preserved
 loop-four-preserved c =

@@ -22,13 +22,13 @@ point_of-requires c = let pre = c.requires in
 
 pub overflow_add-at : goal.overflow_add-at
 overflow_add-at c = let pre = c.requires in
-    omega (arith, walk_fits _ _ _ _ c.loop-k.invariant.0 (omega arith) c.index-at.ensures.0, pre.0.summed, pre.1.few)
+    omega (arith, walk_fits _ _ _ _ c.loop-k.invariant.0 (omega arith) c.from-at.ensures, pre.0.summed, pre.1.few)
 
 pub loop-k-preserved : goal.loop-k-preserved
 loop-k-preserved c = let loop = c.loop-k in
     let long = length_split c.args.lens.now c.args.uses.now in
-    let first = ap (front_of c.args.fronts.now c.args.backs.now) (first_use_lem _ _ c.requires.0 _ _ loop.invariant.0 (omega arith)) in
-    (walk_next _ _ _ _ loop.invariant.0 (omega arith) c.index-at.ensures.0, writing_next _ _ _ _ _ _ loop.invariant.1 _ (omega (arith, long)) (c.point_of.ensures ∙ first))
+    let first = ap (front_of c.args.ends.now.fronts.now c.args.ends.now.backs.now) (first_use_lem _ _ c.requires.0 _ _ loop.invariant.0 (omega arith)) in
+    (walk_next _ _ _ _ loop.invariant.0 (omega arith) c.from-at.ensures, writing_next _ _ _ _ _ _ loop.invariant.1 _ (omega (arith, long)) (c.point_of.ensures ∙ first))
 
 pub returns : goal.returns
 returns c = let args = c.args in

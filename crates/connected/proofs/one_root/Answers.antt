@@ -22,13 +22,13 @@ pub returns-then-uses-eq0 : goal.returns-then-uses-eq0
 returns-then-uses-eq0 c = roots_none _ _ c.args.uses.now c.if-uses-eq0.true
 
 pub root_of-root-requires : goal.root_of-root-requires
-root_of-root-requires c = c.requires 0 (omega arith)
+root_of-root-requires c = (c.requires.each 0 (omega arith), c.requires.starts 0 (omega arith))
 
 pub loop-u-init : goal.loop-u-init
 loop-u-init c = roots_start _ _ _ (omega arith) c.root_of-root.ensures
 
 pub root_of-requires : goal.root_of-requires
-root_of-requires c = let h = here (goal.at.root_of-requires c).In-loop-u in rw h.1 (c.requires _ h.0)
+root_of-requires c = let h = here (goal.at.root_of-requires c).In-loop-u in rw h.1 (c.requires.each _ h.0, c.requires.starts _ h.0)
 
 pub returns-then-root_of-root : goal.returns-then-root_of-root
 returns-then-root_of-root c = let h = here (goal.at.returns-then-root_of-root c).In-loop-u in roots_stop _ _ _ c.loop-u.invariant h.0 (rw h.1 at c.root_of.ensures) c.if-root_of-root.true

@@ -5,4 +5,4 @@ use Rattle.connected.proofs.Loops.{Rooting}
 use Rattle.connected.proofs.one_root.Given as goal
 
 abbrev pub invariant-loop-u : goal.invariant-loop-u
-invariant-loop-u l = Rooting (front_of l.fronts l.backs) l.parents l.uses l.root (l.u-index + 1)
+invariant-loop-u l = Rooting (front_of l.ends.fronts.now l.ends.backs.now) l.groups.parents l.uses l.root (l.u-index + 1)

@@ -4,4 +4,4 @@ use Rattle.edge.specs.Uses.{front_of}
 use Rattle.cut_edge_faults.proofs.meets_vertex.Given as goal
 
 abbrev pub invariant-loop-k : goal.invariant-loop-k
-invariant-loop-k l = Seeking l.flags (front_of l.fronts l.backs) l.v.0 l.lens l.uses l.at l.k
+invariant-loop-k l = Seeking l.flags (front_of l.wires.ends.fronts.now l.wires.ends.backs.now) l.v.0 l.lens l.wires.uses.now l.at l.k

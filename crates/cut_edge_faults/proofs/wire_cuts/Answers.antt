@@ -1,17 +1,14 @@
--- One if a use is found.
+-- One if it is flagged and a use is found.
+use mathlib.Core.Bool.{false}
 use mathlib.Core.List.{map}
-use Rattle.cut_edge_faults.proofs.Flags.{cuts_at, cuts_nothing, cuts_off}
+use Rattle.cut_edge_faults.proofs.Flags.{found_has, one_if}
 use Rattle.edge.specs.Uses.{edge_number}
 use Rattle.lists.specs.Lists.{has}
-use mathlib.Core.Path.{ap}
-use mathlib.Core.Bool.{not}
 use Rattle.cut_edge_faults.proofs.wire_cuts.Goals as goal
+use Rattle.cut_edge_faults.proofs.wire_cuts.Goals.{then-flag, else-flag}
 
-pub returns-then-not-flag : goal.returns-then-not-flag
-returns-then-not-flag c = let args = c.args in cuts_off args.flag (has args.e.0 (map edge_number args.uses.now)) (ap not c.if-not-flag.true)
-
-pub returns-in-Some : goal.returns-in-Some
-returns-in-Some c = cuts_at c.args.flag _ _ (ap not c.if-not-flag.false) c.find_use.ensures c.in-Some.is
-
-pub returns-in-None : goal.returns-in-None
-returns-in-None c = cuts_nothing c.args.flag _ _ (ap not c.if-not-flag.false) c.find_use.ensures c.in-None.is
+pub returns : goal.returns
+returns c = elim c.if-flag.branch [
+  | then-flag w ↦ rw (c.from.ensures, w.from-is, w.is_some.ensures, w.find_use.ensures, found_has 0 c.args.e.0 c.args.uses.now, w.if-flag.true) (one_if (has c.args.e.0 (map edge_number c.args.uses.now)))
+  | else-flag w ↦ rw (c.from.ensures, w.from-is, w.if-flag.false) (one_if false)
+]

@@ -8,4 +8,4 @@ use Rattle.wire.specs.Wires.{points}
 use Rattle.cut_edge_faults.proofs.wire_meets.Given as goal
 
 abbrev pub invariant-loop-u : goal.invariant-loop-u
-invariant-loop-u l = has l.p (points l.fronts l.backs l.uses) ≡ has l.p (map (front_of l.fronts l.backs) (drop l.u-index l.uses))
+invariant-loop-u l = has l.p (points l.wire.ends.fronts.now l.wire.ends.backs.now l.wire.uses.now) ≡ has l.p (map (front_of l.wire.ends.fronts.now l.wire.ends.backs.now) (drop l.u-index l.wire.uses.now))

@@ -1,22 +1,25 @@
 -- Each refusal in its turn; then the outline is cut.
-use Prim.Native.Nat.{◌≤◌, ◌<◌}
+use Prim.Native.Nat.{◌<◌}
 use mathlib.Core.Bool.{true}
+use mathlib.Core.List.{[]}
 use mathlib.Core.Path.{◌∙◌, ◌≡◌, sym}
 use native.Mathlib.Omega.{arith}
 use lib.ListN.{get_or}
 use Rattle.cut_face.proofs.Top.{cut_asks, cut_owed, not_one, unnamed}
 use Rattle.errors.proofs.Laws.{accepted_none, handed_on}
-use Rattle.face_edits.specs.FaceEdits.{backs_in, fronts_in, name_edges}
-use Rattle.face_parts.proofs.Facts.{Stands, all_named, backs_lent, face_missing, fronts_lent, part_asked, part_stands, uses_missing}
+use Rattle.face_edits.specs.FaceEdits.{name_edges}
+use Rattle.face_parts.proofs.Facts.{Stands, all_named, edges_lent, face_missing, faces_lent, its_number, stands, uses_missing}
 use Rattle.face_parts.proofs.Owed.{handed_by, unread_owed}
 use Rattle.pattern.specs.Checks.{pattern_faults}
 use Rattle.pattern.specs.Contents.{content}
 use Rattle.shell.specs.Shells.{face_number}
 use Rattle.shell_wires.proofs.Facts.{Fine}
-use Rattle.shell_wires.proofs.Held.{held_fine}
-use Rattle.store.specs.Store.{count_table, held, use_table, wire_table}
+use Rattle.shell_wires.proofs.Held.{held_counts, held_fine, held_lent}
+use Rattle.shell_wires.proofs.Made.{faces_few, faces_summed_lem, wires_few, wires_summed_lem}
+use Rattle.shell_wires.specs.Lent.{Lent}
+use Rattle.store.specs.Store.{count_table, held}
 use Rattle.cut_face.proofs.cut_by_wire.Goals as goal
-use Rattle.cut_face.proofs.cut_by_wire.Goals.{After-face_part-part, After-first_backs, After-first_fronts, Else-face-counts, Else-not-are_uses, In_ok-check}
+use Rattle.cut_face.proofs.cut_by_wire.Goals.{After-face_wires-part, After-lists_in-lists, Else-face-lists, Else-not-are_uses, In_ok-check}
 
 pair : {A B : Type 0} → A → B → A × B
 pair a b = (a, b)
@@ -26,86 +29,94 @@ split3 : {A B C R : Type 0} → (A → B → C → R) → A × (B × C) → R
 split3 f p = f p.0 p.1.0 p.1.1
 
 -- the checks found no fault
-good : (c : In_ok-check) → Fine (held c.args.t.now c.args.spans.now)
-good c =
-    held_fine c.args.t.now c.args.spans.now c.tables_known.ensures (accepted_none (pattern_faults _) (sym c.check.ensures ∙ c.in_ok-check.was))
+no_faults : (c : In_ok-check) → pattern_faults (held c.args.t.now c.args.spans.now) ≡ []
+no_faults c = accepted_none (pattern_faults _) (sym c.check.ensures ∙ c.in_ok-check.was)
+
+good : (c : In_ok-check) → pattern_faults (held c.args.t.now c.args.spans.now) ≡ [] → Fine (held c.args.t.now c.args.spans.now)
+good c ok = held_fine c.args.t.now c.args.spans.now c.tables_known.ensures ok
+
+-- the lists are those of the pattern
+lent : (c : After-lists_in-lists) → pattern_faults (held c.args.t.now c.args.spans.now) ≡ [] → Lent (held c.args.t.now c.args.spans.now) c.lists_in-lists.result
+lent c ok = let e = c.lists_in-lists.ensures in
+    held_lent c.args.t.now c.args.spans.now c.tables_known.ensures ok e.ends e.uses e.wires e.faces e.shells e.listings
 
 -- the face is one of the pattern's
-here : (c : Else-face-counts) → face_number c.args.f < get_or (count_table c.args.t.now) 4 0
-here c =
-    let h : face_number c.args.f < get_or c.counts_in-counts.result 4 0 = omega (arith, c.if-face-counts.false, c.index-face.ensures.0) in
-    rw c.counts_in-counts.ensures at h
+here : (c : Else-face-lists) → Lent (held c.args.t.now c.args.spans.now) c.lists_in-lists.result → Fine (held c.args.t.now c.args.spans.now) → face_number c.args.f < get_or (count_table c.args.t.now) 4 0
+here c l s = omega (arith, c.if-face-lists.false, c.from-face.ensures, faces_lent _ s l)
 
 -- the uses name edges
-named : (c : Else-not-are_uses) → name_edges c.args.wire.now (get_or (count_table c.args.t.now) 1 0) ≡ true
-named c =
-    rw c.counts_in-counts.ensures at (sym c.are_uses.ensures ∙ c.if-not-are_uses.false)
+named : (c : Else-not-are_uses) → Lent (held c.args.t.now c.args.spans.now) c.lists_in-lists.result → Fine (held c.args.t.now c.args.spans.now) → name_edges c.args.wire.now (get_or (count_table c.args.t.now) 1 0) ≡ true
+named c l s = rw (edges_lent _ s l) at (sym c.are_uses.ensures ∙ c.if-not-are_uses.false)
 
-part_there : (c : After-face_part-part) → Stands (content (held c.args.t.now c.args.spans.now)) c.args.f (use_table c.args.t.now) (wire_table c.args.t.now) c.face_part-part.result
-part_there c =
-    let good : Fine (held c.args.t.now c.args.spans.now) = held_fine c.args.t.now c.args.spans.now c.tables_known.ensures (accepted_none (pattern_faults _) (sym c.check.ensures ∙ c.in_ok-check.was)) in
-    let here : face_number c.args.f < get_or (count_table c.args.t.now) 4 0 = let h : face_number c.args.f < get_or c.counts_in-counts.result 4 0 = omega (arith, c.if-face-counts.false, c.index-face.ensures.0) in
-    rw c.counts_in-counts.ensures at h in
-    part_stands c.args.t.now c.args.spans.now c.tables_known.ensures good c.args.f here _ c.index-face.ensures.0 _ c.face_part-part.ensures
-
--- the ends of the edges are lent
-fronts_there : (c : After-first_fronts) → c.first_fronts.result.now ≡ fronts_in (content (held c.args.t.now c.args.spans.now))
-fronts_there c =
-    let good : Fine (held c.args.t.now c.args.spans.now) = held_fine c.args.t.now c.args.spans.now c.tables_known.ensures (accepted_none (pattern_faults _) (sym c.check.ensures ∙ c.in_ok-check.was)) in
-    fronts_lent c.args.t.now c.args.spans.now c.tables_known.ensures good _ (rw c.counts_in-counts.ensures at c.first_fronts.ensures)
-
-backs_there : (c : After-first_backs) → c.first_backs.result.now ≡ backs_in (content (held c.args.t.now c.args.spans.now))
-backs_there c =
-    let good : Fine (held c.args.t.now c.args.spans.now) = held_fine c.args.t.now c.args.spans.now c.tables_known.ensures (accepted_none (pattern_faults _) (sym c.check.ensures ∙ c.in_ok-check.was)) in
-    backs_lent c.args.t.now c.args.spans.now c.tables_known.ensures good _ (rw c.counts_in-counts.ensures at c.first_backs.ensures)
+-- the face's wires
+there : (c : After-face_wires-part) → Lent (held c.args.t.now c.args.spans.now) c.lists_in-lists.result → Fine (held c.args.t.now c.args.spans.now) → face_number c.args.f < get_or (count_table c.args.t.now) 4 0
+    → Stands (content (held c.args.t.now c.args.spans.now)) c.args.f c.face_wires-part.result.uses.now c.face_wires-part.result.lengths.now
+there c l s face = stands _ s c.args.f face l _ _ (rw c.from-face.ensures at c.face_wires-part.ensures.uses) (rw c.from-face.ensures at c.face_wires-part.ensures.lengths)
 
 pub returns-in_err-check : goal.returns-in_err-check
 returns-in_err-check c =
     split3 (λ x y z. record { value = x; uses_after = y; lens_after = z }) (unread_owed _ _ _ _ _ _ (sym c.check.ensures ∙ c.in_err-check.was) _ (handed_on _ _ c.from_residual.ensures.1))
 
-pub returns-then-face-counts : goal.returns-then-face-counts
-returns-then-face-counts c =
-    let h : get_or c.counts_in-counts.result 4 0 ≤ face_number c.args.f = omega (arith, c.if-face-counts.true, c.index-face.ensures.0) in
-    split3 (λ x y z. record { value = x; uses_after = y; lens_after = z }) (unnamed _ _ _ _ _ (good (goal.at.returns-then-face-counts c).In_ok-check).ok (face_missing _ (good (goal.at.returns-then-face-counts c).In_ok-check) _ _ (rw c.counts_in-counts.ensures at h)))
+pub lists_in-lists-requires : goal.lists_in-lists-requires
+lists_in-lists-requires c = held_counts c.args.t.now c.args.spans.now c.tables_known.ensures (no_faults (goal.at.lists_in-lists-requires c).In_ok-check)
+
+pub returns-then-face-lists : goal.returns-then-face-lists
+returns-then-face-lists c = let at = goal.at.returns-then-face-lists c in
+    let ok = no_faults at.In_ok-check in
+    let s = good at.In_ok-check ok in
+    let l = lent at.After-lists_in-lists ok in
+    split3 (λ x y z. record { value = x; uses_after = y; lens_after = z }) (unnamed _ _ _ _ _ ok (face_missing _ s c.args.f c.args.wire.now (omega (arith, c.if-face-lists.true, c.from-face.ensures, faces_lent _ s l))))
 
 pub returns-then-not-are_uses : goal.returns-then-not-are_uses
-returns-then-not-are_uses c =
-    split3 (λ x y z. record { value = x; uses_after = y; lens_after = z }) (unnamed _ _ _ _ _ (good (goal.at.returns-then-not-are_uses c).In_ok-check).ok (uses_missing _ (good (goal.at.returns-then-not-are_uses c).In_ok-check) _ _ (here (goal.at.returns-then-not-are_uses c).Else-face-counts) (rw c.counts_in-counts.ensures at (sym c.are_uses.ensures ∙ c.if-not-are_uses.true))))
+returns-then-not-are_uses c = let at = goal.at.returns-then-not-are_uses c in
+    let ok = no_faults at.In_ok-check in
+    let s = good at.In_ok-check ok in
+    let l = lent at.After-lists_in-lists ok in
+    split3 (λ x y z. record { value = x; uses_after = y; lens_after = z }) (unnamed _ _ _ _ _ ok (uses_missing _ s c.args.f c.args.wire.now (here at.Else-face-lists l s) (rw (edges_lent _ s l) at (sym c.are_uses.ensures ∙ c.if-not-are_uses.true))))
 
-pub face_part-part-requires : goal.face_part-part-requires
-face_part-part-requires c =
-    part_asked c.args.t.now c.args.spans.now c.tables_known.ensures (good (goal.at.face_part-part-requires c).In_ok-check) c.args.f (here (goal.at.face_part-part-requires c).Else-face-counts) _ c.index-face.ensures.0
+pub face_wires-part-requires-clause-f_in_bounds : goal.face_wires-part-requires-clause-f_in_bounds
+face_wires-part-requires-clause-f_in_bounds c = omega (arith, c.if-face-lists.false)
+
+pub face_wires-part-requires-clause-few : goal.face_wires-part-requires-clause-few
+face_wires-part-requires-clause-few c = let at = goal.at.face_wires-part-requires-clause-few c in
+    let l = lent at.After-lists_in-lists (no_faults at.In_ok-check) in
+    (faces_few _ l, wires_few _ l)
+
+pub face_wires-part-requires-clause-sums : goal.face_wires-part-requires-clause-sums
+face_wires-part-requires-clause-sums c = let at = goal.at.face_wires-part-requires-clause-sums c in
+    let l = lent at.After-lists_in-lists (no_faults at.In_ok-check) in
+    (faces_summed_lem _ l, wires_summed_lem _ l)
 
 pub returns-then-part-ne1 : goal.returns-then-part-ne1
-returns-then-part-ne1 c =
-    let s = (good (goal.at.returns-then-part-ne1 c).In_ok-check) in
-    split3 (λ x y z. record { value = x; uses_after = y; lens_after = z }) (not_one _ _ _ _ _ s.ok (all_named _ s _ _ (here (goal.at.returns-then-part-ne1 c).Else-face-counts) (named (goal.at.returns-then-part-ne1 c).Else-not-are_uses)) (λ e. c.if-part-ne1.true ((part_there (goal.at.returns-then-part-ne1 c).After-face_part-part).its_number ∙ e)))
+returns-then-part-ne1 c = let at = goal.at.returns-then-part-ne1 c in
+    let ok = no_faults at.In_ok-check in
+    let s = good at.In_ok-check ok in
+    let l = lent at.After-lists_in-lists ok in
+    let face = here at.Else-face-lists l s in
+    let its = there at.After-face_wires-part l s face in
+    split3 (λ x y z. record { value = x; uses_after = y; lens_after = z }) (not_one _ _ _ _ _ ok (all_named _ s c.args.f c.args.wire.now face (named at.Else-not-are_uses l s)) (λ e. c.if-part-ne1.true (its_number _ _ _ _ its ∙ e)))
 
-pub uses_of-requires : goal.uses_of-requires
-uses_of-requires c =
-    (part_there (goal.at.uses_of-requires c).After-face_part-part).uses_fit
-
-pub first_fronts-requires : goal.first_fronts-requires
-first_fronts-requires c =
-    rw c.counts_in-counts.ensures (good (goal.at.first_fronts-requires c).In_ok-check).limits.edges
-
-pub first_backs-requires : goal.first_backs-requires
-first_backs-requires c =
-    rw c.counts_in-counts.ensures (good (goal.at.first_backs-requires c).In_ok-check).limits.edges
+pub invariant_of-cut : goal.invariant_of-cut
+invariant_of-cut c = let at = goal.at.invariant_of-cut c in
+    let ok = no_faults at.In_ok-check in
+    let s = good at.In_ok-check ok in
+    let l = lent at.After-lists_in-lists ok in
+    let face = here at.Else-face-lists l s in
+    let its = there at.After-face_wires-part l s face in
+    let p = cut_asks _ s c.args.f c.args.wire.now face (named at.Else-not-are_uses l s) in
+    record {
+      few = rw its.its_uses p.0;
+      point_ends = rw (l.fronts_are, l.backs_are) p.1.0;
+      outline_edges = rw (l.fronts_are, its.its_uses) p.1.1.0;
+      wire_edges = rw l.fronts_are p.1.1.1;
+    }
 
 pub returns : goal.returns
-returns c =
-    let s = (good (goal.at.returns c).In_ok-check) in
-    let at = (part_there (goal.at.returns c).After-face_part-part) in
-    let args = c.args in
-    split3 (λ x y z. record { value = x; uses_after = y; lens_after = z }) (cut_owed _ _ _ args.uses.now args.lens.now s.ok (all_named _ s _ _ (here (goal.at.returns c).Else-face-counts) (named (goal.at.returns c).Else-not-are_uses)) (sym at.its_number ∙ c.if-part-ne1.false) _ _ _ _ _ _ (fronts_there (goal.at.returns c).After-first_fronts) (backs_there (goal.at.returns c).After-first_backs) (c.uses_of.ensures ∙ at.its_uses) (pair c.cut_outline.ensures.value (pair c.cut_outline.ensures.uses_after c.cut_outline.ensures.lens_after)) _ (handed_by _ _ c.map_err.ensures.cases))
-
-pub cut_outline-requires : goal.cut_outline-requires
-cut_outline-requires c =
-    let p = cut_asks _ (good (goal.at.cut_outline-requires c).In_ok-check) _ _ (here (goal.at.cut_outline-requires c).Else-face-counts) (named (goal.at.cut_outline-requires c).Else-not-are_uses) in
-    record {
-      outline_len_bound = rw (c.uses_of.ensures, (part_there (goal.at.cut_outline-requires c).After-face_part-part).its_uses) p.0;
-      point_ends = rw ((fronts_there (goal.at.cut_outline-requires c).After-first_fronts), (backs_there (goal.at.cut_outline-requires c).After-first_backs)) p.1.0;
-      edges_below = rw ((fronts_there (goal.at.cut_outline-requires c).After-first_fronts), c.uses_of.ensures, (part_there (goal.at.cut_outline-requires c).After-face_part-part).its_uses) p.1.1.0;
-      edges_below_2 = rw (fronts_there (goal.at.cut_outline-requires c).After-first_fronts) p.1.1.1;
-    }
+returns c = let at = goal.at.returns c in
+    let ok = no_faults at.In_ok-check in
+    let s = good at.In_ok-check ok in
+    let l = lent at.After-lists_in-lists ok in
+    let face = here at.Else-face-lists l s in
+    let its = there at.After-face_wires-part l s face in
+    split3 (λ x y z. record { value = x; uses_after = y; lens_after = z }) (cut_owed _ _ _ c.args.uses.now c.args.lens.now ok (all_named _ s c.args.f c.args.wire.now face (named at.Else-not-are_uses l s)) (sym (its_number _ _ _ _ its) ∙ c.if-part-ne1.false) _ _ _ _ _ _ l.fronts_are l.backs_are its.its_uses
+    (pair c.cut_outline.ensures.value (pair c.cut_outline.ensures.uses_after c.cut_outline.ensures.lens_after)) _ (handed_by _ _ c.map_err.ensures.cases))

@@ -7,7 +7,7 @@ use Rattle.cut_face_outline.proofs.Laws.{last_is}
 use Rattle.cut_face_outline.proofs.last_point.Goals as goal
 
 pub back-requires : goal.back-requires
-back-requires c = rw c.from_number-u.ensures (named_edge _ _ _ c.requires.named (length c.args.wire.now - 1) (omega (arith, c.requires.wire_nonzero)))
+back-requires c = rw c.from_number.ensures (named_edge _ _ _ c.args.wire.now.named (length c.args.wire.now.uses.now - 1) (omega (arith, c.requires)))
 
 pub returns : goal.returns
-returns c = last_is _ _ c.args.wire.now c.requires.wire_nonzero _ _ c.from_number-u.ensures c.back.ensures
+returns c = last_is _ _ c.args.wire.now.uses.now c.requires _ _ c.from_number.ensures c.back.ensures

@@ -1,19 +1,18 @@
--- Each wire by itself; the second with a new stamp.
-use mathlib.Core.Path.{◌∙◌, ap}
-use Rattle.lists.proofs.Marks.{below_zeros}
+-- Each wire by itself.
+use mathlib.Core.Path.{◌∙◌, ◌≡◌, ap, refl}
 use Rattle.std.specs.Prelude.{is_ok}
-use Rattle.cut_face_results.proofs.Few.{named_second, rule_first, rule_second}
+use Rattle.wire.specs.OfWire.{of_wire}
+use Rattle.cut_face_results.proofs.Few.{judged_rule}
+use Rattle.cut_face_results.specs.Results.{keeps}
 use Rattle.cut_face_results.proofs.keep_rule.Goals as goal
+use Rattle.cut_face_results.proofs.keep_rule.Goals.{After-is_ok}
 
-pub check_wire-requires-clause-below : goal.check_wire-requires-clause-below
-check_wire-requires-clause-below c = below_zeros 2048
-
-pub check_wire-requires-then-is_ok-clause-named : goal.check_wire-requires-then-is_ok-clause-named
-check_wire-requires-then-is_ok-clause-named c = named_second _ _ _ _ _ c.requires.n_le_all.0 c.requires.named
+first_is : (c : After-is_ok) → c.is_ok.result ≡ of_wire keeps c.args.first.now
+first_is c = c.is_ok.ensures.value ∙ ap is_ok c.check.ensures.value ∙ judged_rule _ _ c.args.first.now.uses.now
 
 pub returns-else-is_ok : goal.returns-else-is_ok
-returns-else-is_ok c = rule_first _ _ _ _ _ _ (c.is_ok.ensures.value ∙ ap is_ok c.check_wire.ensures.value) c.if-is_ok.false
+returns-else-is_ok c = rw (← first_is (goal.at.returns-else-is_ok c).After-is_ok, c.if-is_ok.false) refl
 
 pub returns-then-is_ok : goal.returns-then-is_ok
-returns-then-is_ok c =
-    rule_second _ _ _ _ _ _ (c.is_ok.ensures.value ∙ ap is_ok c.check_wire.ensures.value) c.if-is_ok.true _ (c.is_ok-then-is_ok.ensures.value ∙ ap is_ok c.check_wire-then-is_ok.ensures.value)
+returns-then-is_ok c = rw (← first_is (goal.at.returns-then-is_ok c).After-is_ok, c.if-is_ok.true)
+    (c.is_ok-then-is_ok.ensures.value ∙ ap is_ok c.check-then-is_ok.ensures.value ∙ judged_rule _ _ c.args.second.now.uses.now)

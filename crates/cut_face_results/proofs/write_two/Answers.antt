@@ -4,38 +4,22 @@ use native.Mathlib.Omega.{arith}
 use Rattle.cut_face_results.proofs.Results.{two_broken, two_few, two_long, two_written}
 use Rattle.cut_face_results.proofs.write_two.Goals as goal
 
-pub returns-then-not-keep_rule-clause-value : goal.returns-then-not-keep_rule-clause-value
-returns-then-not-keep_rule-clause-value c = let p = two_broken c.args.fronts.now c.args.backs.now c.args.both.now c.args.uses.now c.args.lens.now c.args.n c.args.all c.requires.n_le_all.0 c.requires.n_le_all.1 (sym (c.if-not-keep_rule.true) ∙ c.keep_rule.ensures) in p.0
+-- a record from the pairs that a law gives
+split3 : {A B C R : Type 0} → (A → B → C → R) → A × (B × C) → R
+split3 f p = f p.0 p.1.0 p.1.1
 
-pub returns-then-not-keep_rule-clause-uses_after : goal.returns-then-not-keep_rule-clause-uses_after
-returns-then-not-keep_rule-clause-uses_after c = let p = two_broken c.args.fronts.now c.args.backs.now c.args.both.now c.args.uses.now c.args.lens.now c.args.n c.args.all c.requires.n_le_all.0 c.requires.n_le_all.1 (sym (c.if-not-keep_rule.true) ∙ c.keep_rule.ensures) in p.1.0
+pub returns-then-not-keep_rule : goal.returns-then-not-keep_rule
+returns-then-not-keep_rule c = let w = c.args.first.now in
+    split3 (λ x y z. record { value = x; uses_after = y; lens_after = z }) (two_broken w.ends.fronts.now w.ends.backs.now w.uses.now c.args.second.now.uses.now c.args.uses.now c.args.lens.now (rw c.requires.same_ends at (sym c.if-not-keep_rule.true ∙ c.keep_rule.ensures)))
 
-pub returns-then-not-keep_rule-clause-lens_after : goal.returns-then-not-keep_rule-clause-lens_after
-returns-then-not-keep_rule-clause-lens_after c = let p = two_broken c.args.fronts.now c.args.backs.now c.args.both.now c.args.uses.now c.args.lens.now c.args.n c.args.all c.requires.n_le_all.0 c.requires.n_le_all.1 (sym (c.if-not-keep_rule.true) ∙ c.keep_rule.ensures) in p.1.1
+pub returns-then-uses-n : goal.returns-then-uses-n
+returns-then-uses-n c = let w = c.args.first.now in
+    split3 (λ x y z. record { value = x; uses_after = y; lens_after = z }) (two_long w.ends.fronts.now w.ends.backs.now w.uses.now c.args.second.now.uses.now c.args.uses.now c.args.lens.now (rw c.requires.same_ends at (sym c.if-not-keep_rule.false ∙ c.keep_rule.ensures)) c.if-uses-n.true)
 
-pub returns-then-uses-all-clause-value : goal.returns-then-uses-all-clause-value
-returns-then-uses-all-clause-value c = let p = two_long c.args.fronts.now c.args.backs.now c.args.both.now c.args.uses.now c.args.lens.now c.args.n c.args.all c.requires.n_le_all.0 c.requires.n_le_all.1 (sym (c.if-not-keep_rule.false) ∙ c.keep_rule.ensures) c.if-uses-all.true in p.0
+pub returns-then-lens-lt2 : goal.returns-then-lens-lt2
+returns-then-lens-lt2 c = let w = c.args.first.now in
+    split3 (λ x y z. record { value = x; uses_after = y; lens_after = z }) (two_few w.ends.fronts.now w.ends.backs.now w.uses.now c.args.second.now.uses.now c.args.uses.now c.args.lens.now (rw c.requires.same_ends at (sym c.if-not-keep_rule.false ∙ c.keep_rule.ensures)) (omega arith) c.if-lens-lt2.true)
 
-pub returns-then-uses-all-clause-uses_after : goal.returns-then-uses-all-clause-uses_after
-returns-then-uses-all-clause-uses_after c = let p = two_long c.args.fronts.now c.args.backs.now c.args.both.now c.args.uses.now c.args.lens.now c.args.n c.args.all c.requires.n_le_all.0 c.requires.n_le_all.1 (sym (c.if-not-keep_rule.false) ∙ c.keep_rule.ensures) c.if-uses-all.true in p.1.0
-
-pub returns-then-uses-all-clause-lens_after : goal.returns-then-uses-all-clause-lens_after
-returns-then-uses-all-clause-lens_after c = let p = two_long c.args.fronts.now c.args.backs.now c.args.both.now c.args.uses.now c.args.lens.now c.args.n c.args.all c.requires.n_le_all.0 c.requires.n_le_all.1 (sym (c.if-not-keep_rule.false) ∙ c.keep_rule.ensures) c.if-uses-all.true in p.1.1
-
-pub returns-then-lens-lt2-clause-value : goal.returns-then-lens-lt2-clause-value
-returns-then-lens-lt2-clause-value c = let p = two_few c.args.fronts.now c.args.backs.now c.args.both.now c.args.uses.now c.args.lens.now c.args.n c.args.all c.requires.n_le_all.0 c.requires.n_le_all.1 (sym (c.if-not-keep_rule.false) ∙ c.keep_rule.ensures) (omega arith) c.if-lens-lt2.true in p.0
-
-pub returns-then-lens-lt2-clause-uses_after : goal.returns-then-lens-lt2-clause-uses_after
-returns-then-lens-lt2-clause-uses_after c = let p = two_few c.args.fronts.now c.args.backs.now c.args.both.now c.args.uses.now c.args.lens.now c.args.n c.args.all c.requires.n_le_all.0 c.requires.n_le_all.1 (sym (c.if-not-keep_rule.false) ∙ c.keep_rule.ensures) (omega arith) c.if-lens-lt2.true in p.1.0
-
-pub returns-then-lens-lt2-clause-lens_after : goal.returns-then-lens-lt2-clause-lens_after
-returns-then-lens-lt2-clause-lens_after c = let p = two_few c.args.fronts.now c.args.backs.now c.args.both.now c.args.uses.now c.args.lens.now c.args.n c.args.all c.requires.n_le_all.0 c.requires.n_le_all.1 (sym (c.if-not-keep_rule.false) ∙ c.keep_rule.ensures) (omega arith) c.if-lens-lt2.true in p.1.1
-
-pub returns-clause-value : goal.returns-clause-value
-returns-clause-value c = let p = two_written c.args.fronts.now c.args.backs.now c.args.both.now c.args.uses.now c.args.lens.now c.args.n c.args.all c.requires.n_le_all.0 c.requires.n_le_all.1 (sym (c.if-not-keep_rule.false) ∙ c.keep_rule.ensures) (omega arith) (omega arith) _ c.copy_u16s.ensures in p.0
-
-pub returns-clause-uses_after : goal.returns-clause-uses_after
-returns-clause-uses_after c = let p = two_written c.args.fronts.now c.args.backs.now c.args.both.now c.args.uses.now c.args.lens.now c.args.n c.args.all c.requires.n_le_all.0 c.requires.n_le_all.1 (sym (c.if-not-keep_rule.false) ∙ c.keep_rule.ensures) (omega arith) (omega arith) _ c.copy_u16s.ensures in p.1.0
-
-pub returns-clause-lens_after : goal.returns-clause-lens_after
-returns-clause-lens_after c = let p = two_written c.args.fronts.now c.args.backs.now c.args.both.now c.args.uses.now c.args.lens.now c.args.n c.args.all c.requires.n_le_all.0 c.requires.n_le_all.1 (sym (c.if-not-keep_rule.false) ∙ c.keep_rule.ensures) (omega arith) (omega arith) _ c.copy_u16s.ensures in p.1.1
+pub returns : goal.returns
+returns c = let w = c.args.first.now in
+    split3 (λ x y z. record { value = x; uses_after = y; lens_after = z }) (two_written w.ends.fronts.now w.ends.backs.now w.uses.now c.args.second.now.uses.now c.args.uses.now c.args.lens.now (rw c.requires.same_ends at (sym c.if-not-keep_rule.false ∙ c.keep_rule.ensures)) (omega arith) (omega arith) _ _ c.copy_to.ensures c.copy_to-2.ensures)

@@ -7,4 +7,4 @@ pub float_from_bits-bits : goal.float_from_bits-bits
 float_from_bits-bits c = rw (no_nan _ c.requires.0) tt
 
 pub returns : goal.returns
-returns c = c.whole_of.ensures ∙ scaled_is _ _ _ c.power.ensures
+returns c = c.saturating_f64_to_u64.ensures ∙ scaled_is _ _ _ c.power.ensures

@@ -26,14 +26,14 @@ returns-then-first-n c = none_behind _ _ _ c.point_of-point.ensures.0 (omega ari
 pub digits_after-requires : goal.digits_after-requires
 digits_after-requires c = let args = c.args in
     let point_of_lem = c.point_of-point in
-    let first = take (point_of_lem.result - 0) args.word.now in
-    omega (arith, ten_most (length first) (omega (arith, length-take (point_of_lem.result - 0) args.word.now)))
+    let first = take (point_of_lem.result) args.word.now in
+    omega (arith, ten_most (length first) (omega (arith, length-take (point_of_lem.result) args.word.now)))
 
 pub places_after-requires-2 : goal.places_after-requires-2
 places_after-requires-2 c = let args = c.args in
     let point_of_lem = c.point_of-point in
-    let m = token_bound tens 0 (take (point_of_lem.result - 0) args.word.now) _ (sym c.in_ok-m.was ∙ c.digits_after.ensures) in
-    (room_after _ (length (take (point_of_lem.result - 0) args.word.now)) (length (take (length args.word.now - (point_of_lem.result + 1)) (drop (point_of_lem.result + 1) args.word.now))) m (parts_short args.word.now point_of_lem.result (omega arith) (omega arith)), omega arith)
+    let m = token_bound tens 0 (take (point_of_lem.result) args.word.now) _ (sym c.in_ok-m.was ∙ c.digits_after.ensures) in
+    (room_after _ (length (take (point_of_lem.result) args.word.now)) (length (take (length args.word.now - (point_of_lem.result + 1)) (drop (point_of_lem.result + 1) args.word.now))) m (parts_short args.word.now point_of_lem.result (omega arith) (omega arith)), omega arith)
 
 pub returns-in_err-m : goal.returns-in_err-m
 returns-in_err-m c = c.from_residual.ensures ∙ (one_point_is _ _ _ c.point_of-point.ensures.0 (omega arith) c.if-point-eq0.false c.if-first-n.false (omega arith) _ (sym c.in_err-m.was ∙ c.digits_after.ensures))

@@ -6,6 +6,7 @@ use lib.ListN.{get_or, length}
 use Rattle.text.specs.Text.{words}
 use Rattle.draft_text.proofs.Lines.{Matching, Next, matching, next_none, next_same, read_comment, read_few, read_number, read_part, read_right, read_unknown}
 use borrow.Author.Rules.{rules}
+use borrow.Author.Tests.{not-false, not-true}
 use Rattle.draft_text.proofs.read_line.Goals as goal
 use Rattle.draft_text.proofs.read_line.Goals.{After-match_line-m, Joined-n-gt0, else-n-gt0, then-n-gt0+else-values-next}
 
@@ -57,9 +58,9 @@ pub overflow_add-result-then-n-needed : goal.overflow_add-result-then-n-needed
 overflow_add-result-then-n-needed c =
     let m = (matched (goal.at.overflow_add-result-then-n-needed c).After-match_line-m).few in search rules
 
-pub returns-then-not-all : goal.returns-then-not-all
-returns-then-not-all c =
-    split2 (λ x y. record { kind_value = x; read = y }) (read_part (matched (goal.at.returns-then-not-all c).After-match_line-m) _ c.in_default.not-Comment c.in_default-kind.not-Unknown (next (goal.at.returns-then-not-all c).Joined-n-gt0) (c.if-not-all.true))
+pub returns-then-not-m : goal.returns-then-not-m
+returns-then-not-m c =
+    split2 (λ x y. record { kind_value = x; read = y }) (read_part (matched (goal.at.returns-then-not-m c).After-match_line-m) _ c.in_default.not-Comment c.in_default-kind.not-Unknown (next (goal.at.returns-then-not-m c).Joined-n-gt0) (not-true _ c.if-not-m.true))
 
 pub returns-then-n-needed : goal.returns-then-n-needed
 returns-then-n-needed c =
@@ -67,4 +68,4 @@ returns-then-n-needed c =
 
 pub returns : goal.returns
 returns c =
-    split2 (λ x y. record { kind_value = x; read = y }) (read_right (matched (goal.at.returns c).After-match_line-m) _ c.in_default.not-Comment c.in_default-kind.not-Unknown (next (goal.at.returns c).Joined-n-gt0) (c.if-not-all.false) (rw (← c.needed.ensures) c.if-n-needed.false))
+    split2 (λ x y. record { kind_value = x; read = y }) (read_right (matched (goal.at.returns c).After-match_line-m) _ c.in_default.not-Comment c.in_default-kind.not-Unknown (next (goal.at.returns c).Joined-n-gt0) (not-false _ c.if-not-m.false) (rw (← c.needed.ensures) c.if-n-needed.false))

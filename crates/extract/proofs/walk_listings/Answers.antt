@@ -6,17 +6,17 @@ use Rattle.extract.proofs.walk_listings.Goals as goal
 pub loop-l-init : goal.loop-l-init
 loop-l-init c = passing_start _ _ _ _ _ _ _ _ _ c.requires.ready
 
-pub part_of-requires : goal.part_of-requires
-part_of-requires c = (c.requires.all_walk _ c.loop-l-test.true).shows
+pub part-requires : goal.part-requires
+part-requires c = (c.requires.all_walk _ c.loop-l-test.true).shows
 
 pub walk_part-w-requires-clause-named : goal.walk_part-w-requires-clause-named
-walk_part-w-requires-clause-named c = rw c.part_of.ensures (c.requires.all_walk _ c.loop-l-test.true).begins
+walk_part-w-requires-clause-named c = rw c.part.ensures (c.requires.all_walk _ c.loop-l-test.true).begins
 
 pub walk_part-w-requires-clause-ready : goal.walk_part-w-requires-clause-ready
 walk_part-w-requires-clause-ready c = c.loop-l.invariant.ready
 
 pub loop-l-preserved : goal.loop-l-preserved
-loop-l-preserved c = passing_next _ _ _ _ _ _ _ _ _ _ _ _ _ _ c.loop-l.invariant c.loop-l-test.true _ _ _ _ _ c.part_of.ensures c.walk_part-w.ensures.passed c.walk_part-w.ensures.ready_2
+loop-l-preserved c = passing_next _ _ _ _ _ _ _ _ _ _ _ _ _ _ c.loop-l.invariant c.loop-l-test.true _ _ _ _ _ c.part.ensures c.walk_part-w.ensures.passed c.walk_part-w.ensures.ready_2
 
 pub shape_of-kept : goal.shape_of-kept
 shape_of-kept c = c.loop-l.invariant.ready.points ∙ sym c.requires.ready.points

@@ -12,11 +12,11 @@ use Rattle.face.proofs.check_face.Goals as goal
 use Rattle.face.proofs.check_face.Goals.{In_ok-check_wires}
 
 -- no wire has a fault by itself
-fine : (c : In_ok-check_wires) → first (each (outline_faults c.args.fronts.now c.args.backs.now) c.args.first (split c.args.lengths.now c.args.uses.now)) ≡ Ok tt
+fine : (c : In_ok-check_wires) → first (each (outline_faults c.args.wires.now.ends.fronts.now c.args.wires.now.ends.backs.now) c.args.first (split c.args.lengths.now c.args.wires.now.uses.now)) ≡ Ok tt
 fine c = sym c.check_wires.ensures.value ∙ c.in_ok-check_wires.was
 
 pub returns-then-lengths-lt2-clause-value : goal.returns-then-lengths-lt2-clause-value
-returns-then-lengths-lt2-clause-value c = let few = length_split c.args.lengths.now c.args.uses.now in
+returns-then-lengths-lt2-clause-value c = let few = length_split c.args.lengths.now c.args.wires.now.uses.now in
     sym (passed_first _ _ (fine (goal.at.returns-then-lengths-lt2-clause-value c).In_ok-check_wires) ∙ ap first (one_alone _ _ _ _ (omega (arith, few, c.if-lengths-lt2.true))))
 
 pub disjoint_wires-requires-clause-uses_value : goal.disjoint_wires-requires-clause-uses_value

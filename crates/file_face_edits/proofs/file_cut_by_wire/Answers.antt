@@ -1,22 +1,18 @@
--- The contents table first; then the edit, which applies the reading checks.
-use mathlib.Core.Path.{◌∙◌, sym}
+use Rattle.std.proofs.Common.{rules}
+use mathlib.Core.List.{map}
+use mathlib.Core.Path.{◌∙◌, refl}
 use lib.ListN.{length}
-use Rattle.face_edits.specs.FaceEdits.{cut_face_faults, cut_in_two}
-use Rattle.pattern.specs.Contents.{Pattern, content}
-use Rattle.file_face_edits.proofs.Laws.{loaded_owed, refused_owed}
+use Rattle.answers.proofs.Read.{flat_none, list_on, value_on}
+use Rattle.face_edits.specs.FaceAnswers.{cut_face_answer, cut_face_out}
+use Rattle.lists.specs.Lists.{flat}
+use Rattle.pattern.specs.Contents.{Pattern}
 use Rattle.file_face_edits.proofs.file_cut_by_wire.Goals as goal
 
-pair : {A B : Type 0} → A → B → A × B
-pair a b = (a, b)
+pub returns-clause-value : goal.returns-clause-value
+returns-clause-value c = value_on c.args.file.now c.on_file.ensures (λ (p : Pattern). cut_face_answer p c.args.f c.args.wire.now (length c.args.uses.now) (length c.args.lens.now)) (λ p e es h. rw h) (λ t z r o k. search (◌∙◌) parts 12)
 
--- a record from the pairs that a law gives
-split3 : {A B C R : Type 0} → (A → B → C → R) → A × (B × C) → R
-split3 f p = f p.0 p.1.0 p.1.1
+pub returns-clause-uses_after : goal.returns-clause-uses_after
+returns-clause-uses_after c = list_on flat flat_none c.args.file.now c.args.uses.now c.on_file.ensures (λ (p : Pattern). cut_face_out p c.args.f c.args.wire.now (length c.args.uses.now) (length c.args.lens.now)) (λ p e es h. rw h) (λ f. f.2) refl (λ same. search rules) (λ t z r o k. (search parts 12, search (◌∙◌) parts 12))
 
-pub returns-in-Err : goal.returns-in-Err
-returns-in-Err c = let a = c.args in
-    split3 (λ x y z. record { value = x; uses_after = y; lens_after = z }) (refused_owed a.file.now a.uses.now a.lens.now (λ (p : Pattern). cut_face_faults (content p) a.f a.wire.now (length a.uses.now) (length a.lens.now)) (λ (p : Pattern). cut_in_two (content p) a.f a.wire.now) _ (sym c.load.ensures.value ∙ c.in-Err.is) _ c.unread.ensures)
-
-pub returns-in-Ok : goal.returns-in-Ok
-returns-in-Ok c = let a = c.args in
-    split3 (λ x y z. record { value = x; uses_after = y; lens_after = z }) (loaded_owed a.file.now a.uses.now a.lens.now (λ (p : Pattern). cut_face_faults (content p) a.f a.wire.now (length a.uses.now) (length a.lens.now)) (λ (p : Pattern). cut_in_two (content p) a.f a.wire.now) _ c.load.ensures.spans_after (sym c.load.ensures.value ∙ c.in-Ok.is) _ _ _ (pair c.cut_by_wire.ensures.value (pair c.cut_by_wire.ensures.uses_after c.cut_by_wire.ensures.lens_after)) _ c.call_values.ensures)
+pub returns-clause-lens_after : goal.returns-clause-lens_after
+returns-clause-lens_after c = list_on (map length) refl c.args.file.now c.args.lens.now c.on_file.ensures (λ (p : Pattern). cut_face_out p c.args.f c.args.wire.now (length c.args.uses.now) (length c.args.lens.now)) (λ p e es h. rw h) (λ f. f.3) refl (λ same. search rules) (λ t z r o k. (search parts 12, search (◌∙◌) parts 12))

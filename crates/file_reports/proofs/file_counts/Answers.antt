@@ -17,4 +17,4 @@ returns-in-Ok-clause-value c = let ok = sym c.read.ensures.value ∙ c.in-Ok.is 
 
 pub returns-in-Ok-clause-counts_after : goal.returns-in-Ok-clause-counts_after
 returns-in-Ok-clause-counts_after c = let ok = sym c.read.ensures.value ∙ c.in-Ok.is in
-    counts_loaded c.args.file.now c.args.counts.now _ c.read.ensures.spans_after ok _ c.copy_u16s.ensures
+    counts_loaded c.args.file.now c.args.counts.now _ c.read.ensures.spans_after ok _ c.copy_to.ensures

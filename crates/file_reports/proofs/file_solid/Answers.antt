@@ -1,13 +1,8 @@
-use mathlib.Core.Path.{◌∙◌, ap, sym}
-use Rattle.answers.proofs.Read.{when_loaded, when_refused}
-use Rattle.answers.specs.Values.{solid_values}
-use Rattle.solid_calls.specs.Solids.{solid_answer}
-use Rattle.store_read.specs.Loading.{pattern_of}
+use mathlib.Core.Path.{◌∙◌}
 use Rattle.pattern.specs.Contents.{Pattern}
+use Rattle.answers.proofs.Read.{value_on}
+use Rattle.solid_calls.specs.Solids.{solid_answer}
 use Rattle.file_reports.proofs.file_solid.Goals as goal
 
-pub returns-in-Err : goal.returns-in-Err
-returns-in-Err c = when_refused c.args.file.now _ (sym c.load.ensures.value ∙ c.in-Err.is) (solid_values (solid_answer (pattern_of c.args.file.now))) c.unread.ensures
-
-pub returns-in-Ok : goal.returns-in-Ok
-returns-in-Ok c = when_loaded c.args.file.now _ c.load.ensures.spans_after (sym c.load.ensures.value ∙ c.in-Ok.is) (λ (p : Pattern). solid_values (solid_answer p)) (λ p f fs h. rw h) (c.call_values.ensures ∙ ap solid_values c.try_new.ensures)
+pub returns : goal.returns
+returns c = value_on c.args.file.now c.on_file.ensures (λ (p : Pattern). solid_answer p) (λ p e es h. rw h) (λ t z r o k. search (◌∙◌) parts 12)

@@ -1,98 +1,58 @@
-use Prim.Native.Nat.{◌-◌, ◌<◌}
-use mathlib.Core.List.{◌∷◌}
-use mathlib.Core.Path.{◌∙◌, ◌≡◌, ap}
+-- A word that is not of its kind, a value written, no word left.
 use native.Mathlib.Omega.{arith}
-use lib.ListN.{drop, drop_of_length-le, length, length-drop, take}
-use Rattle.forms.proofs.Values.{reading_all, reading_long, reading_next, reading_not, reading_room, reading_start}
-use Rattle.text.proofs.Words.{word_at, word_none, words_few, words_nil}
-use Rattle.text.specs.Text.{words}
+use lib.ListN.{length}
 use borrow.Author.Rules.{rules}
+use Prim.Native.Nat.{◌<◌}
+use Rattle.forms.proofs.Values.{Read, reading_all, reading_long, reading_next, reading_not, reading_room, reading_start}
+use Rattle.text.proofs.Words.{words_few}
+use Rattle.text.specs.Text.{words}
 use Rattle.forms.proofs.put_values.Goals as goal
-use Rattle.forms.proofs.put_values.Goals.{After-word_end-end}
+use Rattle.forms.proofs.put_values.Goals.{In-Some-said_by, In_default, In_default-said_by}
+use mathlib.Core.Bool.{false, true}
 
--- the next word of the line and the rest of it
-word : (c : After-word_end-end) → (
-    words (drop c.loop-at.at c.args.line.now)
-    ≡ take (c.word_end-end.result - c.word_start-start.result) (drop c.word_start-start.result c.args.line.now)
-    ∷ words (drop c.word_end-end.result c.args.line.now)
-    ) × (c.word_start-start.result < c.word_end-end.result)
-word c =
-    word_at _ _ _ c.word_start-start.ensures.0 _ (omega arith) c.word_end-end.ensures.0
+-- what is owed where a word is not of its kind, and where no word is left
+stopped : (c : In_default-said_by) → Read c.args.kinds.now c.args.rest (words c.args.line.now) c.args.out.now c.loop-word.out c.loop-word.i false
+stopped c = reading_not c.loop-word.invariant c.in-Some.ensures.0 c.kind_at.ensures c.said_by.ensures c.in_default-said_by.is
 
--- there is a place for its value
-room : (c : After-word_end-end) → (c.loop-at.i < length c.args.out.now) × (c.loop-at.i < length c.loop-at.out)
-room c =
-    let args = c.args in
-    reading_room c.loop-at.invariant.1 (word c).0 (length (drop args.from args.line.now)) (words_few (drop args.from args.line.now)) (omega (arith, length-drop args.from args.line.now))
+ended : (c : In_default) → Read c.args.kinds.now c.args.rest (words c.args.line.now) c.args.out.now c.loop-word.out c.loop-word.i true
+ended c = reading_all c.loop-word.invariant c.in_default.ensures
 
-pub loop-at-init : goal.loop-at-init
-loop-at-init c =
-    (c.requires.0, reading_start _ _ (words (drop c.args.from c.args.line.now)) _)
+-- there is a place for the value of a word
+room : (c : In-Some-said_by) → (c.loop-word.i < length c.args.out.now) × (c.loop-word.i < length c.loop-word.out)
+room c = reading_room c.loop-word.invariant c.in-Some.ensures.0 (length c.args.line.now) (words_few c.args.line.now) c.requires
 
-pub shape_of-out-in_default : goal.shape_of-out-in_default
-shape_of-out-in_default c =
-    reading_long c.loop-at.invariant.1
+pub loop-word-init : goal.loop-word-init
+loop-word-init c = reading_start _ _ _ _
 
-pub returns-in_default-clause-out_after : goal.returns-in_default-clause-out_after
-returns-in_default-clause-out_after c =
-    let p = reading_not c.loop-at.invariant.1 (word (goal.at.returns-in_default-clause-out_after c).After-word_end-end).0 c.kind_at.ensures c.said_by.ensures c.in_default.is in p.0
+pub returns-in_default-said_by-clause-out_after : goal.returns-in_default-said_by-clause-out_after
+returns-in_default-said_by-clause-out_after c = (stopped c).0
 
-pub returns-in_default-clause-words_value : goal.returns-in_default-clause-words_value
-returns-in_default-clause-words_value c =
-    let p = reading_not c.loop-at.invariant.1 (word (goal.at.returns-in_default-clause-words_value c).After-word_end-end).0 c.kind_at.ensures c.said_by.ensures c.in_default.is in p.1.0
+pub returns-in_default-said_by-clause-words_value : goal.returns-in_default-said_by-clause-words_value
+returns-in_default-said_by-clause-words_value c = (stopped c).1.0
 
-pub returns-in_default-clause-all_value : goal.returns-in_default-clause-all_value
-returns-in_default-clause-all_value c =
-    let p = reading_not c.loop-at.invariant.1 (word (goal.at.returns-in_default-clause-all_value c).After-word_end-end).0 c.kind_at.ensures c.said_by.ensures c.in_default.is in p.1.1
+pub returns-in_default-said_by-clause-all_value : goal.returns-in_default-said_by-clause-all_value
+returns-in_default-said_by-clause-all_value c = (stopped c).1.1
 
 pub offset_bounds-out-i : goal.offset_bounds-out-i
-offset_bounds-out-i c =
-    let h = (room (goal.at.offset_bounds-out-i c).After-word_end-end).0 in search rules
+offset_bounds-out-i c = let h = (room c).0 in search rules
 
 pub bounds-out-i : goal.bounds-out-i
-bounds-out-i c =
-    (room (goal.at.bounds-out-i c).After-word_end-end).1
+bounds-out-i c = (room c).1
 
 pub overflow_add-i : goal.overflow_add-i
-overflow_add-i c =
-    let h = (room (goal.at.overflow_add-i c).After-word_end-end).0 in search rules
+overflow_add-i c = let h = (room c).0 in search rules
 
-pub loop-at-smaller : goal.loop-at-smaller
-loop-at-smaller c =
-    let h = (word (goal.at.loop-at-smaller c).After-word_end-end).1 in omega arith
+pub loop-word-smaller : goal.loop-word-smaller
+loop-word-smaller c = c.in-Some.ensures.1
 
-pub loop-at-preserved : goal.loop-at-preserved
-loop-at-preserved c =
-    (c.word_end-end.ensures.1, reading_next c.loop-at.invariant.1 (word (goal.at.loop-at-preserved c).After-word_end-end).0 c.kind_at.ensures c.said_by.ensures c.in-Some.is)
+pub loop-word-preserved : goal.loop-word-preserved
+loop-word-preserved c = reading_next c.loop-word.invariant c.in-Some.ensures.0 c.kind_at.ensures c.said_by.ensures c.in-Some-said_by.is
 
-pub shape_of-out-after-loop-at : goal.shape_of-out-after-loop-at
-shape_of-out-after-loop-at c =
-    reading_long c.loop-at.invariant.1
+pub returns-clause-out_after : goal.returns-clause-out_after
+returns-clause-out_after c = (ended c).0
 
-pub returns-after-loop-at-clause-out_after : goal.returns-after-loop-at-clause-out_after
-returns-after-loop-at-clause-out_after c =
-    let p = reading_all c.loop-at.invariant.1 (ap words (drop_of_length-le _ c.loop-at-test.false) ∙ words_nil) in p.0
+pub returns-clause-words_value : goal.returns-clause-words_value
+returns-clause-words_value c = (ended c).1.0
 
-pub returns-after-loop-at-clause-words_value : goal.returns-after-loop-at-clause-words_value
-returns-after-loop-at-clause-words_value c =
-    let p = reading_all c.loop-at.invariant.1 (ap words (drop_of_length-le _ c.loop-at-test.false) ∙ words_nil) in p.1.0
-
-pub returns-after-loop-at-clause-all_value : goal.returns-after-loop-at-clause-all_value
-returns-after-loop-at-clause-all_value c =
-    let p = reading_all c.loop-at.invariant.1 (ap words (drop_of_length-le _ c.loop-at-test.false) ∙ words_nil) in p.1.1
-
-pub shape_of-out-then-start-line : goal.shape_of-out-then-start-line
-shape_of-out-then-start-line c =
-    reading_long c.loop-at.invariant.1
-
-pub returns-then-start-line-clause-out_after : goal.returns-then-start-line-clause-out_after
-returns-then-start-line-clause-out_after c =
-    let p = reading_all c.loop-at.invariant.1 (word_none _ _ _ c.word_start-start.ensures.0 c.if-start-line.true) in p.0
-
-pub returns-then-start-line-clause-words_value : goal.returns-then-start-line-clause-words_value
-returns-then-start-line-clause-words_value c =
-    let p = reading_all c.loop-at.invariant.1 (word_none _ _ _ c.word_start-start.ensures.0 c.if-start-line.true) in p.1.0
-
-pub returns-then-start-line-clause-all_value : goal.returns-then-start-line-clause-all_value
-returns-then-start-line-clause-all_value c =
-    let p = reading_all c.loop-at.invariant.1 (word_none _ _ _ c.word_start-start.ensures.0 c.if-start-line.true) in p.1.1
+pub returns-clause-all_value : goal.returns-clause-all_value
+returns-clause-all_value c = (ended c).1.1

@@ -1,11 +1,8 @@
 -- A line that is too long, has no name of a job, a wrong word or too few; or a job.
-use Prim.Native.Nat.{◌-◌}
 use native.Mathlib.Omega.{arith}
-use lib.ListN.{take}
-use Rattle.jobs.proofs.Lines.{Named, Valued, answered, job_fits, job_whole, missing_line, no_name_line, no_word_line, too_long, trim_is, valued, valued_few, valued_room}
+use lib.ListN.{length-take}
+use Rattle.jobs.proofs.Lines.{Named, Valued, answered, job_fits, job_whole, missing_line, no_name_line, no_word_line, too_long, valued, valued_few, valued_room}
 use borrow.Author.Rules.{rules}
-use mathlib.Core.Path.{ap}
-use mathlib.Core.Bool.{not}
 use Rattle.jobs.proofs.apply.Goals as goal
 use Rattle.jobs.proofs.apply.Goals.{After-first_of-first, After-match_job-m}
 
@@ -16,13 +13,12 @@ pair a b = (a, b)
 split2 : {A B R : Type 0} → (A → B → R) → A × B → R
 split2 f p = f p.0 p.1
 
-begun : (c : After-first_of-first) → Named c.args.line.now (take (c.trimmed_length-length.result - 0) c.args.line.now) c.first_of-first.result.task c.first_of-first.result.end
-begun c =
-    record { few = c.if-line-gt65536.false; trim = trim_is c.args.line.now c.trimmed_length-length.result c.trimmed_length-length.ensures.1; job = c.first_of-first.ensures.0; rest = c.first_of-first.ensures.2 }
+begun : (c : After-first_of-first) → Named c.args.line.now c.trimmed.result.now c.first_of-first.result.task c.first_of-first.result.rest.now
+begun c = record { few = c.if-line-gt65536.false; trim = c.trimmed.ensures; job = c.first_of-first.ensures.0; left = c.first_of-first.ensures.1 }
 
 read : (c : After-match_job-m) → Valued c.args.line.now c.in-Some.task c.match_job-m.result.words c.match_job-m.result.all c.match_job-m.new.out
 read c =
-    let begun : Named c.args.line.now (take (c.trimmed_length-length.result - 0) c.args.line.now) c.first_of-first.result.task c.first_of-first.result.end = record { few = c.if-line-gt65536.false; trim = trim_is c.args.line.now c.trimmed_length-length.result c.trimmed_length-length.ensures.1; job = c.first_of-first.ensures.0; rest = c.first_of-first.ensures.2 } in
+    let begun : Named c.args.line.now c.trimmed.result.now c.first_of-first.result.task c.first_of-first.result.rest.now = record { few = c.if-line-gt65536.false; trim = c.trimmed.ensures; job = c.first_of-first.ensures.0; left = c.first_of-first.ensures.1 } in
     valued begun _ c.in-Some.is _ _ _ c.match_job-m.ensures.out_after c.match_job-m.ensures.words_value c.match_job-m.ensures.all_value
 
 pub returns-then-line-gt65536 : goal.returns-then-line-gt65536
@@ -56,6 +52,10 @@ pub overflow_add-n : goal.overflow_add-n
 overflow_add-n c =
     omega (arith, valued_few (read (goal.at.overflow_add-n c).After-match_job-m))
 
+pub slice_bounds-values-end : goal.slice_bounds-values-end
+slice_bounds-values-end c =
+    let h = valued_room (read (goal.at.slice_bounds-values-end c).After-match_job-m) in omega (arith, h)
+
 pub slice_bounds-do_job-end : goal.slice_bounds-do_job-end
 slice_bounds-do_job-end c =
-    let h = valued_room (read (goal.at.slice_bounds-do_job-end c).After-match_job-m) in omega (arith, h)
+    let h = valued_room (read (goal.at.slice_bounds-do_job-end c).After-match_job-m) in omega (arith, h, length-take c.match_job-m.result.words c.match_job-m.new.out)

@@ -13,6 +13,6 @@ pub returns-then-n-lt999999999 : goal.returns-then-n-lt999999999
 returns-then-n-lt999999999 c = λ m us spans index n l k.
     kept_point_over n k c.if-n-lt2048.false (omega arith)
 
-pub returns : goal.returns
-returns c = λ m us spans index n l k.
+pub returns-else-n-lt999999999 : goal.returns-else-n-lt999999999
+returns-else-n-lt999999999 c = λ m us spans index n l k.
     kept_point_over n k c.if-n-lt2048.false (omega (arith, k.points))

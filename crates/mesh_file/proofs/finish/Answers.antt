@@ -4,12 +4,12 @@ use Rattle.mesh_read.proofs.Pieces.{line_read}
 use Rattle.mesh_file.proofs.Answers.{finished_bad, finished_follows, finished_good, finished_kept}
 use Rattle.mesh_file.proofs.finish.Goals as goal
 
-pub returns-then-r-ge30 : goal.returns-then-r-ge30
-returns-then-r-ge30 c = λ s w. let f = c.end_line-r.ensures (reading s) w in
-    let a = finished_bad s f c.if-r-ge30.true _ c.fault_at.ensures _ in (a.0, a.1, rw (line_read s) f)
+pub returns-in-Refused : goal.returns-in-Refused
+returns-in-Refused c = λ s w. let f = c.end_line-reader.ensures (reading s) w in
+    let a = finished_bad s f _ c.in-Refused.is c.into.ensures _ in (a.0, a.1, rw (line_read s) f)
 
 pub returns : goal.returns
-returns c = let h = c.if-r-ge30.false in
-    λ s w. let f = c.end_line-r.ensures (reading s) w in
+returns c = let h = c.in_default.not-Refused in
+    λ s w. let f = c.end_line-reader.ensures (reading s) w in
     let j = c.judge-answer.ensures (end_line (reading s)).mesh _ (finished_kept s f h) in
     let a = finished_good s f h _ _ _ j.0 in (a.0, a.1, rw (line_read s) (finished_follows s f h _ j.1))

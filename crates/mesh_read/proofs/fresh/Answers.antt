@@ -4,7 +4,7 @@ use Rattle.mesh_read.proofs.fresh.Goals as goal
 pub returns : goal.returns
 returns c = λ n m p index e k.
     record {
-      line = omega (arith, c.wrapping_add_u64.ensures);
+      line = omega arith;
       place = refl;
       going = λ _. record {
         known = omega arith;

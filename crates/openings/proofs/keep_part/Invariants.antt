@@ -3,4 +3,4 @@ use Rattle.openings.proofs.Keeping.{Keeping}
 use Rattle.openings.proofs.keep_part.Given as goal
 
 abbrev pub invariant-loop-u : goal.invariant-loop-u
-invariant-loop-u l = Keeping l.fronts l.backs l.odd l.part l.initial.kept l.kept l.u-index
+invariant-loop-u l = Keeping l.ends.fronts.now l.ends.backs.now l.odd l.part l.initial.kept l.kept l.u-index

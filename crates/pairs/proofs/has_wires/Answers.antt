@@ -3,4 +3,4 @@ use native.Mathlib.Numerals.{add-one}
 use Rattle.pairs.proofs.has_wires.Goals as goal
 
 pub returns : goal.returns
-returns c = rw (add-one, c.index-f.ensures.0, c.of_listing-face.ensures)
+returns c = rw (add-one, c.from-f.ensures, c.of_listing-face.ensures)

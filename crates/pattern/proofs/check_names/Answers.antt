@@ -9,8 +9,8 @@ use Rattle.pattern.proofs.check_names.Goals as goal
 pub loop-k-init : goal.loop-k-init
 loop-k-init c = passed_start (name_faults _ _) 0 _ 0
 
-pub returns-then-index-names : goal.returns-then-index-names
-returns-then-index-names c =
+pub returns-then-from-names : goal.returns-then-from-names
+returns-then-from-names c =
     sym (passed_stop (name_faults _ _) 0 _ 0 _ c.loop-k.k _ c.loop-k.invariant c.loop-k-test.true refl (omega arith) _ (no_name _ _ _ _ (omega arith)))
 
 pub loop-k-preserved : goal.loop-k-preserved

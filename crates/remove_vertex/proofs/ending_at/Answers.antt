@@ -1,38 +1,47 @@
 -- The part of the shell's listings lies within the listings.
+use Prim.Native.Nat.{◌+◌, ◌-◌, ◌≤◌}
+use mathlib.Core.Path.{sym}
 use native.Mathlib.Omega.{arith}
+use lib.ListN.{drop, length, length-drop, length-take}
+use lib.Seq.{length-take-le}
 use Rattle.remove_vertex.proofs.Stored.{endings_are, tables}
-use Rattle.shell_wires.proofs.Made.{faces_room, listings_room, part_are, part_listed, part_named, shells_room}
+use Rattle.shell_wires.proofs.Made.{faces_few, faces_summed_lem, listings_few, part_are, part_listed, part_named, shells_few, uses_name}
 use Rattle.remove_vertex.proofs.ending_at.Goals as goal
+use Rattle.remove_vertex.proofs.ending_at.Goals.{After-from}
+
+inside : (c : After-from) → c.sum_of-start.result + c.from.result ≤ length c.args.lists.now.listings.now
+inside c = part_listed _ c.requires.lent.1 c.requires.n_bound c.sum_of-start.ensures c.from.ensures
+
+pub slice_bounds-sum_of-end : goal.slice_bounds-sum_of-end
+slice_bounds-sum_of-end c = sym (length-take-le c.args.n c.args.lists.now.shells.now (omega (arith, c.requires.n_bound)))
 
 pub sum_of-start-requires : goal.sum_of-start-requires
-sum_of-start-requires c = let r = shells_room c.requires.lent.0 _ _ _ _ c.requires.lent.1.listed in
-    (omega (arith, c.requires.n_bound, r.1), omega (arith, c.requires.n_bound, r.0))
-
-pub offset_bounds-shells-n : goal.offset_bounds-shells-n
-offset_bounds-shells-n c = omega (arith, c.requires.n_bound, (shells_room c.requires.lent.0 _ _ _ _ c.requires.lent.1.listed).0)
-
-pub bounds-shells-n : goal.bounds-shells-n
-bounds-shells-n c = omega (arith, c.requires.n_bound, (shells_room c.requires.lent.0 _ _ _ _ c.requires.lent.1.listed).1)
+sum_of-start-requires c = omega (arith, length-take c.args.n c.args.lists.now.shells.now, shells_few _ c.requires.lent.1)
 
 pub overflow_add-end : goal.overflow_add-end
-overflow_add-end c = let p = c.requires.lent.0 in
-    let l = c.requires.lent.1.listed in
-    omega (arith, part_listed p _ _ _ _ l _ c.requires.n_bound _ _ c.sum_of-start.ensures c.index.ensures.0, (listings_room p _ _ _ _ l).0)
+overflow_add-end c = omega (arith, inside (goal.at.overflow_add-end c).After-from, listings_few _ c.requires.lent.1)
+
+pub invariant_of-wires : goal.invariant_of-wires
+invariant_of-wires c = record { named = uses_name _ c.requires.lent.1 }
+
+pub offset_bounds-listings-start : goal.offset_bounds-listings-start
+offset_bounds-listings-start c = omega (arith, inside (goal.at.offset_bounds-listings-start c).After-from, listings_few _ c.requires.lent.1)
+
+pub slice_bounds-ending_in-end : goal.slice_bounds-ending_in-end
+slice_bounds-ending_in-end c = omega (arith, inside (goal.at.slice_bounds-ending_in-end c).After-from)
 
 pub ending_in-requires-clause-wire_tables : goal.ending_in-requires-clause-wire_tables
-ending_in-requires-clause-wire_tables c = let faces = faces_room c.requires.lent.0 _ _ _ _ c.requires.lent.1.listed in
-    let room = listings_room c.requires.lent.0 _ _ _ _ c.requires.lent.1.listed in
-    let inside = part_listed c.requires.lent.0 _ _ _ _ c.requires.lent.1.listed _ c.requires.n_bound _ _ c.sum_of-start.ensures c.index.ensures.0 in tables c.requires.lent.0 _ _ _ _ _ _ _ _ c.requires.lent.1
+ending_in-requires-clause-wire_tables c = tables _ c.requires.lent.1
 
-pub ending_in-requires-clause-fcount_in_bounds : goal.ending_in-requires-clause-fcount_in_bounds
-ending_in-requires-clause-fcount_in_bounds c = let faces = faces_room c.requires.lent.0 _ _ _ _ c.requires.lent.1.listed in
-    let room = listings_room c.requires.lent.0 _ _ _ _ c.requires.lent.1.listed in
-    let inside = part_listed c.requires.lent.0 _ _ _ _ c.requires.lent.1.listed _ c.requires.n_bound _ _ c.sum_of-start.ensures c.index.ensures.0 in (faces.1, faces.0, faces.2)
+pub ending_in-requires-clause-counts_value : goal.ending_in-requires-clause-counts_value
+ending_in-requires-clause-counts_value c = (faces_few _ c.requires.lent.1, faces_summed_lem _ c.requires.lent.1)
 
-pub ending_in-requires-clause-start_le_end : goal.ending_in-requires-clause-start_le_end
-ending_in-requires-clause-start_le_end c = let faces = faces_room c.requires.lent.0 _ _ _ _ c.requires.lent.1.listed in
-    let room = listings_room c.requires.lent.0 _ _ _ _ c.requires.lent.1.listed in
-    let inside = part_listed c.requires.lent.0 _ _ _ _ c.requires.lent.1.listed _ c.requires.n_bound _ _ c.sum_of-start.ensures c.index.ensures.0 in (omega arith, omega (arith, inside, room.1), omega (arith, inside, room.0), part_named c.requires.lent.0 _ _ _ _ c.requires.lent.1.listed _ c.requires.n_bound _ _ c.sum_of-start.ensures c.index.ensures.0)
+pub ending_in-requires-clause-listings_len_bound : goal.ending_in-requires-clause-listings_len_bound
+ending_in-requires-clause-listings_len_bound c = let ls = c.args.lists.now.listings.now in
+    let start = c.sum_of-start.result in (
+      omega (arith, length-take (start + c.from.result - start) (drop start ls), length-drop start ls, listings_few _ c.requires.lent.1),
+      part_named _ c.requires.lent.1 c.requires.n_bound c.sum_of-start.ensures c.from.ensures,
+    )
 
 pub returns : goal.returns
-returns c = λ p l. endings_are p _ _ _ _ _ _ _ _ l _ _ _ (part_are p _ _ _ _ l.listed _ c.requires.n_bound _ _ c.sum_of-start.ensures c.index.ensures.0) c.ending_in.ensures
+returns c = λ p l. endings_are p l c.args.n c.args.v.0 (part_are p l c.requires.n_bound c.sum_of-start.ensures c.from.ensures) c.ending_in.ensures

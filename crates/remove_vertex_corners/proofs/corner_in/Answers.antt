@@ -1,29 +1,34 @@
-use Prim.Native.Nat.{◌+◌, ◌-◌}
-use mathlib.Core.Path.{ap}
+use Prim.Native.Nat.{◌<◌}
+use mathlib.Core.Path.{◌∙◌, ◌≡◌, ap, sym}
+use mathlib.Core.List.{[]}
 use native.Mathlib.Omega.{arith}
-use lib.ListN.{length}
-use Rattle.lists.proofs.Split.{walk_fits, walk_part}
-use Rattle.remove_vertex_corners.proofs.Places.{corner_whole, part_long}
-use Rattle.wire.proofs.Laws.{named_part}
+use lib.ListN.{get_or, length, length-take}
+use lib.Seq.{length-take-le}
+use Rattle.lists.specs.Lists.{split}
+use Rattle.remove_vertex_corners.proofs.Places.{corner_named, part_long, wire_part}
 use Rattle.remove_vertex_corners.proofs.corner_in.Goals as goal
+use Rattle.remove_vertex_corners.proofs.corner_in.Goals.{After-part}
 
-pub overflow_add-start : goal.overflow_add-start
-overflow_add-start c = omega (arith, c.requires.wires_len_bound.1, c.requires.wires_len_bound.2, walk_fits _ _ _ _ (record { low = omega (arith, c.requires.wires_len_bound.4); here = c.sum_of-start.ensures }) c.requires.wires_len_bound.4 c.index-n.ensures.0)
+-- the wire that is lent is wire w, and has uses
+part_is : (c : After-part) → c.part.result.uses.now ≡ get_or (split c.args.lens.now c.args.wires.now.uses.now) c.args.w []
+part_is c = c.part.ensures.uses ∙ wire_part c.args.lens.now c.args.wires.now.uses.now c.requires.w_bound c.sum_of-start.ensures c.from-n.ensures c.requires.wire_tables.summed
 
-pub offset_bounds-uses-start : goal.offset_bounds-uses-start
-offset_bounds-uses-start c = record { fits = omega (arith, c.requires.wires_len_bound.1, c.requires.wires_len_bound.2, walk_fits _ _ _ _ (record { low = omega (arith, c.requires.wires_len_bound.4); here = c.sum_of-start.ensures }) c.requires.wires_len_bound.4 c.index-n.ensures.0) }
+some : (c : After-part) → c.part.result.uses.now ≡ get_or (split c.args.lens.now c.args.wires.now.uses.now) c.args.w [] → 0 < length c.part.result.uses.now
+some c e = let r = c.requires in
+    omega (arith, ap length e, part_long c.args.lens.now c.args.wires.now.uses.now c.args.w r.wire_tables.summed r.w_bound, r.wire_tables.paired c.args.w r.w_bound)
 
-pub slice_bounds-corner_of-end : goal.slice_bounds-corner_of-end
-slice_bounds-corner_of-end c = omega (arith, c.requires.wires_len_bound.2, walk_fits _ _ _ _ (record { low = omega (arith, c.requires.wires_len_bound.4); here = c.sum_of-start.ensures }) c.requires.wires_len_bound.4 c.index-n.ensures.0)
+pub slice_bounds-sum_of-end : goal.slice_bounds-sum_of-end
+slice_bounds-sum_of-end c = sym (length-take-le c.args.w c.args.lens.now (omega (arith, c.requires.w_bound)))
 
-pub corner_of-requires-clause-named : goal.corner_of-requires-clause-named
-corner_of-requires-clause-named c = named_part c.args.fronts.now c.args.backs.now c.args.uses.now c.requires.named c.sum_of-start.result (c.sum_of-start.result + c.index-n.result - c.sum_of-start.result)
+pub sum_of-start-requires : goal.sum_of-start-requires
+sum_of-start-requires c = omega (arith, length-take c.args.w c.args.lens.now, c.requires.wire_tables.few_wires)
 
-pub corner_of-requires-clause-uses_nonzero : goal.corner_of-requires-clause-uses_nonzero
-corner_of-requires-clause-uses_nonzero c = omega (arith, ap length (walk_part c.args.wires.now c.args.w c.sum_of-start.result c.index-n.result (record { low = omega (arith, c.requires.wires_len_bound.4); here = c.sum_of-start.ensures }) c.requires.wires_len_bound.4 c.index-n.ensures.0 c.args.uses.now), part_long c.args.wires.now c.args.uses.now c.args.w c.requires.wires_len_bound.2 c.requires.wires_len_bound.4, c.requires.wires_len_bound.3 c.args.w c.requires.wires_len_bound.4)
+pub corner_of-requires : goal.corner_of-requires
+corner_of-requires c = let p = (goal.at.corner_of-requires c).After-part in some p (part_is p)
 
 pub returns-clause-value : goal.returns-clause-value
-returns-clause-value c = let p = corner_whole c.args.fronts.now c.args.backs.now c.args.v.0 c.args.uses.now c.sum_of-start.result (c.sum_of-start.result + c.index-n.result - c.sum_of-start.result) c.requires.named (walk_part c.args.wires.now c.args.w c.sum_of-start.result c.index-n.result (record { low = omega (arith, c.requires.wires_len_bound.4); here = c.sum_of-start.ensures }) c.requires.wires_len_bound.4 c.index-n.ensures.0 c.args.uses.now) (omega (arith, ap length (walk_part c.args.wires.now c.args.w c.sum_of-start.result c.index-n.result (record { low = omega (arith, c.requires.wires_len_bound.4); here = c.sum_of-start.ensures }) c.requires.wires_len_bound.4 c.index-n.ensures.0 c.args.uses.now), part_long c.args.wires.now c.args.uses.now c.args.w c.requires.wires_len_bound.2 c.requires.wires_len_bound.4, c.requires.wires_len_bound.3 c.args.w c.requires.wires_len_bound.4)) c.corner_of.ensures in p.0
+returns-clause-value c = c.corner_of.ensures ∙ rw (c.part.ensures.ends, part_is (goal.at.returns-clause-value c).After-part)
 
 pub returns-clause-ending_in_bounds : goal.returns-clause-ending_in_bounds
-returns-clause-ending_in_bounds c = let p = corner_whole c.args.fronts.now c.args.backs.now c.args.v.0 c.args.uses.now c.sum_of-start.result (c.sum_of-start.result + c.index-n.result - c.sum_of-start.result) c.requires.named (walk_part c.args.wires.now c.args.w c.sum_of-start.result c.index-n.result (record { low = omega (arith, c.requires.wires_len_bound.4); here = c.sum_of-start.ensures }) c.requires.wires_len_bound.4 c.index-n.ensures.0 c.args.uses.now) (omega (arith, ap length (walk_part c.args.wires.now c.args.w c.sum_of-start.result c.index-n.result (record { low = omega (arith, c.requires.wires_len_bound.4); here = c.sum_of-start.ensures }) c.requires.wires_len_bound.4 c.index-n.ensures.0 c.args.uses.now), part_long c.args.wires.now c.args.uses.now c.args.w c.requires.wires_len_bound.2 c.requires.wires_len_bound.4, c.requires.wires_len_bound.3 c.args.w c.requires.wires_len_bound.4)) c.corner_of.ensures in p.1
+returns-clause-ending_in_bounds c = let p = (goal.at.returns-clause-ending_in_bounds c).After-part in
+    rw c.part.ensures.ends at (corner_named _ _ c.args.v.0 c.part.result.named (some p (part_is p)) c.corner_of.ensures)

@@ -13,13 +13,13 @@ pub returns-then-w-e-clause-value : goal.returns-then-w-e-clause-value
 returns-then-w-e-clause-value c = let p = written_last _ _ _ c.args.e _ _ _ _ _ _ _ c.if-w-e.true (pair c.put_joined.ensures.out_after c.put_joined.ensures.value) in p.1
 
 pub returns-then-w-e-2-clause-out_after : goal.returns-then-w-e-2-clause-out_after
-returns-then-w-e-2-clause-out_after c = let p = written_first _ _ _ c.args.e _ _ _ _ _ _ _ c.if-w-e.false c.if-w-e-2.true c.requires.in_bounds.2 (pair c.put_joined-then-w-e-2.ensures.out_after c.put_joined-then-w-e-2.ensures.value) in p.0
+returns-then-w-e-2-clause-out_after c = let p = written_first _ _ _ c.args.e _ _ _ _ _ _ _ c.if-w-e.false c.if-w-e-2.true c.requires.2 (pair c.put_joined-then-w-e-2.ensures.out_after c.put_joined-then-w-e-2.ensures.value) in p.0
 
 pub returns-then-w-e-2-clause-value : goal.returns-then-w-e-2-clause-value
-returns-then-w-e-2-clause-value c = let p = written_first _ _ _ c.args.e _ _ _ _ _ _ _ c.if-w-e.false c.if-w-e-2.true c.requires.in_bounds.2 (pair c.put_joined-then-w-e-2.ensures.out_after c.put_joined-then-w-e-2.ensures.value) in p.1
+returns-then-w-e-2-clause-value c = let p = written_first _ _ _ c.args.e _ _ _ _ _ _ _ c.if-w-e.false c.if-w-e-2.true c.requires.2 (pair c.put_joined-then-w-e-2.ensures.out_after c.put_joined-then-w-e-2.ensures.value) in p.1
 
 pub returns-clause-out_after : goal.returns-clause-out_after
-returns-clause-out_after c = let p = written_other _ _ _ c.args.e _ _ _ _ _ _ _ c.if-w-e.false c.if-w-e-2.false (c.copy_u16s.ensures, (refl, omega arith)) in p.0
+returns-clause-out_after c = let p = written_other _ _ _ c.args.e _ _ _ _ _ _ _ c.if-w-e.false c.if-w-e-2.false (c.copy_to.ensures, (refl, omega arith)) in p.0
 
 pub returns-clause-value : goal.returns-clause-value
-returns-clause-value c = let p = written_other _ _ _ c.args.e _ _ _ _ _ _ _ c.if-w-e.false c.if-w-e-2.false (c.copy_u16s.ensures, (refl, omega arith)) in p.1
+returns-clause-value c = let p = written_other _ _ _ c.args.e _ _ _ _ _ _ _ c.if-w-e.false c.if-w-e-2.false (c.copy_to.ensures, (refl, omega arith)) in p.1

@@ -13,7 +13,7 @@ pub loop-j-smaller : goal.loop-j-smaller
 loop-j-smaller c = following_less _ _ _ _ _ _ _ _ _ c.loop-j.invariant (omega arith)
 
 pub loop-j-preserved : goal.loop-j-preserved
-loop-j-preserved c = following_next _ _ _ _ _ _ _ _ _ c.loop-j.invariant (omega arith) _ _ refl c.index-j.ensures.0
+loop-j-preserved c = following_next _ _ _ _ _ _ _ _ _ c.loop-j.invariant (omega arith) _ _ refl c.from-j.ensures
 
 pub shape_of-out : goal.shape_of-out
 shape_of-out c = following_long _ _ _ _ _ _ _ _ _ c.loop-j.invariant

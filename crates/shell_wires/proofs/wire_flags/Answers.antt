@@ -4,19 +4,19 @@ use Rattle.shell_wires.proofs.Laws.{spreading_all, spreading_long, spreading_nex
 use Rattle.shell_wires.proofs.wire_flags.Goals as goal
 
 pub loop-f-init : goal.loop-f-init
-loop-f-init c = let pre = c.requires in spreading_start _ _ _ pre.1 pre.2
+loop-f-init c = spreading_start _ _ c.requires.1
 
 pub slice_bounds-put_flags-end : goal.slice_bounds-put_flags-end
-slice_bounds-put_flags-end c = sym (spreading_long _ _ _ _ _ _ c.loop-f.invariant)
+slice_bounds-put_flags-end c = sym (spreading_long _ _ c.loop-f.invariant)
 
 pub put_flags-requires : goal.put_flags-requires
-put_flags-requires c = omega (arith, spreading_room _ _ _ _ _ _ c.loop-f.invariant _ (omega arith) c.index-wires.ensures.0, spreading_long _ _ _ _ _ _ c.loop-f.invariant)
+put_flags-requires c = omega (arith, spreading_room _ _ c.loop-f.invariant (omega arith) c.from-n.ensures, spreading_long _ _ c.loop-f.invariant)
 
 pub overflow_add-at : goal.overflow_add-at
-overflow_add-at c = omega (arith, spreading_room _ _ _ _ _ _ c.loop-f.invariant _ (omega arith) c.index-wires.ensures.0)
+overflow_add-at c = omega (arith, spreading_room _ _ c.loop-f.invariant (omega arith) c.from-n.ensures)
 
 pub loop-f-preserved : goal.loop-f-preserved
-loop-f-preserved c = spreading_next _ _ _ _ _ _ c.loop-f.invariant _ (omega arith) c.index-wires.ensures.0 _ c.put_flags.ensures
+loop-f-preserved c = spreading_next _ _ c.loop-f.invariant (omega arith) c.from-n.ensures c.put_flags.ensures
 
 pub returns : goal.returns
-returns c = spreading_all _ _ _ _ _ _ c.loop-f.invariant (omega arith)
+returns c = spreading_all _ _ c.loop-f.invariant (omega arith)

@@ -3,4 +3,4 @@ use Rattle.shell_wires.proofs.Laws.{Spreading}
 use Rattle.shell_wires.proofs.wire_flags.Given as goal
 
 abbrev pub invariant-loop-f : goal.invariant-loop-f
-invariant-loop-f l = Spreading l.flags l.counts l.n l.out l.f l.at
+invariant-loop-f l = Spreading l.flags l.counts l.out l.f l.at

@@ -16,7 +16,7 @@ use Rattle.show_lines.proofs.put_edge.Goals.{After-put_field-end-3}
 ends : (c : After-put_field-end-3) → (c.put_field-end-3.result ≤ c.args.at + 30) × (c.put_field-end-3.result + 66 ≤ length c.put_field-end-3.new.out)
 ends c =
     let short : c.put_field-end-3.result ≤ c.args.at + 30 =
-    omega (arith, five _ c.requires.1, five _ c.index.ensures.1, five _ c.index-2.ensures.1) in
+    omega (arith, five _ c.requires.1, five c.from.result (omega (arith, c.from.ensures, c.ranges.front.fits)), five c.from-2.result (omega (arith, c.from-2.ensures, c.ranges.back.fits))) in
     (short, omega (arith, c.requires.0, c.put_field-end-3.auto.out, c.put_field-end-2.auto.out, c.put_field-end.auto.out))
 
 pub put_field-end-requires : goal.put_field-end-requires
@@ -25,11 +25,11 @@ put_field-end-requires c =
 
 pub put_field-end-requires-2 : goal.put_field-end-requires-2
 put_field-end-requires-2 c =
-    omega (arith, five _ c.requires.1, five _ c.index.ensures.1)
+    omega (arith, five _ c.requires.1, five c.from.result (omega (arith, c.from.ensures, c.ranges.front.fits)))
 
 pub put_field-end-requires-3 : goal.put_field-end-requires-3
 put_field-end-requires-3 c =
-    omega (arith, five _ c.requires.1, five _ c.index.ensures.1, five _ c.index-2.ensures.1)
+    omega (arith, five _ c.requires.1, five c.from.result (omega (arith, c.from.ensures, c.ranges.front.fits)), five c.from-2.result (omega (arith, c.from-2.ensures, c.ranges.back.fits)))
 
 pub put_text-end-requires : goal.put_text-end-requires
 put_text-end-requires c =
@@ -60,16 +60,16 @@ unfolding edge_line field
 returns c =
     let a = c.args in
     let s1 = ascii "edge " ++ decimal a.k in
-    let s2 = s1 ++ (ascii " from " ++ decimal c.index.result) in
-    let s3 = s2 ++ (ascii " to " ++ decimal c.index-2.result) in
+    let s2 = s1 ++ (ascii " from " ++ decimal c.from.result) in
+    let s3 = s2 ++ (ascii " to " ++ decimal c.from-2.result) in
     let s4 = s3 ++ ascii " span " in
     let s5 = s4 ++ real_text a.t0 in
     let s6 = s5 ++ ascii " " in
-    let p2 = put_then a.out.now a.at s1 (ascii " from " ++ decimal c.index.result) _ _ _ _ c.put_field-end.ensures c.put_field-end-2.ensures in
-    let p3 = put_then a.out.now a.at s2 (ascii " to " ++ decimal c.index-2.result) _ _ _ _ p2 c.put_field-end-3.ensures in
+    let p2 = put_then a.out.now a.at s1 (ascii " from " ++ decimal c.from.result) _ _ _ _ c.put_field-end.ensures c.put_field-end-2.ensures in
+    let p3 = put_then a.out.now a.at s2 (ascii " to " ++ decimal c.from-2.result) _ _ _ _ p2 c.put_field-end-3.ensures in
     let p4 = put_then a.out.now a.at s3 (ascii " span ") _ _ _ _ p3 c.put_text-end.ensures in
     let p5 = put_then a.out.now a.at s4 (real_text a.t0) _ _ _ _ p4 (c.put_real-end.ensures.0, c.put_real-end.ensures.1) in
     let p6 = put_then a.out.now a.at s5 (ascii " ") _ _ _ _ p5 c.put_text-end-2.ensures in
     let p7 = put_then a.out.now a.at s6 (real_text a.t1) _ _ _ _ p6 (c.put_real-end-2.ensures.0, c.put_real-end-2.ensures.1) in
     let p8 = put_then a.out.now a.at (s6 ++ real_text a.t1) (ascii "\n") _ _ _ _ p7 c.put_text.ensures in
-    rw (← c.index.ensures.0, ← c.index-2.ensures.0) (p8.0, p8.1, omega (arith, (ends (goal.at.returns c).After-put_field-end-3)))
+    rw (← c.from.ensures, ← c.from-2.ensures) (p8.0, p8.1, omega (arith, (ends (goal.at.returns c).After-put_field-end-3)))

@@ -1,6 +1,5 @@
 -- The refusals in sequence.
-use mathlib.Core.Path.{◌∙◌, sym}
-use Rattle.solid.proofs.Laws.{error_apart, error_empty, error_none, error_open, error_point}
+use Rattle.solid.proofs.Laws.{error_empty}
 use Rattle.solid.proofs.check_shell.Goals as goal
 
 pub returns-then-listings-eq0 : goal.returns-then-listings-eq0

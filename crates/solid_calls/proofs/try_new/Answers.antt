@@ -15,17 +15,17 @@ returns-in_err-check c =
     let p = pattern in
     unread (pattern_faults p) (content p) _ (sym c.check.ensures ∙ c.in_err-check.was))
 
-pub new-columns-requires : goal.new-columns-requires
-new-columns-requires c = let pattern : Pattern = held c.args.t.now c.args.spans.now in
+pub put-requires-clause-faultless : goal.put-requires-clause-faultless
+put-requires-clause-faultless c = let pattern : Pattern = held c.args.t.now c.args.spans.now in
     let passed : pattern_faults (pattern) ≡ [] = accepted_none _ (sym c.check.ensures ∙ c.in_ok-check.was) in
     record { spans = c.args.spans.now; ok = passed }
 
 pub returns-in_err-solid_of : goal.returns-in_err-solid_of
 returns-in_err-solid_of c = let pattern : Pattern = held c.args.t.now c.args.spans.now in
     let passed : pattern_faults (pattern) ≡ [] = accepted_none _ (sym c.check.ensures ∙ c.in_ok-check.was) in
-    handed_on _ _ c.from_residual-in_err-solid_of.ensures.1 ∙ solid_answered _ (passed) (content (pattern)) (sym c.in_err-solid_of.was ∙ (rw c.new-columns.ensures at c.solid_of.ensures) c.args.spans.now (passed))
+    handed_on _ _ c.from_residual-in_err-solid_of.ensures.1 ∙ solid_answered _ (passed) (content (pattern)) (sym c.in_err-solid_of.was ∙ c.solid_of.ensures c.args.spans.now (passed))
 
 pub returns : goal.returns
 returns c = let pattern : Pattern = held c.args.t.now c.args.spans.now in
     let passed : pattern_faults (pattern) ≡ [] = accepted_none _ (sym c.check.ensures ∙ c.in_ok-check.was) in
-    solid_answered _ (passed) (content (pattern)) (sym c.in_ok-solid_of.was ∙ (rw c.new-columns.ensures at c.solid_of.ensures) c.args.spans.now (passed))
+    solid_answered _ (passed) (content (pattern)) (sym c.in_ok-solid_of.was ∙ c.solid_of.ensures c.args.spans.now (passed))

@@ -17,15 +17,17 @@ right c = rw c.counts_in-counts.ensures at (sym c.check_edges.ensures ∙ c.in_o
 pub check_edges-requires : goal.check_edges-requires
 check_edges-requires c = rw c.counts_in-counts.ensures (held_limits c.args.t.now c.args.spans.now c.tables_known.ensures c.requires).edges
 
-pub check_columns-requires : goal.check_columns-requires
-check_columns-requires c = rw (c.counts_in-counts.ensures, c.fronts_in.ensures, c.backs_in.ensures, c.uses_in.ensures, c.wires_in.ensures, c.faces_in.ensures, c.shells_in.ensures, c.listings_in.ensures)
-    (held_checkable c.args.t.now c.args.spans.now c.tables_known.ensures c.requires (right (goal.at.check_columns-requires c).In_ok-check_edges))
+pub check-requires : goal.check-requires
+check-requires c = let l = c.lists_in.ensures in
+    rw (l.ends.0, l.ends.1, l.wires, l.faces, l.shells)
+    (held_checkable c.args.t.now c.args.spans.now c.tables_known.ensures c.requires (right (goal.at.check-requires c).In_ok-check_edges))
 
 pub returns-in_err-check_edges : goal.returns-in_err-check_edges
 returns-in_err-check_edges c =
     handed_on _ _ c.from_residual.ensures.1 ∙ (edges_wrong c.args.t.now c.args.spans.now c.tables_known.ensures c.requires _ (rw c.counts_in-counts.ensures at (sym c.check_edges.ensures ∙ c.in_err-check_edges.was)))
 
 pub returns : goal.returns
-returns c = c.check_columns.ensures
-    ∙ rw (c.counts_in-counts.ensures, c.fronts_in.ensures, c.backs_in.ensures, c.uses_in.ensures, c.wires_in.ensures, c.faces_in.ensures, c.shells_in.ensures, c.listings_in.ensures)
+returns c = let l = c.lists_in.ensures in
+    c.check.ensures
+    ∙ rw (l.ends.0, l.ends.1, l.uses, l.wires, l.faces, l.shells, l.listings)
     (held_checked c.args.t.now c.args.spans.now c.tables_known.ensures c.requires (right (goal.at.returns c).In_ok-check_edges))

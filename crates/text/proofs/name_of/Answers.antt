@@ -17,7 +17,7 @@ overflow_add-n c = omega (arith, named_small c.loop-b.invariant.0 (omega arith))
 
 pub loop-b-preserved : goal.loop-b-preserved
 loop-b-preserved c = let loop = c.loop-b in
-    (rw c.wide.ensures.0 (named_next loop.invariant.0 c.loop-b-test.true (omega arith)), loop.invariant.1)
+    (rw c.from.ensures (named_next loop.invariant.0 c.loop-b-test.true (omega arith)), loop.invariant.1)
 
 pub returns : goal.returns
 returns c = sym (named_all c.loop-b.invariant.0 c.loop-b.invariant.1 c.loop-b-test.false)

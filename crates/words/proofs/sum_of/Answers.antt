@@ -10,4 +10,4 @@ unfolding sum
 loop-x-init c = search rules
 
 pub loop-x-preserved : goal.loop-x-preserved
-loop-x-preserved c = rw add-one (let h = sum_next (take c.args.n c.args.ns.now) c.loop-x.x-index in search rules)
+loop-x-preserved c = rw add-one (let h = sum_next c.args.ns.now c.loop-x.x-index in search rules)

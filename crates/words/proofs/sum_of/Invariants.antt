@@ -6,4 +6,4 @@ use Rattle.lists.specs.Lists.{sum}
 use Rattle.words.proofs.sum_of.Given as goal
 
 abbrev pub invariant-loop-x : goal.invariant-loop-x
-invariant-loop-x l = (l.total ≡ sum (take l.x-index l.x-items)) × (l.total ≤ 65536 * l.x-index)
+invariant-loop-x l = (l.total ≡ sum (take l.x-index l.ns)) × (l.total ≤ 65536 * l.x-index)

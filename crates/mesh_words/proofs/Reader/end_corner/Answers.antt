@@ -12,7 +12,7 @@ pub slice_bounds-corner_of-end : goal.slice_bounds-corner_of-end
 slice_bounds-corner_of-end c = let long : length c.args.self.word ≡ 11 = search rules in omega arith
 
 pub returns-in-Err : goal.returns-in-Err
-returns-in-Err c st f at = rw c.fault_number.ensures (end_not f at (sym c.corner_of-named.ensures ∙ c.in-Err.is))
+returns-in-Err c st f at = end_not f at (sym c.corner_of-named.ensures ∙ c.in-Err.is)
 
 pub returns-in-Ok : goal.returns-in-Ok
 returns-in-Ok c st f at = let e = sym c.corner_of-named.ensures ∙ c.in-Ok.is in

@@ -6,4 +6,4 @@ pub returns-then-self : goal.returns-then-self
 returns-then-self c st p index f = spell_past c.args.b f c.if-self.true
 
 pub returns-then-b-eq47 : goal.returns-then-b-eq47
-returns-then-b-eq47 c st p index f = spell_slash c.args.b f c.if-self.false c.if-self-eq-WORD.true c.if-b-eq47.true
+returns-then-b-eq47 c st p index f = spell_slash c.args.b f c.if-self.false c.in-Word.is c.if-b-eq47.true

@@ -1,1 +1,0 @@
--- The lower and the higher of the two points.

@@ -1,7 +1,0 @@
--- The loop stamps point after point.
-use Rattle.lists.proofs.Marks.{Stamping}
-use Rattle.wire.specs.Wires.{points}
-use Rattle.wire.proofs.stamp_points.Given as goal
-
-abbrev pub invariant-loop-u : goal.invariant-loop-u
-invariant-loop-u l = Stamping l.stamp (points l.fronts l.backs l.uses) l.initial.marks l.marks l.again l.u-index

@@ -1,6 +1,0 @@
-use borrow.Author.Rules.{rules}
-use Rattle.words.proofs.Laws.{copied}
-use Rattle.words.proofs.copy_u16s.Goals as goal
-
-pub returns : goal.returns
-returns c = search (rules, copied)
