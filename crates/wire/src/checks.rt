@@ -46,13 +46,15 @@ impl Marks {
         ensures marks_after { self.new.marks ≡ stamped self.old.stamp (of_wire points wire.now) self.old.marks }
         ensures stamp_after { self.new.stamp ≡ self.old.stamp }
     {
+        let ends = wire.ends;
+        let stamp = self.stamp;
         let mut again = false;
         for u in wire.uses {
-            let p = wire.ends.front_of(*u);
-            if self.marks[p] == self.stamp {
+            let p = ends.front_of(*u);
+            if self.marks[p] == stamp {
                 again = true;
             }
-            self.marks[p] = self.stamp;
+            self.marks[p] = stamp;
         }
         again
     }
@@ -66,13 +68,14 @@ impl<'a> Wire<'a> {
         let [head, rest @ ..] = self.uses else {
             return true;
         };
-        let first = self.ends.front_of(*head);
-        let mut at = self.ends.back_of(*head);
+        let ends = self.ends;
+        let first = ends.front_of(*head);
+        let mut at = ends.back_of(*head);
         for u in rest {
-            if at != self.ends.front_of(*u) {
+            if at != ends.front_of(*u) {
                 return false;
             }
-            at = self.ends.back_of(*u);
+            at = ends.back_of(*u);
         }
         at == first
     }

@@ -18,7 +18,7 @@ loop-u-preserved c = let u = c.loop-u in
     ]
 
 pub returns-clause-value : goal.returns-clause-value
-returns-clause-value c = rw (← c.loop-u.invariant.1) (stamping_met _ _ _ _ _ _ c.loop-u.invariant.0 (simp length-map c.loop-u-test.false))
+returns-clause-value c = stamping_met _ _ _ _ _ _ c.loop-u.invariant.0 (simp length-map c.loop-u-test.false)
 
 pub returns-clause-marks_after : goal.returns-clause-marks_after
-returns-clause-marks_after c = rw (← c.loop-u.invariant.1) (stamping_marks _ _ _ _ _ _ c.loop-u.invariant.0 (simp length-map c.loop-u-test.false))
+returns-clause-marks_after c = stamping_marks _ _ _ _ _ _ c.loop-u.invariant.0 (simp length-map c.loop-u-test.false)

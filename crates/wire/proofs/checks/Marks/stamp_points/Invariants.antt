@@ -8,4 +8,4 @@ use Rattle.wire.specs.OfWire.{of_wire}
 use Rattle.wire.proofs.checks.Marks.stamp_points.Given as goal
 
 abbrev pub invariant-loop-u : goal.invariant-loop-u
-invariant-loop-u l = Stamping l.self.stamp (of_wire points l.wire) l.initial.self.marks l.self.marks l.again l.u-index × (l.self.stamp ≡ l.initial.self.stamp)
+invariant-loop-u l = Stamping l.initial.self.stamp (of_wire points l.wire) l.initial.self.marks l.self.marks l.again l.u-index × (l.self.stamp ≡ l.initial.self.stamp)
