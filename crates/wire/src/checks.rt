@@ -46,18 +46,26 @@ impl Marks {
         ensures marks_after { self.new.marks ≡ stamped self.old.stamp (of_wire points wire.now) self.old.marks }
         ensures stamp_after { self.new.stamp ≡ self.old.stamp }
     {
-        let ends = wire.ends;
-        let stamp = self.stamp;
-        let mut again = false;
-        for u in wire.uses {
-            let p = ends.front_of(*u);
-            if self.marks[p] == stamp {
-                again = true;
-            }
-            self.marks[p] = stamp;
-        }
-        again
+        stamp_points(wire, &mut self.marks, self.stamp)
     }
+}
+
+// The same in any marks that are lent, with any stamp.
+pub fn stamp_points(wire: &Wire, marks: &mut [u16], stamp: u16) -> bool
+    requires { length marks.old ≡ 2048 }
+    ensures value { result ≡ met stamp (of_wire points wire.now) marks.old }
+    ensures marks_after { marks.new ≡ stamped stamp (of_wire points wire.now) marks.old }
+{
+    let ends = wire.ends;
+    let mut again = false;
+    for u in wire.uses {
+        let p = ends.front_of(*u);
+        if marks[p] == stamp {
+            again = true;
+        }
+        marks[p] = stamp;
+    }
+    again
 }
 
 impl<'a> Wire<'a> {

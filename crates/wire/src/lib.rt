@@ -7,7 +7,7 @@ ghost use Rattle.wire.specs.Wires.{find_from, outline_of};
 
 mod checks;
 
-pub use checks::Marks;
+pub use checks::{Marks, stamp_points};
 use edge::{EdgeID, Ends};
 
 // The place of the first use of an edge.
