@@ -23,7 +23,7 @@ tens (Some m) (Some d) = Some (m * 10 + d)
 unfoldable pub label : List ℕ → Option ℕ
 label w = pick (leb (length w) 9) (number w) (pick (eqb (length w) 10) (below 4294967296 (tens (number (take 9 w)) (number (drop 9 w)))) None)
 
--- what a word of each kind says: a number, a use or listing, an f64, an f64 or `nowhere`, a use or `wire`, a number below 65,536, a label; a name, and `wire`, says 65,536
+-- what a word of each kind says: a number, a use or listing, an f64, an f64 or `nowhere`, a use or `wire`, a number below 65,536, a label; a name, and `wire`, says 65,536; the name 0 takes no word
 unfoldable pub token : WordKind → List ℕ → Option ℕ
 token Number w = number w
 token Signed w = signed w
@@ -32,7 +32,7 @@ token Parameter w = pick (bytes_eq w (ascii "nowhere")) (Some 0x7ff8000000000000
 token Wires w = pick (bytes_eq w (ascii "wire")) (Some 65536) (signed w)
 token Short w = below 65536 (number w)
 token Label w = label w
-token (Named n) w = pick (eqb (name w) n) (Some 65536) None
+token (Named n) w = pick (eqb n 0) None (pick (eqb (name w) n) (Some 65536) None)
 
 -- where no word may stand, none says anything
 abbrev pub said : Option WordKind → List ℕ → Option ℕ

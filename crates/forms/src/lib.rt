@@ -24,8 +24,8 @@ pub enum WordKind {
     // A number below 65,536.
     Short,
     Label,
-    // The word that has this name. The name is a number: a slice here would bring the place that it lies at into
-    // the definitions, and an enum of words would have `put_values` take fewer.
+    // The word that has this name; no word where it is 0. The name is a number: a slice here would bring the place that
+    // it lies at into the definitions, and an enum of words would have `put_values` take fewer.
     Named(u64),
 }
 
@@ -72,7 +72,7 @@ fn token_of(kind: WordKind, word: &[u8]) -> Option<u64>
         WordKind::Short => below(65536, number_of(word)),
         WordKind::Label => label_of(word),
         WordKind::Named(name) => {
-            if name_of(word) == name {
+            if name != 0 && name_of(word) == name {
                 return Some(65536);
             }
             None
