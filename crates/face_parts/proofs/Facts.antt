@@ -86,8 +86,8 @@ module _ (p : Pattern) (s : Fine p) where
 
     pub stands : {lists : Lists} → Lent p lists → (uses lengths : List ℕ) → uses ≡ uses_at lists.faces.now lists.wires.now g lists.uses.now → lengths ≡ lengths_at lists.faces.now g lists.wires.now → Stands c f uses lengths
     stands l uses lengths x y = record {
-      its_uses = rw (l.faces_are, l.wires_are, l.uses_are) at x ∙ sym boundaries_flat;
-      its_lengths = rw (l.faces_are, l.wires_are) at y ∙ sym sizes_are;
+      its_uses = rw (l.listed.faces_are, l.wires_are, l.uses_are) at x ∙ sym boundaries_flat;
+      its_lengths = rw (l.listed.faces_are, l.wires_are) at y ∙ sym sizes_are;
     }
 
     -- how many uses and wires it has at most; its uses name edges, which name points
@@ -147,7 +147,7 @@ module _ (p : Pattern) (s : Fine p) where
 
 module _ (p : Pattern) {lists : Lists} (s : Fine p) (l : Lent p lists) where
   pub faces_lent : length lists.faces.now ≡ get_or p.counts 4 0
-  faces_lent = ap length l.faces_are ∙ counts_long p s
+  faces_lent = ap length l.listed.faces_are ∙ counts_long p s
 
   pub edges_lent : length lists.ends.fronts.now ≡ get_or p.counts 1 0
   edges_lent = ap length l.fronts_are ∙ fronts_count p s

@@ -115,7 +115,7 @@ pair_refused c n v h =
 -- ---- the lists of a pattern without fault
 module _ (p : Pattern) {lists : Lists} (l : Lent p lists) where
   content_fine : content_faults (content p) ≡ []
-  content_fine = (pattern_passed p l.ok).content
+  content_fine = (pattern_passed p l.listed.ok).content
 
   pub tables : WireTables lists.uses.now lists.wires.now
   tables = record {
@@ -126,13 +126,13 @@ module _ (p : Pattern) {lists : Lists} (l : Lent p lists) where
   }
 
   pub shells_are : length (content p).shells ≡ length lists.shells.now
-  shells_are = sym (ap length l.shells_are)
+  shells_are = sym (ap length l.listed.shells_are)
 
   -- the wires that the code finds are those of the definition
   pub endings_are : (n v : ℕ) {e : Ending} {ls : List ℕ} → ls ≡ listings_of (content p) n
       → e ≡ ending_of (only (λ (w : ℕ). ends_at lists.ends.fronts.now lists.ends.backs.now v (get_or (split lists.wires.now lists.uses.now) w [])) (listed_wires lists.faces.now (length lists.wires.now) ls))
       → e ≡ ending_of (ending_wires (content p) n v)
-  endings_are n v el is = is ∙ rw (l.fronts_are, l.backs_are, l.wires_are, l.uses_are, l.faces_are, el)
+  endings_are n v el is = is ∙ rw (l.fronts_are, l.backs_are, l.wires_are, l.uses_are, l.listed.faces_are, el)
 
   -- so are the wires that it writes
   pub pairs_are : (v : ℕ) (e : Ending)

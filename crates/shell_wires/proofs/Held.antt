@@ -26,16 +26,18 @@ module _ (t : List ℕ) (spans : List Float) (long : length t ≡ 12312) (ok : p
   held_lent ends uses wires faces shells listings =
       let p = held t spans in
       record {
-        ok = ok;
-        seven = held_seven t spans long;
-        full = held_full t spans long;
+        listed = record {
+          ok = ok;
+          seven = held_seven t spans long;
+          full = held_full t spans long;
+          faces_are = faces ∙ ap (take (get_or p.counts 4 0)) (held_wire_counts t spans long) ∙ sym (map_take wire_count (get_or p.counts 4 0) p.faces);
+          shells_are = shells;
+          listings_are = listings;
+        };
         fronts_are = ends.0 ∙ ap (take (get_or p.counts 1 0)) (held_fronts t spans long) ∙ sym (map_take front_number (get_or p.counts 1 0) p.edges);
         backs_are = ends.1 ∙ ap (take (get_or p.counts 1 0)) (held_backs t spans long) ∙ sym (map_take back_number (get_or p.counts 1 0) p.edges);
         uses_are = uses;
         wires_are = wires;
-        faces_are = faces ∙ ap (take (get_or p.counts 4 0)) (held_wire_counts t spans long) ∙ sym (map_take wire_count (get_or p.counts 4 0) p.faces);
-        shells_are = shells;
-        listings_are = listings;
       }
 
   pub held_counts : count_faults (count_table t) ≡ []

@@ -21,7 +21,7 @@ use Rattle.shell_edits.specs.Edits.{other_listings, shares_face, wires_of}
 use Rattle.shell_wires.proofs.Facts.{Fine, fine, records_fine}
 use Rattle.shell_wires.proofs.Laws.{flags_of, listed_flags, lists_shared, names_first, names_rest, others_are}
 use Rattle.shell_wires.specs.Flags.{NameFaces, lists_flagged, wire_flags}
-use Rattle.shell_wires.specs.Lent.{Lent}
+use Rattle.shell_wires.specs.Lent.{Lent, Listed}
 use Rattle.shell_wires.specs.ShellWires.{marks_of}
 use Rattle.wire.specs.Named.{Named}
 
@@ -59,10 +59,71 @@ module _ (c : Content) (records : record_faults c ≡ []) (few : length c.faces 
     wires_are : wire_flags (flags_of 256 (map face_number (listings_of c n))) (map wire_count c.faces) ≡ map (λ (w : ℕ). has w (wires_of c n)) (numbers (length c.wires))
     wires_are = listed_flags (map wire_count c.faces) (length c.wires) (listings_of c n) (omega (arith, length-map c.faces wire_count)) (faces_summed c records)
 
--- ---- the lists of a pattern without fault
+-- ---- the faces, shells and listings of a pattern without fault
+module _ (p : Pattern) {lists : Lists} (l : Listed p lists) where
+  pub listed_fine : Fine p
+  listed_fine = fine p l.ok l.seven l.full
+
+  -- how long they are at most
+  content_faces : length (content p).faces ≤ 256
+  content_faces = let s = listed_fine in omega (arith, faces_counted p s.limits s.full, s.limits.faces)
+
+  pub faces_few : length lists.faces.now ≤ 256
+  faces_few = rw l.faces_are (omega (arith, length-map (content p).faces wire_count, content_faces))
+
+  pub shells_few : length lists.shells.now ≤ 16
+  shells_few = let s = listed_fine in rw l.shells_are (omega (arith, shells_counted p s.limits s.full, s.limits.shells))
+
+  pub listings_few : length lists.listings.now ≤ 512
+  listings_few = let s = listed_fine in rw l.listings_are (omega (arith, listings_counted p s.limits s.full, s.limits.listings))
+
+  -- what they name, and their sum
+  listed_records : record_faults (content p) ≡ []
+  listed_records = records_fine p listed_fine
+
+  pub listings_name_faces : NameFaces lists.listings.now
+  listings_name_faces = rw l.listings_are (content_names (content p) listed_records content_faces)
+
+  pub faces_sum_few : sum lists.faces.now ≤ 1024
+  faces_sum_few =
+      let s = listed_fine in
+      rw l.faces_are (omega (arith, faces_summed (content p) listed_records, wires_counted p s.limits s.full, s.limits.wires))
+
+  module _ {n : ℕ} (here : n < length lists.shells.now) {f z : ℕ} (begin : f ≡ sum (take n lists.shells.now)) (size : z ≡ get_or lists.shells.now n 0) where
+    inside : n < length (content p).shells
+    inside = rw l.shells_are at here
+
+    start : f ≡ sum (take n (content p).shells)
+    start = rw l.shells_are at begin
+
+    long : z ≡ get_or (content p).shells n 0
+    long = rw l.shells_are at size
+
+    pub part_listed : f + z ≤ length lists.listings.now
+    part_listed = rw l.listings_are (part_inside (content p) listed_records content_faces inside start long)
+
+    pub part_named : NameFaces (take (f + z - f) (drop f lists.listings.now))
+    part_named = names_first (drop f lists.listings.now) (f + z - f) (names_rest lists.listings.now f listings_name_faces)
+
+    pub part_are : take (f + z - f) (drop f lists.listings.now) ≡ listings_of (content p) n
+    part_are = rw l.listings_are (own_are (content p) listed_records content_faces inside start long)
+
+    pub marks_made : {flags : List Bool} {shared : Bool} {wires : List Bool}
+        → flags ≡ flags_of 256 (map face_number (take (f + z - f) (drop f lists.listings.now)))
+        → shared ≡ lists_flagged flags (take f lists.listings.now ++ drop (f + z) lists.listings.now)
+        → wires ≡ padded 1024 false (wire_flags flags lists.faces.now)
+        → record { shared = shared; wires = wires } ≡ marks_of p n
+    marks_made {flags} {shared} {wires} a b d =
+        let c = content p in
+        let own : flags ≡ flags_of 256 (map face_number (listings_of c n)) = a ∙ rw part_are in
+        let is : shared ≡ shares_face c n = b ∙ rw (own, l.listings_are) (shared_is c listed_records content_faces inside start long) in
+        let all : wires ≡ padded 1024 false (map (λ (w : ℕ). has w (wires_of c n)) (numbers (length c.wires))) = d ∙ rw (own, l.faces_are, wires_are c listed_records content_faces inside start long) in
+        rw (is, all)
+
+-- ---- with the ends of the edges, the uses and the wires
 module _ (p : Pattern) {lists : Lists} (l : Lent p lists) where
   pub lent_fine : Fine p
-  lent_fine = fine p l.ok l.seven l.full
+  lent_fine = listed_fine p l.listed
 
   -- how long they are at most
   pub edges_few : (length lists.ends.fronts.now ≡ length (content p).edges) × (length lists.ends.fronts.now ≤ 1024)
@@ -77,18 +138,6 @@ module _ (p : Pattern) {lists : Lists} (l : Lent p lists) where
   pub wires_few : length lists.wires.now ≤ 1024
   wires_few = let s = lent_fine in rw l.wires_are (omega (arith, wires_counted p s.limits s.full, s.limits.wires))
 
-  content_faces : length (content p).faces ≤ 256
-  content_faces = let s = lent_fine in omega (arith, faces_counted p s.limits s.full, s.limits.faces)
-
-  pub faces_few : length lists.faces.now ≤ 256
-  faces_few = rw l.faces_are (omega (arith, length-map (content p).faces wire_count, content_faces))
-
-  pub shells_few : length lists.shells.now ≤ 16
-  shells_few = let s = lent_fine in rw l.shells_are (omega (arith, shells_counted p s.limits s.full, s.limits.shells))
-
-  pub listings_few : length lists.listings.now ≤ 512
-  listings_few = let s = lent_fine in rw l.listings_are (omega (arith, listings_counted p s.limits s.full, s.limits.listings))
-
   -- what they name, and their sums
   lent_records : record_faults (content p) ≡ []
   lent_records = records_fine p lent_fine
@@ -98,42 +147,8 @@ module _ (p : Pattern) {lists : Lists} (l : Lent p lists) where
       let s = lent_fine in
       rw (l.fronts_are, l.backs_are, l.uses_are) (named (content p) lent_records (omega (arith, points_counted p s.limits s.full, s.limits.points)))
 
-  pub listings_name_faces : NameFaces lists.listings.now
-  listings_name_faces = rw l.listings_are (content_names (content p) lent_records content_faces)
-
   pub wires_summed_lem : sum lists.wires.now ≡ length lists.uses.now
   wires_summed_lem = rw (l.wires_are, l.uses_are) (wires_summed (content p) lent_records)
 
   pub faces_summed_lem : sum lists.faces.now ≡ length lists.wires.now
-  faces_summed_lem = rw (l.faces_are, l.wires_are) (faces_summed (content p) lent_records)
-
-  module _ {n : ℕ} (here : n < length lists.shells.now) {f z : ℕ} (begin : f ≡ sum (take n lists.shells.now)) (size : z ≡ get_or lists.shells.now n 0) where
-    inside : n < length (content p).shells
-    inside = rw l.shells_are at here
-
-    start : f ≡ sum (take n (content p).shells)
-    start = rw l.shells_are at begin
-
-    long : z ≡ get_or (content p).shells n 0
-    long = rw l.shells_are at size
-
-    pub part_listed : f + z ≤ length lists.listings.now
-    part_listed = rw l.listings_are (part_inside (content p) lent_records content_faces inside start long)
-
-    pub part_named : NameFaces (take (f + z - f) (drop f lists.listings.now))
-    part_named = names_first (drop f lists.listings.now) (f + z - f) (names_rest lists.listings.now f listings_name_faces)
-
-    pub part_are : take (f + z - f) (drop f lists.listings.now) ≡ listings_of (content p) n
-    part_are = rw l.listings_are (own_are (content p) lent_records content_faces inside start long)
-
-    pub marks_made : {flags : List Bool} {shared : Bool} {wires : List Bool}
-        → flags ≡ flags_of 256 (map face_number (take (f + z - f) (drop f lists.listings.now)))
-        → shared ≡ lists_flagged flags (take f lists.listings.now ++ drop (f + z) lists.listings.now)
-        → wires ≡ padded 1024 false (wire_flags flags lists.faces.now)
-        → record { shared = shared; wires = wires } ≡ marks_of p n
-    marks_made {flags} {shared} {wires} a b d =
-        let c = content p in
-        let own : flags ≡ flags_of 256 (map face_number (listings_of c n)) = a ∙ rw part_are in
-        let is : shared ≡ shares_face c n = b ∙ rw (own, l.listings_are) (shared_is c lent_records content_faces inside start long) in
-        let all : wires ≡ padded 1024 false (map (λ (w : ℕ). has w (wires_of c n)) (numbers (length c.wires))) = d ∙ rw (own, l.faces_are, wires_are c lent_records content_faces inside start long) in
-        rw (is, all)
+  faces_summed_lem = rw (l.listed.faces_are, l.wires_are) (faces_summed (content p) lent_records)

@@ -7,7 +7,7 @@ ghost use Rattle.std.proofs.lemmas.List.Edits.{sets};
 ghost use Rattle.lists.specs.Lists.{has, padded, sum, tabulate};
 ghost use Rattle.shell.specs.Shells.{face_number};
 ghost use Rattle.shell_wires.specs.Flags.{NameFaces, lists_flagged, wire_flags};
-ghost use Rattle.shell_wires.specs.Lent.{Lent};
+ghost use Rattle.shell_wires.specs.Lent.{Listed};
 ghost use Rattle.shell_wires.specs.ShellWires.{marks_of};
 ghost use Rattle.pattern.specs.Contents.{Pattern};
 
@@ -80,11 +80,11 @@ fn wire_flags(flags: &[bool], counts: &[u16]) -> [bool; 1024]
     out
 }
 
-// The wires of shell n, from the lists of a pattern without fault.
+// The wires of shell n, from the lists of faces, shells and listings of a pattern without fault.
 pub fn mark_wires(lists: &Lists, n: usize) -> Marks
-    requires lent { (p : Pattern) × Lent p lists.now }
+    requires listed { (p : Pattern) × Listed p lists.now }
     requires n_bound { n < length lists.now.shells.now }
-    ensures { (p : Pattern) → Lent p lists.now → result ≡ marks_of p n }
+    ensures { (p : Pattern) → Listed p lists.now → result ≡ marks_of p n }
 {
     let listings = lists.listings;
     let first = sum_of(&lists.shells[..n]);

@@ -33,7 +33,7 @@ lent c = let e = c.lists_in-lists.ensures in
     held_lent c.args.t.now c.args.spans.now c.tables_known.ensures c.requires.spans_value e.ends e.uses e.wires e.faces e.shells e.listings
 
 marked : (c : After-mark_wires-marks) → Lent (held c.args.t.now c.args.spans.now) c.lists_in-lists.result → c.mark_wires-marks.result ≡ marks_of (held c.args.t.now c.args.spans.now) c.args.n
-marked c l = c.mark_wires-marks.ensures (held c.args.t.now c.args.spans.now) l
+marked c l = c.mark_wires-marks.ensures (held c.args.t.now c.args.spans.now) l.listed
 
 marks_long : (c : After-mark_wires-marks) → length c.mark_wires-marks.result.wires ≡ 1024
 marks_long c = search rules
@@ -43,18 +43,18 @@ module _ (c : After-judge_cut) (s : Sound c.args.t.now c.args.spans.now) (h : He
   judged_is : c.judge_cut.result ≡ judgement (cut_faults (content (held c.args.t.now c.args.spans.now)) c.args.n c.args.e.0 c.args.v.0 c.args.at) (cut_curve (edge_at (content (held c.args.t.now c.args.spans.now)) c.args.e.0).curve c.args.at)
   judged_is =
       let edge_is : c.edge_in-d.result ≡ edge_at (content (held c.args.t.now c.args.spans.now)) c.args.e.0 = c.edge_in-d.ensures ∙ ap (edge_in c.args.t.now c.args.spans.now) c.from.ensures ∙ held_edge_at s c.args.e.0 c.requires.n_bound.1 in
-      held_judged s c.args.at h (c.mark_wires-marks.ensures (held c.args.t.now c.args.spans.now) l) l edge_is c.cut_curve.ensures c.judge_cut.ensures
+      held_judged s c.args.at h (c.mark_wires-marks.ensures (held c.args.t.now c.args.spans.now) l.listed) l edge_is c.cut_curve.ensures c.judge_cut.ensures
 
 pub lists_in-lists-requires : goal.lists_in-lists-requires
 lists_in-lists-requires c = sound_counts (sound (goal.at.lists_in-lists-requires c).After-tables_known)
 
-pub mark_wires-marks-requires-clause-lent : goal.mark_wires-marks-requires-clause-lent
-mark_wires-marks-requires-clause-lent c = let l = goal.at.mark_wires-marks-requires-clause-lent c in (P l.Start, lent l.After-lists_in-lists)
+pub mark_wires-marks-requires-clause-listed : goal.mark_wires-marks-requires-clause-listed
+mark_wires-marks-requires-clause-listed c = let l = goal.at.mark_wires-marks-requires-clause-listed c in (P l.Start, (lent l.After-lists_in-lists).listed)
 
 pub mark_wires-marks-requires-clause-n_bound : goal.mark_wires-marks-requires-clause-n_bound
 mark_wires-marks-requires-clause-n_bound c = let l = goal.at.mark_wires-marks-requires-clause-n_bound c in
     let s = sound_fine (sound l.After-tables_known) in
-    rw (lent l.After-lists_in-lists).shells_are (omega (arith, shells_counted (P l.Start) s.limits s.full, c.requires.n_bound.0))
+    rw (lent l.After-lists_in-lists).listed.shells_are (omega (arith, shells_counted (P l.Start) s.limits s.full, c.requires.n_bound.0))
 
 pub invariant_of-wires : goal.invariant_of-wires
 invariant_of-wires c = record { named = uses_name _ (lent (goal.at.invariant_of-wires c).After-lists_in-lists) }

@@ -80,7 +80,7 @@ face_wires-part-requires-clause-f_in_bounds c = omega (arith, c.if-face-lists.fa
 pub face_wires-part-requires-clause-few : goal.face_wires-part-requires-clause-few
 face_wires-part-requires-clause-few c = let at = goal.at.face_wires-part-requires-clause-few c in
     let l = lent at.After-lists_in-lists (no_faults at.In_ok-check) in
-    (faces_few _ l, wires_few _ l)
+    (faces_few _ l.listed, wires_few _ l)
 
 pub face_wires-part-requires-clause-sums : goal.face_wires-part-requires-clause-sums
 face_wires-part-requires-clause-sums c = let at = goal.at.face_wires-part-requires-clause-sums c in

@@ -136,7 +136,7 @@ face_wires-first-requires-clause-few c = let at = goal.at.face_wires-first-requi
     let ok = no_faults at.In_ok-check in
     let s = good at.In_ok-check ok in
     let l = lent at.After-lists_in-lists ok in
-    (faces_few _ l, wires_few _ l)
+    (faces_few _ l.listed, wires_few _ l)
 
 pub face_wires-first-requires-clause-sums : goal.face_wires-first-requires-clause-sums
 face_wires-first-requires-clause-sums c = let at = goal.at.face_wires-first-requires-clause-sums c in
@@ -153,7 +153,7 @@ face_wires-second-requires-clause-few c = let at = goal.at.face_wires-second-req
     let ok = no_faults at.In_ok-check in
     let s = good at.In_ok-check ok in
     let l = lent at.After-lists_in-lists ok in
-    (faces_few _ l, wires_few _ l)
+    (faces_few _ l.listed, wires_few _ l)
 
 pub face_wires-second-requires-clause-sums : goal.face_wires-second-requires-clause-sums
 face_wires-second-requires-clause-sums c = let at = goal.at.face_wires-second-requires-clause-sums c in

@@ -31,20 +31,23 @@ returns-then-from-points-clause-value c = λ p l q. no_point (content p) _ _ _ _
 pub returns-then-from-points-clause-of_edges : goal.returns-then-from-points-clause-of_edges
 returns-then-from-points-clause-of_edges c = refl
 
+pub mark_wires-marks-requires-clause-listed : goal.mark_wires-marks-requires-clause-listed
+mark_wires-marks-requires-clause-listed c = (c.requires.0, c.requires.1.listed)
+
 pub returns-then-marks-clause-value : goal.returns-then-marks-clause-value
-returns-then-marks-clause-value c = λ p l q. is_shared (content p) _ _ _ _ (sym q) (shells_are p l) (last_in p _ _) (ending_in p _ _) (omega (arith, c.if-n-lists.false)) (omega (arith, c.if-from-points.false, c.from.ensures)) (sym (ap (λ (m : Marks). m.shared) (c.mark_wires-marks.ensures p l)) ∙ c.if-marks.true)
+returns-then-marks-clause-value c = λ p l q. is_shared (content p) _ _ _ _ (sym q) (shells_are p l) (last_in p _ _) (ending_in p _ _) (omega (arith, c.if-n-lists.false)) (omega (arith, c.if-from-points.false, c.from.ensures)) (sym (ap (λ (m : Marks). m.shared) (c.mark_wires-marks.ensures p l.listed)) ∙ c.if-marks.true)
 
 pub returns-then-marks-clause-of_edges : goal.returns-then-marks-clause-of_edges
 returns-then-marks-clause-of_edges c = refl
 
 pub returns-then-e-eq0-clause-value : goal.returns-then-e-eq0-clause-value
-returns-then-e-eq0-clause-value c = λ p l q. no_wire (content p) _ _ _ _ (sym q) (shells_are p l) (last_in p _ _) (ending_in p _ _) (omega (arith, c.if-n-lists.false)) (omega (arith, c.if-from-points.false, c.from.ensures)) (sym (ap (λ (m : Marks). m.shared) (c.mark_wires-marks.ensures p l)) ∙ c.if-marks.false) _ (c.ending_at-e.ensures p l) c.if-e-eq0.true
+returns-then-e-eq0-clause-value c = λ p l q. no_wire (content p) _ _ _ _ (sym q) (shells_are p l) (last_in p _ _) (ending_in p _ _) (omega (arith, c.if-n-lists.false)) (omega (arith, c.if-from-points.false, c.from.ensures)) (sym (ap (λ (m : Marks). m.shared) (c.mark_wires-marks.ensures p l.listed)) ∙ c.if-marks.false) _ (c.ending_at-e.ensures p l) c.if-e-eq0.true
 
 pub returns-then-e-eq0-clause-of_edges : goal.returns-then-e-eq0-clause-of_edges
 returns-then-e-eq0-clause-of_edges c = refl
 
 pub returns-then-e-gt2-clause-value : goal.returns-then-e-gt2-clause-value
-returns-then-e-gt2-clause-value c = λ p l q. many_wires (content p) _ _ _ _ (sym q) (shells_are p l) (last_in p _ _) (ending_in p _ _) (omega (arith, c.if-n-lists.false)) (omega (arith, c.if-from-points.false, c.from.ensures)) (sym (ap (λ (m : Marks). m.shared) (c.mark_wires-marks.ensures p l)) ∙ c.if-marks.false) _ (c.ending_at-e.ensures p l) c.if-e-gt2.true
+returns-then-e-gt2-clause-value c = λ p l q. many_wires (content p) _ _ _ _ (sym q) (shells_are p l) (last_in p _ _) (ending_in p _ _) (omega (arith, c.if-n-lists.false)) (omega (arith, c.if-from-points.false, c.from.ensures)) (sym (ap (λ (m : Marks). m.shared) (c.mark_wires-marks.ensures p l.listed)) ∙ c.if-marks.false) _ (c.ending_at-e.ensures p l) c.if-e-gt2.true
 
 pub returns-then-e-gt2-clause-of_edges : goal.returns-then-e-gt2-clause-of_edges
 returns-then-e-gt2-clause-of_edges c = refl
@@ -55,7 +58,7 @@ match_pair-requires-clause-first_bound c = let pre = c.requires in
 
 pub returns-clause-value : goal.returns-clause-value
 returns-clause-value c = let args = c.args in
-    λ p l q. let near = near_are (content p) _ _ _ _ (sym q) (shells_are p l) (last_in p args.n args.v.0) (ending_in p args.n args.v.0) (omega (arith, c.if-n-lists.false)) (omega (arith, c.if-from-points.false, c.from.ensures)) (sym (ap (λ (m : Marks). m.shared) (c.mark_wires-marks.ensures p l)) ∙ c.if-marks.false) _ (c.ending_at-e.ensures p l) (positive _ c.if-e-eq0.false) (omega (arith, c.if-e-gt2.false)) in
+    λ p l q. let near = near_are (content p) _ _ _ _ (sym q) (shells_are p l) (last_in p args.n args.v.0) (ending_in p args.n args.v.0) (omega (arith, c.if-n-lists.false)) (omega (arith, c.if-from-points.false, c.from.ensures)) (sym (ap (λ (m : Marks). m.shared) (c.mark_wires-marks.ensures p l.listed)) ∙ c.if-marks.false) _ (c.ending_at-e.ensures p l) (positive _ c.if-e-eq0.false) (omega (arith, c.if-e-gt2.false)) in
     pair_matched p l _ _ _ _ (c.ending_at-e.ensures p l) near c.match_pair.ensures.value
 
 pub returns-clause-of_edges : goal.returns-clause-of_edges
