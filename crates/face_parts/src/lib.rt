@@ -1,7 +1,7 @@
 // The wires of a face among the lists of a pattern; whether uses name edges.
 #![tactic(auto)]
 
-ghost use Rattle.std.specs.Prelude.{◌≡◌, ◌<◌, ◌≤◌, length};
+ghost use Rattle.std.specs.Prelude.{◌≡◌, ◌+◌, ◌<◌, ◌≤◌, get_or, length, take};
 ghost use Rattle.lists.specs.Lists.{sum};
 ghost use Rattle.face_edits.specs.FaceEdits.{name_edges};
 ghost use Rattle.face_parts.specs.Parts.{lengths_at, uses_at};
@@ -20,7 +20,8 @@ pub struct FaceWires<'a> {
 pub fn face_wires<'a>(lists: &Lists<'a>, f: usize) -> FaceWires<'a>
     requires f_in_bounds { f < length lists.now.faces.now }
     requires few { (length lists.now.faces.now ≤ 256) × (length lists.now.wires.now ≤ 1024) }
-    requires sums { (sum lists.now.faces.now ≡ length lists.now.wires.now) × (sum lists.now.wires.now ≡ length lists.now.uses.now) }
+    requires wires_inside { sum (take f lists.now.faces.now) + get_or lists.now.faces.now f 0 ≤ length lists.now.wires.now }
+    requires uses_inside { sum (take (sum (take f lists.now.faces.now)) lists.now.wires.now) + sum (lengths_at lists.now.faces.now f lists.now.wires.now) ≤ length lists.now.uses.now }
     ensures uses { result.uses.now ≡ uses_at lists.now.faces.now lists.now.wires.now f lists.now.uses.now }
     ensures lengths { result.lengths.now ≡ lengths_at lists.now.faces.now f lists.now.wires.now }
 {

@@ -9,6 +9,7 @@ use Rattle.cut_face.proofs.Top.{cut_asks, cut_owed, not_one, unnamed}
 use Rattle.errors.proofs.Laws.{accepted_none, handed_on}
 use Rattle.face_edits.specs.FaceEdits.{name_edges}
 use Rattle.face_parts.proofs.Facts.{Stands, all_named, edges_lent, face_missing, faces_lent, its_number, stands, uses_missing}
+use Rattle.face_parts.proofs.Laws.{uses_inside, wires_inside}
 use Rattle.face_parts.proofs.Owed.{handed_by, unread_owed}
 use Rattle.pattern.specs.Checks.{pattern_faults}
 use Rattle.pattern.specs.Contents.{content}
@@ -82,10 +83,17 @@ face_wires-part-requires-clause-few c = let at = goal.at.face_wires-part-require
     let l = lent at.After-lists_in-lists (no_faults at.In_ok-check) in
     (faces_few _ l.listed, wires_few _ l)
 
-pub face_wires-part-requires-clause-sums : goal.face_wires-part-requires-clause-sums
-face_wires-part-requires-clause-sums c = let at = goal.at.face_wires-part-requires-clause-sums c in
+pub face_wires-part-requires-clause-wires_inside : goal.face_wires-part-requires-clause-wires_inside
+face_wires-part-requires-clause-wires_inside c = let at = goal.at.face_wires-part-requires-clause-wires_inside c in
+    let lists = c.lists_in-lists.result in
     let l = lent at.After-lists_in-lists (no_faults at.In_ok-check) in
-    (faces_summed_lem _ l, wires_summed_lem _ l)
+    wires_inside lists.faces.now lists.wires.now lists.uses.now c.from-face.result (omega (arith, c.if-face-lists.false)) (faces_summed_lem _ l) (wires_summed_lem _ l)
+
+pub face_wires-part-requires-clause-uses_inside : goal.face_wires-part-requires-clause-uses_inside
+face_wires-part-requires-clause-uses_inside c = let at = goal.at.face_wires-part-requires-clause-uses_inside c in
+    let lists = c.lists_in-lists.result in
+    let l = lent at.After-lists_in-lists (no_faults at.In_ok-check) in
+    uses_inside lists.faces.now lists.wires.now lists.uses.now c.from-face.result (omega (arith, c.if-face-lists.false)) (faces_summed_lem _ l) (wires_summed_lem _ l)
 
 pub returns-then-part-ne1 : goal.returns-then-part-ne1
 returns-then-part-ne1 c = let at = goal.at.returns-then-part-ne1 c in

@@ -4,14 +4,13 @@ use native.Mathlib.Omega.{arith}
 use Prim.Native.Nat.{◌+◌, ◌-◌, ◌≤◌}
 use lib.ListN.{drop, length, take}
 use lib.Seq.{length-take-le}
-use Rattle.face_parts.proofs.Laws.{part_to, uses_inside, wires_inside}
+use Rattle.face_parts.proofs.Laws.{part_to}
 use Rattle.face_parts.specs.Parts.{lengths_at, uses_at}
 use Rattle.face_parts.proofs.face_wires.Goals as goal
 use Rattle.face_parts.proofs.face_wires.Goals.{After-from-n, After-sum_of-total}
 
 inside : (c : After-from-n) → c.sum_of-first.result + c.from-n.result ≤ length c.args.lists.now.wires.now
-inside c = let lists = c.args.lists.now in
-    rw (c.sum_of-first.ensures, c.from-n.ensures) (wires_inside lists.faces.now lists.wires.now lists.uses.now c.args.f c.requires.f_in_bounds c.requires.sums.0 c.requires.sums.1)
+inside c = rw (c.sum_of-first.ensures, c.from-n.ensures) c.requires.wires_inside
 
 -- its lengths, as the code takes them
 lengths : (c : After-from-n) → let lists = c.args.lists.now in take (c.sum_of-first.result + c.from-n.result - c.sum_of-first.result) (drop c.sum_of-first.result lists.wires.now) ≡ lengths_at lists.faces.now c.args.f lists.wires.now
@@ -28,7 +27,7 @@ uses_end : (c : After-sum_of-total) → c.sum_of-at.result + c.sum_of-total.resu
 uses_end c = let lists = c.args.lists.now in
     let lengths : take (c.sum_of-first.result + c.from-n.result - c.sum_of-first.result) (drop c.sum_of-first.result lists.wires.now) ≡ lengths_at lists.faces.now c.args.f lists.wires.now =
     part_to c.sum_of-first.result c.from-n.result lists.wires.now ∙ rw (c.sum_of-first.ensures, c.from-n.ensures) in
-    rw (c.sum_of-total.ensures, lengths, c.sum_of-at.ensures, c.sum_of-first.ensures) (uses_inside lists.faces.now lists.wires.now lists.uses.now c.args.f c.requires.f_in_bounds c.requires.sums.0 c.requires.sums.1)
+    rw (c.sum_of-total.ensures, lengths, c.sum_of-at.ensures, c.sum_of-first.ensures) c.requires.uses_inside
 
 pub overflow_add-lengths : goal.overflow_add-lengths
 overflow_add-lengths c = omega (arith, inside (goal.at.overflow_add-lengths c).After-from-n)

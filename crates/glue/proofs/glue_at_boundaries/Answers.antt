@@ -7,6 +7,7 @@ use lib.ListN.{get_or}
 use Rattle.errors.proofs.Laws.{accepted_none, handed_on}
 use Rattle.face_edits.specs.FaceEdits.{surface_of}
 use Rattle.face_parts.proofs.Facts.{Stands, faces_lent, stands}
+use Rattle.face_parts.proofs.Laws.{uses_inside, wires_inside}
 use Rattle.face_parts.proofs.Owed.{handed_by, unread_owed}
 use Rattle.glue.proofs.Faces.{first_unnamed, glue_owed, parts_fit, second_unnamed, signs_differ, surface_stored, surfaces_differ}
 use Rattle.glue_walk.specs.Walks.{PartFits}
@@ -138,12 +139,17 @@ face_wires-first-requires-clause-few c = let at = goal.at.face_wires-first-requi
     let l = lent at.After-lists_in-lists ok in
     (faces_few _ l.listed, wires_few _ l)
 
-pub face_wires-first-requires-clause-sums : goal.face_wires-first-requires-clause-sums
-face_wires-first-requires-clause-sums c = let at = goal.at.face_wires-first-requires-clause-sums c in
-    let ok = no_faults at.In_ok-check in
-    let s = good at.In_ok-check ok in
-    let l = lent at.After-lists_in-lists ok in
-    (faces_summed_lem _ l, wires_summed_lem _ l)
+pub face_wires-first-requires-clause-wires_inside : goal.face_wires-first-requires-clause-wires_inside
+face_wires-first-requires-clause-wires_inside c = let at = goal.at.face_wires-first-requires-clause-wires_inside c in
+    let lists = c.lists_in-lists.result in
+    let l = lent at.After-lists_in-lists (no_faults at.In_ok-check) in
+    wires_inside lists.faces.now lists.wires.now lists.uses.now c.from-i.result (omega (arith, c.if-i-lists.false)) (faces_summed_lem _ l) (wires_summed_lem _ l)
+
+pub face_wires-first-requires-clause-uses_inside : goal.face_wires-first-requires-clause-uses_inside
+face_wires-first-requires-clause-uses_inside c = let at = goal.at.face_wires-first-requires-clause-uses_inside c in
+    let lists = c.lists_in-lists.result in
+    let l = lent at.After-lists_in-lists (no_faults at.In_ok-check) in
+    uses_inside lists.faces.now lists.wires.now lists.uses.now c.from-i.result (omega (arith, c.if-i-lists.false)) (faces_summed_lem _ l) (wires_summed_lem _ l)
 
 pub face_wires-second-requires-clause-f_in_bounds : goal.face_wires-second-requires-clause-f_in_bounds
 face_wires-second-requires-clause-f_in_bounds c = omega (arith, c.if-j-lists.false)
@@ -155,12 +161,17 @@ face_wires-second-requires-clause-few c = let at = goal.at.face_wires-second-req
     let l = lent at.After-lists_in-lists ok in
     (faces_few _ l.listed, wires_few _ l)
 
-pub face_wires-second-requires-clause-sums : goal.face_wires-second-requires-clause-sums
-face_wires-second-requires-clause-sums c = let at = goal.at.face_wires-second-requires-clause-sums c in
-    let ok = no_faults at.In_ok-check in
-    let s = good at.In_ok-check ok in
-    let l = lent at.After-lists_in-lists ok in
-    (faces_summed_lem _ l, wires_summed_lem _ l)
+pub face_wires-second-requires-clause-wires_inside : goal.face_wires-second-requires-clause-wires_inside
+face_wires-second-requires-clause-wires_inside c = let at = goal.at.face_wires-second-requires-clause-wires_inside c in
+    let lists = c.lists_in-lists.result in
+    let l = lent at.After-lists_in-lists (no_faults at.In_ok-check) in
+    wires_inside lists.faces.now lists.wires.now lists.uses.now c.from-j.result (omega (arith, c.if-j-lists.false)) (faces_summed_lem _ l) (wires_summed_lem _ l)
+
+pub face_wires-second-requires-clause-uses_inside : goal.face_wires-second-requires-clause-uses_inside
+face_wires-second-requires-clause-uses_inside c = let at = goal.at.face_wires-second-requires-clause-uses_inside c in
+    let lists = c.lists_in-lists.result in
+    let l = lent at.After-lists_in-lists (no_faults at.In_ok-check) in
+    uses_inside lists.faces.now lists.wires.now lists.uses.now c.from-j.result (omega (arith, c.if-j-lists.false)) (faces_summed_lem _ l) (wires_summed_lem _ l)
 
 pub glue_parts-requires-clause-part_fits : goal.glue_parts-requires-clause-part_fits
 glue_parts-requires-clause-part_fits c = let at = goal.at.glue_parts-requires-clause-part_fits c in
