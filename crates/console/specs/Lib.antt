@@ -1,2 +1,3 @@
 pub mod Help
 pub mod Counts
+pub mod Lines

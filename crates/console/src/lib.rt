@@ -6,6 +6,7 @@
 ghost use Rattle.std.specs.Prelude.{◌≡◌, ◌≤◌, length};
 ghost use Rattle.console.specs.Help.{is_help};
 ghost use Rattle.console.specs.Counts.{IsPrefixLen, Moved};
+ghost use Rattle.console.specs.Lines.{without_feed};
 
 mod words;
 
@@ -204,7 +205,9 @@ pub fn read_argument(rt: &HostRuntime, k: usize, bytes: &mut [u8]) -> usize
 }
 
 // A line without the line feed at its end.
-pub fn without_feed(line: &[u8]) -> &[u8] {
+pub fn without_feed(line: &[u8]) -> &[u8]
+    ensures { result.now ≡ without_feed line.now }
+{
     line.strip_suffix(b"\n").unwrap_or(line)
 }
 
