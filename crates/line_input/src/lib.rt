@@ -2,7 +2,7 @@
 // No contract says what a read gives.
 #![tactic(auto)]
 
-ghost use Rattle.std.specs.Prelude.{◌≤◌, IfSome, length};
+ghost use Rattle.std.specs.Prelude.{◌-◌, ◌≤◌, ◌≡◌, IfSome, drop, length, take};
 ghost use Rattle.line_input.specs.Places.{Inside};
 
 use console::fail;
@@ -22,7 +22,7 @@ enum More {
 }
 
 // What is left of the input: from where to where it is in the buffer, and what comes after it.
-#[derive(Drop)]
+#[derive(Clone, Copy)]
 pub struct Input {
     buffer: [u8; ROOM],
     from: usize,
@@ -48,7 +48,15 @@ impl Input {
         ensures { IfSome result (λ line. length line.now ≤ 65537) }
     {
         let (from, end) = self.find(rt, name)?;
-        Some(&self.buffer[from..end])
+        Some(self.line_of(from, end))
+    }
+
+    // The bytes of the buffer from one place to another: those of a line that is handed out.
+    pub fn line_of(&self, from: usize, end: usize) -> &[u8]
+        requires { (from ≤ end) × (end ≤ 65537) }
+        ensures { result.now ≡ take (end - from) (drop from self.now.buffer) }
+    {
+        &self.buffer[from..end]
     }
 
     // Reads until a line can be handed out, and answers from where to where it is in the buffer.
