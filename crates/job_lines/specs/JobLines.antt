@@ -49,9 +49,10 @@ job_form (Face Add) = ascii "add FACE USE .."
 job_form (Face CutFace) = ascii "cutface FACE USE .."
 job_form (Face Glue) = ascii "glue FACE FACE"
 
--- a line that begins with a job's name and is no job, and the first word that is wrong or missing, counted from 1
-unfoldable pub no_job : Task → ℕ → List ℕ
-no_job t n = field "no job: word " n ++ ascii " of " ++ job_form t ++ ascii "\n"
+-- a line that is no job, and the first word that is wrong or missing, counted from 1; one that begins with no job's name
+unfoldable pub no_job : Option Task → ℕ → List ℕ
+no_job None n = ascii "no job: begin with cut, remove, concat, point, add, cutface or glue\n"
+no_job (Some t) n = field "no job: word " n ++ ascii " of " ++ job_form t ++ ascii "\n"
 
 abbrev pub first_word : List (List ℕ) → List ℕ
 first_word [] = []

@@ -143,11 +143,19 @@ fn form_of(task: Task) -> &'static [u8]
     }
 }
 
-// Writes the answer to a line that begins with a job's name and is no job: word n is wrong or missing.
-pub fn put_no_job(text: &mut [u8], task: Task, n: usize) -> usize
+// Writes the answer to a line that is no job: word n is wrong or missing. Where the line begins with no job's name, `task` is
+// none.
+pub fn put_no_job(text: &mut [u8], task: Option<Task>, n: usize) -> usize
     requires { 128 ≤ length text.old }
     ensures { (text.new ≡ sets text.old 0 (no_job task n)) × (result ≡ length (no_job task n)) }
 {
+    let Some(task) = task else {
+        return put_text(
+            text,
+            0,
+            b"no job: begin with cut, remove, concat, point, add, cutface or glue\n",
+        );
+    };
     let mut at = put_field(text, 0, b"no job: word ", n);
     at = put_text(text, at, b" of ");
     at = put_text(text, at, form_of(task));

@@ -109,7 +109,7 @@ module _ (line s out : List ℕ) where
   no_name : length line ≤ 65536 → line_job line ≡ None → Answered (unnamed_text line)
   no_name h e = kept (named_is None h e) (stays (ap (λ (o : Option Task). short line && is_whole o (line_values line) (line_words line)) e ∙ and-false (short line)))
 
-  no_words : (t : Task) → length line ≤ 65536 → line_job line ≡ Some t → is_job line ≡ false → Answered (no_job t (length (line_values line) + 2))
+  no_words : (t : Task) → length line ≤ 65536 → line_job line ≡ Some t → is_job line ≡ false → Answered (no_job (Some t) (length (line_values line) + 2))
   no_words t h e f = kept (named_is (Some t) h e ∙ pick_false (is_job line) _ _ f) (stays f)
 
 -- a line of at most 65,536 bytes: the job of its name, and what follows its first word
@@ -164,7 +164,7 @@ module _ {line : List ℕ} {t : Task} {n : ℕ} {all : Bool} {arr : List ℕ} (r
   pub valued_room : n ≤ length arr
   valued_room = omega (arith, valued_few, ap length r.held, length-sets (replicate 32768 0) 0 (line_values line), length-replicate {A = ℕ} 32768 0)
 
-  pub no_word_line : (s out : List ℕ) → not all ≡ true → Answered line s out (no_job t (n + 2))
+  pub no_word_line : (s out : List ℕ) → not all ≡ true → Answered line s out (no_job (Some t) (n + 2))
   no_word_line s out h = rw r.count (no_words line s out t r.few r.job (wrong_word line t r.job (sym r.tells ∙ not-true all h)))
 
   module _ (whole : not all ≡ false) where
@@ -174,7 +174,7 @@ module _ {line : List ℕ} {t : Task} {n : ℕ} {all : Bool} {arr : List ℕ} (r
     as_many : length (line_values line) ≡ length (line_words line)
     as_many = eqb-true _ _ all_are
 
-    pub missing_line : (s out : List ℕ) (k : ℕ) → k ≡ length (job_kinds t) → n < k → Answered line s out (no_job t (n + 2))
+    pub missing_line : (s out : List ℕ) (k : ℕ) → k ≡ length (job_kinds t) → n < k → Answered line s out (no_job (Some t) (n + 2))
     missing_line s out k e h =
         let f : enough t line ≡ false = lt-leb (length (job_kinds t)) (length (line_words line)) (omega (arith, as_many, r.count)) in
         rw r.count (no_words line s out t r.few r.job (few_words line t r.job f))

@@ -71,12 +71,11 @@ has_mark l = bytes_eq (239 ∷ 187 ∷ 191 ∷ []) (take 3 l)
 -- a line that begins with no job's name
 unfoldable pub unnamed_text : List ℕ → List ℕ
 unnamed_text l =
-    pick (has_mark l) (ascii "no job: begins with a byte order mark: save the jobs as UTF-8 without one\n")
-    (ascii "no job: begin with cut, remove, concat, point, add, cutface or glue\n")
+    pick (has_mark l) (ascii "no job: begins with a byte order mark: save the jobs as UTF-8 without one\n") (no_job None 2)
 
 abbrev pub named_text : Option Task → List ℕ → List ℕ → List ℕ → List ℕ
 named_text None l s out = unnamed_text l
-named_text (Some t) l s out = pick (is_job l) (job_text t (line_values l) s out) (no_job t (length (line_values l) + 2))
+named_text (Some t) l s out = pick (is_job l) (job_text t (line_values l) s out) (no_job (Some t) (length (line_values l) + 2))
 
 unfoldable pub line_text : List ℕ → List ℕ → List ℕ → List ℕ
 line_text l s out = pick (leb (length l) 65536) (named_text (line_job l) l s out) (ascii "no job: over 65536 bytes\n")

@@ -95,11 +95,7 @@ fn put_unnamed(line: &[u8], text: &mut [u8]) -> usize
             b"no job: begins with a byte order mark: save the jobs as UTF-8 without one\n",
         );
     }
-    put_text(
-        text,
-        0,
-        b"no job: begin with cut, remove, concat, point, add, cutface or glue\n",
-    )
+    put_no_job(text, None, 2)
 }
 
 // Applies the job that a line of text asks for to a file: `out` takes the edited file, `text` the line of
@@ -126,13 +122,13 @@ fn apply(line: &[u8], file: &[u8], out: &mut [u8], text: &mut [u8; 65536]) -> Jo
     let n = m.words;
     if !m.all {
         return Job {
-            text: put_no_job(text, task, n + 2),
+            text: put_no_job(text, Some(task), n + 2),
             file: 0,
         };
     }
     if n < needed(task) {
         return Job {
-            text: put_no_job(text, task, n + 2),
+            text: put_no_job(text, Some(task), n + 2),
             file: 0,
         };
     }
