@@ -45,7 +45,7 @@ kinds_some CutFace = omega arith
 kinds_some Glue = omega arith
 
 -- the wire of an edit, from the values that were stored
-wire_is : (vs l w : List ℕ) (n : ℕ) → 1 ≤ length vs → length vs ≤ length l → n ≡ length vs - 1
+pub wire_is : (vs l w : List ℕ) (n : ℕ) → 1 ≤ length vs → length vs ≤ length l → n ≡ length vs - 1
     → w ≡ sets l 0 (map short (take (n + 1 - 1) (drop 1 vs))) → take (n - 0) w ≡ wire_named vs
 wire_is vs l w n h m e is =
     let a : n + 1 - 1 ≡ n = omega arith in
