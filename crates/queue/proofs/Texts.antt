@@ -1,4 +1,5 @@
 -- The file after a job, and the answer to a line.
+use Rattle.std.specs.Prelude.{unwrap_or}
 use Prim.Native.Nat.{ℕ, ◌+◌, ◌<◌, ◌≤◌, min}
 use mathlib.Core.Bool.{Bool, ◌&&◌, and-false, false, not, true}
 use mathlib.Core.List.{List, ◌++◌}
@@ -6,7 +7,7 @@ use mathlib.Core.Path.{◌∙◌, ◌≡◌, ap, refl, sym}
 use mathlib.Core.Logic.{⊎_elim}
 use native.Mathlib.Omega.{arith}
 use lib.Dec.{eqb, ltb}
-use lib.ListN.{get_or-eq_default, drop, get_or, length, take, take-append-drop}
+use lib.ListN.{get_or-eq_default, drop, get_or, length, length-take, take, take-append-drop}
 use lib.Seq.{length-sets, length-take-le, sets, sets-eq, take_all}
 use borrow.Author.Tests.{le-leb, lt-leb, ltb-false, ltb-true, ne_eqb}
 use Rattle.jobs.specs.Jobs.{line_length, line_out, line_text}
@@ -58,6 +59,15 @@ module _ (file out : List ℕ) (n k : ℕ) where
   unfolding edited
   edited_put some h file' r p = rw (le-leb 1 k (omega arith), le-leb k (length out) h) (p.0, omega (arith, p.1))
 
+-- the length of the file after a job: that of the edited one, or the n bytes that are there
+told_or : (b : Bool) (r n m : ℕ) → r ≡ m → (b ≡ false → n ≡ m) → unwrap_or (then_some b r) n ≡ m
+told_or true r n m e l = e
+told_or false r n m e l = l refl
+
+told_length : (s out : List ℕ) (k r n : ℕ) → r ≡ length (edited s out k) → n ≡ length s → unwrap_or (then_some (ltb 0 k) r) n ≡ length (edited s out k)
+unfolding edited
+told_length s out k r n e l = told_or (ltb 0 k) r n (length (edited s out k)) e (λ (h : ltb 0 k ≡ false). let z : k ≡ 0 = omega (arith, ltb-false 0 k h) in rw z l)
+
 -- the job on the first n bytes, which are the first m
 module _ (line file out : List ℕ) (n m k : ℕ) (few : length file ≡ 41049) (least : m ≡ min n 41049) where
   same : take m file ≡ take n file
@@ -68,14 +78,16 @@ module _ (line file out : List ℕ) (n m k : ℕ) (few : length file ≡ 41049) 
       × ((out ≡ line_out line (take m file) room) × (k ≡ line_length line (take m file) room))
       → Held file out m k file' r
       → ((text' ≡ sets text 0 (line_text line (take n file) room)) × (t ≡ length (line_text line (take n file) room)))
-      × ((file' ≡ sets file 0 (file_after line (take n file))) × (then_some (ltb 0 k) r ≡ edited_length line (take n file)))
+      × ((file' ≡ sets file 0 (file_after line (take n file))) × (then_some (ltb 0 k) r ≡ edited_length line (take n file)) × (unwrap_or (then_some (ltb 0 k) r) (min n 41049) ≡ length (file_after line (take n file))))
   unfolding file_after
   stepped text text' file' t r p q =
       let e = same in
       let p' = rw e at p in
       let f : edited (take m file) out k ≡ edited (take n file) (line_out line (take n file) room) (line_length line (take n file) room) = rw (e, ← p'.1.0, ← p'.1.1) refl in
       let s : r ≡ length (file_after line (take n file)) = q.1 ∙ ap length f in
-      ((p'.0.0, p'.0.1), (q.0 ∙ ap (sets file 0) f, rw (s, p'.1.1)))
+      let h : min n 41049 ≡ length (take n file) = omega (arith, length-take n file, few) in
+      let l = told_length (take n file) (line_out line (take n file) room) (line_length line (take n file) room) r (min n 41049) s h in
+      ((p'.0.0, p'.0.1), (q.0 ∙ ap (sets file 0) f, rw (s, p'.1.1), rw p'.1.1 l))
 
 -- ---- the answer
 

@@ -2,7 +2,7 @@
 // answer that is printed, and whether the queue stops there.
 #![tactic(auto)]
 
-ghost use Rattle.std.specs.Prelude.{◌≡◌, ◌&&◌, not, ◌≤◌, length, take};
+ghost use Rattle.std.specs.Prelude.{◌≡◌, ◌&&◌, not, ◌≤◌, min, length, take, unwrap_or};
 ghost use Rattle.std.proofs.lemmas.List.Edits.{sets};
 ghost use Rattle.jobs.specs.Jobs.{line_length, line_text};
 ghost use Rattle.queue.specs.Queue.{answer_text, chosen, edited, edited_length, file_after, is_done, room};
@@ -90,10 +90,12 @@ fn put_edited(file: &mut [u8; 41049], n: usize, out: &[u8; LONGEST], k: usize) -
 }
 
 // Does the job that a line asks for on the file that the first n bytes hold, and puts the edited file in its
-// place. A length beside the list: the edited file may be longer than the one that is there.
+// place. A length beside the list: the edited file may be longer than the one that is there. Where no file is edited, the
+// file has the length that it had.
 pub fn step(line: &[u8], file: &mut [u8; 41049], n: usize, text: &mut [u8; 65536]) -> Stepped
     ensures text_after { (text.new ≡ sets text.old 0 (line_text line.now (take n file.old) room)) × (result.text ≡ length (line_text line.now (take n file.old) room)) }
     ensures file_after { (file.new ≡ sets file.old 0 (file_after line.now (take n file.old))) × (result.edited ≡ edited_length line.now (take n file.old)) }
+    ensures length_after { unwrap_or result.edited (min n 41049) ≡ length (file_after line.now (take n file.old)) }
 {
     let mut out = [0u8; LONGEST];
     let m = n.min(file.len());
