@@ -15,17 +15,14 @@ use Rattle.errors.specs.declared.CallError.TheVariants.{Refused, Unread}
 use Rattle.errors.specs.declared.Refusal.{Refusal}
 use Rattle.lists.specs.Lists.{pick}
 use Rattle.mesh.proofs.Theorem.{ended_idle, first_fault, mesh_read}
-use Rattle.mesh.specs.Mesh.{Mesh, fault_number, import_answer, import_bytes, imported, imported_in, lines_faults, lines_mesh, mesh_content, no_mesh}
+use Rattle.mesh.specs.Mesh.{Mesh, import_answer, import_bytes, imported, imported_in, lines_faults, lines_mesh, mesh_content, no_mesh}
 use Rattle.mesh.specs.Reading.{Drawing, State, end_line, fault_at, reading}
 use Rattle.mesh.specs.declared.MeshError.{MeshError}
 use Rattle.mesh.specs.declared.MeshError.TheVariants.{Line, NoSpace as NoMeshSpace}
 use Rattle.mesh.specs.declared.LineFault.{LineFault}
-use Rattle.mesh.specs.declared.LineFault.TheVariants.{NotGiven, NotNumber, TooFew}
 use Rattle.mesh_draw.specs.Kept.{Kept}
 use Rattle.mesh_draw.specs.declared.Filled.{Filled}
-use Rattle.mesh_words.proofs.Places.{going_low, refused_high}
 use Rattle.mesh_words.specs.Following.{Follows, place_number}
-use Rattle.mesh_words.specs.declared.Place.TheVariants.{Refused as PlaceRefused}
 use Rattle.mesh_words.specs.declared.Reader.{Reader}
 use Rattle.pattern.proofs.Counts.{Full}
 use Rattle.pattern.specs.Checks.{content_faults, count_faults}
@@ -94,11 +91,6 @@ module _ {m : Mesh} {f : Filled} {p : Pattern} {index : List ℕ} (k : Kept m []
 
 -- ---- all lines
 
-fault_back : (f : LineFault) → fault_at (fault_number f) ≡ f
-fault_back NotNumber = refl
-fault_back NotGiven = refl
-fault_back TooFew = refl
-
 faulty : (fs gs : List (CallError MeshError)) (f : CallError MeshError) (file out : List ℕ) → take 1 fs ≡ f ∷ [] → (Err f ≡ import_answer (fs ++ gs) file out) × (out ≡ import_bytes (fs ++ gs) file out)
 faulty [] gs f file out h = (cc, cc)
 faulty (g ∷ fs) gs f file out h = (cc, refl)
@@ -112,16 +104,15 @@ module _ (s : List ℕ) {r : Reader} {p : Pattern} {index : List ℕ} (w : Follo
   st = end_line (reading s)
 
   -- a line is refused
-  pub finished_bad : (f : LineFault) → r.place ≡ PlaceRefused f → {e : CallError MeshError} → e ≡ Refused (Line f r.line) → (out : List ℕ) → (Err e ≡ imported s out) × (out ≡ imported_in s out)
-  finished_bad f at is out =
-      let stopped = le-leb 30 st.place (omega (arith, w.place, refused_high at)) in
-      let n : st.place ≡ fault_number f = sym w.place ∙ ap place_number at in
-      rw is (faulty (lines_faults 1 no_mesh (lines s)) _ (Refused (Line f r.line)) _ out (first_fault s ∙ rw (stopped, n, fault_back f, w.line)))
+  pub finished_bad : 30 ≤ place_number r.place → (f : LineFault) → f ≡ fault_at (place_number r.place) → {e : CallError MeshError} → e ≡ Refused (Line f r.line) → (out : List ℕ) → (Err e ≡ imported s out) × (out ≡ imported_in s out)
+  finished_bad h f at is out =
+      let stopped = le-leb 30 st.place (omega (arith, w.place)) in
+      rw is (faulty (lines_faults 1 no_mesh (lines s)) _ (Refused (Line f r.line)) _ out (first_fault s ∙ rw (stopped, at, w.line, w.place)))
 
   -- none is
-  module _ (h : (f : LineFault) → r.place ≡ PlaceRefused f → ⊥) where
+  module _ (h : place_number r.place < 30) where
     going : st.place < 30
-    going = omega (arith, w.place, going_low _ h)
+    going = omega (arith, w.place)
 
     none : lines_faults 1 no_mesh (lines s) ≡ []
     none = taken_none _ (first_fault s ∙ rw (lt-leb 30 st.place going))

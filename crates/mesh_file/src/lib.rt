@@ -16,7 +16,7 @@ use mesh::MeshError;
 use mesh_draw::Filled;
 use mesh_edges::{INDEX, Index};
 use mesh_read::{end_line, step};
-use mesh_words::{Place, Reader};
+use mesh_words::Reader;
 use pattern::{Counts, check_counts};
 use store::{
     LISTINGS, SHELLS, SPANS, Spans, TABLES, Tables, store_count, store_face, tables_known,
@@ -119,7 +119,7 @@ pub fn finish(
     ensures { (s : List ℕ) → HasRead s from (held t.old spans.old) index.old → (result.answer ≡ imported s out.old) × (out.new ≡ imported_in s out.old) × HasRead (s ++ (10 ∷ [])) result.reader (held t.new spans.new) index.new }
 {
     let reader = end_line(from, t, spans, index);
-    if let Place::Refused(fault) = reader.place {
+    if let Some(fault) = reader.place.fault() {
         return Finished {
             answer: Err(MeshError::Line(fault, reader.line).into()),
             reader,

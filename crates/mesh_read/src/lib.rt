@@ -46,8 +46,10 @@ pub fn end_line(from: Reader, t: &mut Tables, spans: &mut Spans, index: &mut Ind
     ensures { (st : State) → Follows st from (held t.old spans.old) index.old → Follows (end_line st) result (held t.new spans.new) index.new }
 {
     let mut r = from.end_word(t, spans, index);
+    if let Some(_) = r.place.fault() {
+        return r;
+    }
     match r.place {
-        Place::Refused(_) => r,
         Place::Between => {
             if r.corners < 3 {
                 r.place = Place::Refused(LineFault::TooFew);
@@ -63,7 +65,7 @@ pub fn end_line(from: Reader, t: &mut Tables, spans: &mut Spans, index: &mut Ind
 fn byte(from: Reader, b: u8, t: &mut Tables, spans: &mut Spans, index: &mut Index) -> Reader
     ensures { (st : State) → Follows st from (held t.old spans.old) index.old → Follows (byte b st) result (held t.new spans.new) index.new }
 {
-    if let Place::Refused(_) = from.place {
+    if let Some(_) = from.place.fault() {
         return from;
     }
     if b == b'\n' {
@@ -127,8 +129,10 @@ pub fn step(
     let mut i: usize = 0;
     // No `for`: each turn takes a whole run of bytes, and the byte that ends it.
     while i < piece.len() {
+        if let Some(_) = r.place.fault() {
+            return r;
+        }
         let e = match r.place {
-            Place::Refused(_) => return r,
             Place::Rest => line_end(piece, i),
             _ => {
                 let end = run_end(r.held, piece, i);

@@ -7,7 +7,7 @@ ghost use Rattle.mesh_words.specs.Following.{place_in, place_number};
 
 use mesh::LineFault;
 use mesh_draw::Filled;
-use mesh_words::{Place, Reader};
+use mesh_words::{OtherNumber, Place, Reader};
 
 // The numbers of a reader.
 pub const NUMBERS: usize = 24;
@@ -25,27 +25,24 @@ fn place_number(k: Place) -> u64
         Place::Between => 3,
         Place::Word => 4,
         Place::Refused(f) => f.number() as u64,
+        Place::Other(n) => n.number,
     }
 }
 
-// The place that a number says, any number: one under 30 that no place has is read as 2, one over as 32.
+// The place that a number says, any number.
 fn place_in(n: u64) -> Place
     ensures { result ≡ place_in n }
 {
     match n {
         0 => Place::Start,
         1 => Place::Key,
+        2 => Place::Rest,
         3 => Place::Between,
         4 => Place::Word,
         30 => Place::Refused(LineFault::NotNumber),
         31 => Place::Refused(LineFault::NotGiven),
-        _ => {
-            if n < 30 {
-                Place::Rest
-            } else {
-                Place::Refused(LineFault::TooFew)
-            }
-        }
+        32 => Place::Refused(LineFault::TooFew),
+        _ => Place::Other(OtherNumber { number: n }),
     }
 }
 

@@ -5,8 +5,7 @@ ghost use Rattle.std.specs.Prelude.{false, List, [], ◌≡◌, ◌<◌, ◌≤�
 ghost use Rattle.mesh.specs.Mesh.{no_mesh};
 ghost use Rattle.mesh.specs.Reading.{State, corner_at, end_word, ink, keyed, moved, release, spell, spelled, start};
 ghost use Rattle.mesh_edges.specs.Index.{Indexed};
-ghost use Rattle.mesh_words.specs.Following.{Follows, inks, place_number};
-ghost use Rattle.mesh_words.specs.declared.Place.TheVariants.{Between, Start};
+ghost use Rattle.mesh_words.specs.Places.{is_place};
 ghost use Rattle.pattern.specs.Contents.{Pattern};
 ghost use Rattle.store.specs.Store.{held};
 
@@ -17,8 +16,15 @@ use mesh_edges::Index;
 use store::{Spans, Tables};
 use words::saturated;
 
-// A place in a line: before its first word, in it, in what is passed over, between the words of an `f`, in one of them; or
-// what is wrong with the line, once the mesh is refused.
+// A number that no place has.
+#[derive(Clone, Copy)]
+pub struct OtherNumber {
+    pub number: u64,
+    pub ghost other: { is_place number ≡ false },
+}
+
+// A place in a line: before its first word, in it, in what is passed over, between the words of an `f`, in one of them; what
+// is wrong with the line, once the mesh is refused; or a number that no place has, since a list that is lent may hold any.
 #[derive(Clone, Copy)]
 pub enum Place {
     Start,
@@ -27,6 +33,28 @@ pub enum Place {
     Between,
     Word,
     Refused(LineFault),
+    Other(OtherNumber),
+}
+
+impl Place {
+    ghost use Rattle.mesh_words.specs.Following.{place_fault};
+
+    // What is wrong with the line, once the mesh is refused. A number above those of the faults counts as under three points.
+    pub fn fault(self) -> Option<LineFault>
+        ensures { result ≡ place_fault self }
+    {
+        match self {
+            Place::Refused(f) => Some(f),
+            Place::Other(k) => {
+                if k.number >= 30 {
+                    Some(LineFault::TooFew)
+                } else {
+                    None
+                }
+            }
+            _ => None,
+        }
+    }
 }
 
 // How far a mesh is read: the number of the line, modulo 2 to the 64th; how many bytes of the word are kept; of the face that
@@ -40,9 +68,9 @@ pub struct Reader {
     pub length: usize,
     pub corners: usize,
     pub filled: Filled,
+    pub place: Place,
     pub first: u16,
     pub last: u16,
-    pub place: Place,
     pub held: bool,
     pub slashed: bool,
     pub word: [u8; 11],
@@ -51,6 +79,9 @@ pub struct Reader {
 // Tables, spans and index are lent one by one: had a struct these three references, each function would have to promise of
 // each that it is still the one that was lent.
 impl Reader {
+    ghost use Rattle.mesh_words.specs.Following.{Follows, inks, place_number};
+    ghost use Rattle.mesh_words.specs.declared.Place.TheVariants.{Between, Start};
+
     // Before the first byte.
     pub fn new() -> Reader
         ensures { (p : Pattern) (index : List ℕ) → Indexed [] index → Follows (start 1 no_mesh) result p index }

@@ -1,6 +1,6 @@
 use Rattle.std.proofs.Common.{◌<◌, ap, sym, ◌∙◌, arith, ne_eqb}
 use Rattle.mesh.specs.Reading.{State, release}
-use Rattle.mesh_words.proofs.Places.{going_low, place_is, refused_high}
+use Rattle.mesh_words.proofs.Places.{going_low, place_is, stopped_high}
 use Rattle.mesh_words.specs.Following.{Follows, place_number}
 use Rattle.store.specs.Store.{held}
 use Rattle.mesh_read.proofs.Pieces.{Inner, byte_feed, byte_ink, byte_refused, byte_rest, byte_return, byte_space, byte_tab, follows_held}
@@ -13,16 +13,16 @@ released : (c : After-release-r) → (st : State)
     let p = held args.t.now args.spans.now in
     Follows st args.from p args.index.now → Inner args.b st × Follows (release st) c.release-r.result p args.index.now
 released c =
-    λ st f. let going : st.place < 30 = omega (arith, f.place, going_low _ c.in_default.not-Refused) in
+    λ st f. let going : st.place < 30 = omega (arith, f.place, going_low c.args.from.place c.fault.ensures c.in_default.not-Some) in
     (record { going = going; no_feed = c.if-b-eq10.false; no_rest = λ e. c.in_default-place.not-Rest (place_is (f.place ∙ e)) }, c.release-r.ensures st _ _ f going)
 
-pub returns-in-Refused : goal.returns-in-Refused
-returns-in-Refused c =
-    λ st f. rw (byte_refused c.args.b st (omega (arith, f.place, refused_high c.in-Refused.is))) f
+pub returns-in-Some : goal.returns-in-Some
+returns-in-Some c =
+    λ st f. rw (byte_refused c.args.b st (omega (arith, f.place, stopped_high c.args.from.place c.fault.ensures c.in-Some.is))) f
 
 pub returns-then-b-eq10 : goal.returns-then-b-eq10
 returns-then-b-eq10 c =
-    λ st f. rw (byte_feed _ st (omega (arith, f.place, going_low _ c.in_default.not-Refused)) c.if-b-eq10.true) (c.end_line.ensures st f)
+    λ st f. rw (byte_feed _ st (omega (arith, f.place, going_low c.args.from.place c.fault.ensures c.in_default.not-Some)) c.if-b-eq10.true) (c.end_line.ensures st f)
 
 pub returns-in-Rest : goal.returns-in-Rest
 returns-in-Rest c =
