@@ -48,9 +48,12 @@ fn has_line(text: &[u8], line: &[u8]) -> bool {
 
 // Prints each line of one text that the other has not, after a mark.
 fn print_missing(rt: &HostRuntime, one: &[u8], other: &[u8], mark: &[u8]) -> io::Result<()> {
+    let mut beside = other.split_inclusive(|b| *b == b'\n');
     for line in one.split_inclusive(|b| *b == b'\n') {
+        // A line that stands at the same place in both texts is not looked for.
+        let is_beside = beside.next().is_some_and(|same| same == line);
         let line = without_feed(line);
-        if !has_line(other, line) {
+        if !is_beside && !has_line(other, line) {
             print_line(rt, mark, line)?;
         }
     }
@@ -86,6 +89,13 @@ fn replay_job(rt: &HostRuntime, file: &mut File, line: &[u8]) -> io::Result<()> 
     }
 }
 
+// Prints the report of a pattern file. A function of its own, so that the list of its text is cleared for a report alone.
+fn print_report(rt: &HostRuntime, file: &[u8]) -> io::Result<()> {
+    let mut text = [0u8; 1126400];
+    let length = report_text::report(file, &mut text);
+    console::print_first(rt, &text, length)
+}
+
 // Replays one line on the file; `read` is the file as it was read.
 fn replay_line(rt: &HostRuntime, file: &mut File, read: &[u8], line: &[u8]) -> io::Result<()> {
     print_line(rt, b"", line)?;
@@ -94,11 +104,7 @@ fn replay_line(rt: &HostRuntime, file: &mut File, read: &[u8], line: &[u8]) -> i
             *file = File::new(read);
             Ok(())
         }
-        b"report" => {
-            let mut text = [0u8; 1126400];
-            let length = report_text::report(file.content(), &mut text);
-            console::print_first(rt, &text, length)
-        }
+        b"report" => print_report(rt, file.content()),
         job => replay_job(rt, file, job),
     }
 }
