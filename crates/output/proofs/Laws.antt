@@ -1,16 +1,14 @@
 -- Decimal numbers: how they are made digit by digit, and how long they are.
-use Prim.Native.Nat.{◌%◌, ◌+◌, ◌-◌, ◌/◌, ◌<◌, ◌^◌, ◌≤◌, suc, zero, ℕ}
+use Prim.Native.Nat.{◌%◌, ◌+◌, ◌/◌, ◌<◌, ◌^◌, ◌≤◌, suc, zero, ℕ}
 use mathlib.Core.Bool.{false, true}
 use mathlib.Core.List.{List, ◌++◌}
 use mathlib.Core.Logic.{⊎_elim}
 use mathlib.Core.Path.{◌∙◌, ◌≡◌, ap, refl}
-use Rattle.std.proofs.lemmas.List.{append_assoc}
-use borrow.Rule.Slice.PartMut.{put_mid}
 use native.Mathlib.Nat.{pow-suc}
 use native.Mathlib.Omega.{arith}
 use lib.Dec.{ltb}
 use lib.ListN.{length, length-append, replicate, set}
-use lib.Seq.{drop-drop, length-sets, sets, sets-eq}
+use lib.Seq.{length-sets, sets}
 use borrow.Author.Tests.{le-ltb, lt-ltb, ltb-false, ltb-true}
 use Rattle.errors.specs.Numbers.{body, number, record_number}
 use Rattle.errors.specs.declared.Refusal.{Refusal}
@@ -72,13 +70,6 @@ pub line_is : (f : Refusal) (n b k : ℕ) → n ≡ number f → b ≡ body f �
     → field "refused " n ++ field " body " b ++ field " record " k ++ ascii "\n" ≡ refusal_line f
 unfolding refusal_line
 line_is f n b k p q r = rw (p, q, r)
-
--- a text copied to the places from `at` on, up to `end`
-pub copied : (l : List ℕ) (at end : ℕ) (vs part : List ℕ) → end ≡ at + length vs → end ≤ length l → part ≡ vs → put_mid at (end - at) l part ≡ sets l at vs
-copied l at end vs part e h p =
-    let n : end - at ≡ length vs = omega arith in
-    let room : at + length vs ≤ length l = omega arith in
-    rw (p, n, sets-eq vs l at room, drop-drop (length vs) at l, append_assoc)
 
 -- examples
 zero_is : decimal 0 ≡ ascii "0"

@@ -9,14 +9,16 @@ ghost use Rattle.output.specs.Text.{decimal, refusal_line};
 
 use errors::Refusal;
 
-// Writes a text from `at` on, and returns the place after it.
+// Writes a text from `at` on, and returns the place after it. Byte by byte: `copy_from_slice` may call memmove, which a client of
+// the static library need not have.
 pub fn put_text(out: &mut [u8], at: usize, text: &[u8]) -> usize
     requires { at + length text.now ≤ length out.old }
     ensures { (out.new ≡ sets out.old at text.now) × (result ≡ at + length text.now) }
 {
-    let end = at + text.len();
-    out[at..end].copy_from_slice(text);
-    end
+    for (i, b) in text.iter().enumerate() {
+        out[at + i] = *b;
+    }
+    at + text.len()
 }
 
 // Writes a number in decimal from `at` on, and returns the place after it.

@@ -63,12 +63,15 @@ pub fn put_u64(out: &mut [u8], at: usize, n: u64)
     copy_to(&u64::to_le_bytes(n), out, at);
 }
 
-// Copies a list to the places from `at` on.
+// Copies a list to the places from `at` on. One by one: `copy_from_slice` may call memmove, which a client of the static library
+// need not have.
 pub fn copy_to<T: Copy>(from: &[T], out: &mut [T], at: usize)
     requires { at + length from.now ≤ length out.old }
     ensures { out.new ≡ sets out.old at from.now }
 {
-    out[at..at + from.len()].copy_from_slice(from);
+    for (i, x) in from.iter().enumerate() {
+        out[at + i] = *x;
+    }
 }
 
 // A number as one of 16 bits; 65,535 for a larger one.

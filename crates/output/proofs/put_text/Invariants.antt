@@ -1,0 +1,8 @@
+-- The loop writes byte after byte.
+use mathlib.Core.Path.{◌≡◌}
+use lib.ListN.{take}
+use lib.Seq.{sets}
+use Rattle.output.proofs.put_text.Given as goal
+
+abbrev pub invariant-loop-i : goal.invariant-loop-i
+invariant-loop-i l = l.out ≡ sets l.initial.out l.at (take l.i l.text)
